@@ -22,6 +22,8 @@ LISTED = {
     ("amqp_json/src/direct.rt", "Err(ValueError::OutOfMemory | ValueError::NotAValue) => Err(JsonError::OutOfMemory),"),
     # the call never asks for memory, and a clause states when it would need some
     ("amqp_c/src/json.rt", "Err(WriteError::NeedsMemory) => Err(Fault::OutOfMemory),"),
+    # a clause states that this takes keys that don't ascend, whose text and map are allocated
+    ("amqp_c_alloc/src/decode.rt", "Err(WriteError::NeedsMemory) => Err(Fault::OutOfMemory),"),
 }
 # The lines that ask for memory by a number, and what bounds that.
 BY_NUMBER = {
@@ -40,6 +42,7 @@ BY_NUMBER = {
     "let mut out = Vec::with_capacity(alloc, text.len() / 8 + text.len() + 2)?;": "a text that is there, and an eighth more",
     "bytes.reserve(input.input_len())?;": "bytes that are there",
     "self.bytes.try_reserve(buf.len())?;": "the same",
+    "let mut memory = vec![in alloc; 0u8; capacity]?;": "four times an encoding, or a text that fits the buffer",
     "let mut bytes = vec![in alloc; 0; capacity]?;": "the bytes that a value was read from",
     "self.bytes.resize(there.saturating_add(most), 0)?;": "what is missing of a value, at most a block",
     "let text = BufReader::with_capacity(rt.alloc(), BLOCK, input)?;": "a constant",

@@ -24,7 +24,7 @@ use Rattle.amqp_c_common.specs.declared.fault.Fault.{Fault}
 use Rattle.amqp_c.specs.declared.entry.Entry.{Entry}
 use Rattle.amqp_c.specs.ByRules.{IsEncodingBy, AreValuesBy, ArePairsBy}
 use Rattle.amqp_c.specs.Faults.{IsAnyFault}
-use Rattle.amqp_c.specs.ReadBy.{IsReadOr, IsFirst}
+use Rattle.amqp_c.specs.ReadBy.{IsReadOr, IsFirstEntry}
 use Rattle.amqp_c.proofs.ByRules.{no_further, neither, values_join, one_value, pairs_join, one_pair, value_there, value_right, value_size, pair_there, pair_right, payload_there, payload_right, encoding_is, field_there}
 
 -- ---- values by the grammar
@@ -178,7 +178,7 @@ pub any_reads : (l : Limits) (s : List ℕ) → problem_of AnyKeys l s ≡ None 
 any_reads l s none depth deep = start_reads AnyKeys l.depth depth s deep (within_limits AnyKeys l s none).1
 
 -- what reading by these rules results in
-pub any_read : (l : Limits) (s : List ℕ) (first : Option Problem) (done : Result Entry Fault) → first ≡ problem_of AnyKeys l s → IsReadOr (IsFirst s) s first done
+pub any_read : (l : Limits) (s : List ℕ) (first : Option Problem) (done : Result Entry Fault) → first ≡ problem_of AnyKeys l s → IsReadOr (IsFirstEntry s) s first done
     → MatchResult done (λ e. (problem_of AnyKeys l s ≡ None) × (e.value.length ≡ extent s) × (e.value.length ≤ length s) × (e.value.length ≤ l.frame)) (IsAnyFault l s)
 any_read l s None (Ok e) is x =
     let size : e.value.length ≡ extent s = x.at_start.2 in

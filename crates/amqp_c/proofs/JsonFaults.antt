@@ -8,10 +8,10 @@ use Rattle.amq_protocol_types.specs.parsing.Limits.{RefusesWithin}
 use Rattle.amq_protocol_types.specs.parsing.Refusals.{Refusal}
 use Rattle.amqp_in_place.specs.InPlaceResults.{NeedsNoMemory}
 use Rattle.amqp_c_common.specs.ReturnCodes.{fault_of}
-use Rattle.amqp_c.specs.JsonTexts.{IsJsonFault}
+use Rattle.amqp_c.specs.JsonTexts.{IsOrderedJsonFault}
 
 -- each error of reading is reported as it is
-pub refused_so : (l : Limits) (s : List ℕ) (buffer : ℕ) (e : Refusal) → RefusesWithin l s e → NeedsNoMemory e → IsJsonFault l s buffer (fault_of e)
+pub refused_so : (l : Limits) (s : List ℕ) (buffer : ℕ) (e : Refusal) → RefusesWithin l s e → NeedsNoMemory e → IsOrderedJsonFault l s buffer (fault_of e)
 refused_so l s buffer (Incomplete Unknown) x none = absurd x.1
 refused_so l s buffer (Incomplete (Size n)) x none = x
 refused_so l s buffer (Error kind.MapOpt) x none = x

@@ -30,7 +30,7 @@ use Rattle.amqp_c_common.specs.declared.fault.Fault.{Fault}
 use Rattle.amqp_c_common.specs.Spans.{part}
 use Rattle.amqp_c.specs.CallResults.{IsValueTaken, IsTableTaken, FaultsWithin, HeaderFaults, GivesFirst, untagged_table}
 use Rattle.amqp_c.specs.Entries.{IsEntryAtStart, EntryIsIn}
-use Rattle.amqp_c.specs.ReadBy.{fault_at, header_lack, IsReadOr, IsFirst, IsFirstTable, IsPrefixedTable}
+use Rattle.amqp_c.specs.ReadBy.{fault_at, header_lack, IsReadOr, IsFirstEntry, IsFirstTable, IsPrefixedTable}
 use Rattle.amqp_c.specs.Steps.{IsHeaded}
 use Rattle.amqp_c.proofs.ByRules.{known_kind, tag_problem}
 use Rattle.amqp_c.proofs.Parts.{part_content}
@@ -71,7 +71,7 @@ table_headed rules l s none = headed rules l (tagged amqp.FieldTable s) (no_unta
 
 -- so the entry of the value is given
 pub first_read : (s : List ℕ) (done : Result Entry Fault) → IsHeaded s → IfOk done (IsEntryAtStart s) → IfOk done (EntryIsIn (length s))
-    → ((v : Tree) (rest : List ℕ) → Outcome s (found v rest) → GivesFirst s v rest done) → IfErr done (HeaderFaults (Outcome s)) → IsReadOr (IsFirst s) s None done
+    → ((v : Tree) (rest : List ℕ) → Outcome s (found v rest) → GivesFirst s v rest done) → IfErr done (HeaderFaults (Outcome s)) → IsReadOr (IsFirstEntry s) s None done
 first_read s (Ok e) whole at_start inside faithful refused = record { at_start = at_start; inside = inside; faithful = faithful }
 first_read s (Err f) whole at_start inside faithful refused = absurd (cut_header s f refused whole)
 

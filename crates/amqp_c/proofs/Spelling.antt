@@ -11,7 +11,7 @@ use Rattle.amq_protocol_types.specs.declared.parsing.limits.Limits.{Limits}
 use Rattle.amq_protocol_types.specs.parsing.Limits.{Within}
 use Rattle.amqp_in_place.specs.Canonicals.{IsCanonicalLen}
 use Rattle.amqp_in_place.specs.InPlaceResults.{IsLeft}
-use Rattle.amqp_c.specs.Spellings.{IsSpelled}
+use Rattle.amqp_c.specs.Spellings.{IsSpellingRead}
 
 -- what is left is after the bytes before it
 left_is : (s rest : List ℕ) → IsLeft s rest → rest ≡ drop (length s - length rest) s
@@ -21,7 +21,7 @@ left_is s rest (w, e) =
 
 -- the canonical encoding at the start of s is what is written, and `given` has it but for the first k bytes
 module _ (l : Limits) (given s : List ℕ) (k : ℕ) (bytes : IsBytes s) (same : drop k s ≡ given) where
-  pub canonical_spelled : (n : ℕ) → IsCanonicalLen l s (k + n) → k + length given ≡ length s → IsSpelled l given s (record { length = n; is_canonical = true })
+  pub canonical_spelled : (n : ℕ) → IsCanonicalLen l s (k + n) → k + length given ≡ length s → IsSpellingRead l given s (record { length = n; is_canonical = true })
   canonical_spelled n (w, rest, v, e, size, x, within) all =
       let after : rest ≡ drop n given = sym (ap (drop (k + n)) e ∙ drop_at w rest (k + n) size) ∙ (sym (drop-drop n k s) ∙ ap (drop n) same) in record {
         meaning = v;
@@ -33,7 +33,7 @@ module _ (l : Limits) (given s : List ℕ) (k : ℕ) (bytes : IsBytes s) (same :
 
   -- where there is none, the value's bytes are others
   pub other_spelled : (v : Tree) (rest : List ℕ) → ((n : ℕ) → IsCanonicalLen l s n → ⊥) → Within l s (found v rest) → IsLeft given rest
-      → IsSpelled l given s (record { length = length given - length rest; is_canonical = false })
+      → IsSpellingRead l given s (record { length = length given - length rest; is_canonical = false })
   other_spelled v rest none within left =
       let after = left_is given rest left in
       let f = prefix_within l.depth s rest v within.1 in

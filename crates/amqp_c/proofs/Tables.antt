@@ -18,7 +18,7 @@ use Rattle.amqp_c.specs.Growth.{and_pair}
 use Rattle.amqp_c.specs.BuiltEntries.{IsScalarOf, IsStringValue, IsStringTag}
 use Rattle.amqp_c_common.specs.declared.fault.Fault.{Fault}
 use Rattle.amqp_c_common.specs.declared.fault.Fault.TheVariants.{TooLarge}
-use Rattle.amqp_c.specs.Pairs.{HasNoNumber, IsPairValue, IsGiven, ArePairsOf, AreWritten, typed_len, value_len, pair_len, body_len, RefusesPair, IsFirstFault}
+use Rattle.amqp_c.specs.Pairs.{IsPairWithoutNumber, IsPairValue, IsGiven, ArePairsOf, AreWritten, typed_len, value_len, pair_len, body_len, RefusesPair, IsFirstFault}
 use Rattle.amqp_c.specs.Buffers.{with_bytes}
 use Rattle.amqp_c.specs.WrittenTables.{IsTableWritten}
 use Rattle.amqp_c.proofs.Putting.{strings}
@@ -106,7 +106,7 @@ no_bytes [] none = refl
 no_bytes (x ∷ b) none = absurd (omega (arith, none))
 
 -- a string or a byte array that fits, and a number, have a value
-pub string_given : (p : Pair) → IsStringTag p.tag → length p.bytes.now < 2 ^ 32 → HasNoNumber p
+pub string_given : (p : Pair) → IsStringTag p.tag → length p.bytes.now < 2 ^ 32 → IsPairWithoutNumber p
     → ((v : Tree) × IsPairValue p v) × (5 + length p.bytes.now ≡ value_len p)
 string_given p (inl is) fits none = ((long p.bytes.now, inl (inl (is, refl), fits, none)), rw is refl)
 string_given p (inr is) fits none = ((octets p.bytes.now, inl (inr (is, refl), fits, none)), rw is refl)
@@ -146,7 +146,7 @@ pub more_given : (ps : List Pair) (i : ℕ) (d : Pair) → i < length ps → ((e
 more_given ps i d few (es, are) (short, (v, is)) =
     (and_pair es (get_or ps i d).key.now v, subst (λ (t : List Pair). ArePairsOf t (and_pair es (get_or ps i d).key.now v)) (sym (take_more ps i d few)) (and_more (take i ps) es (get_or ps i d) v are short is))
 
-pub string_fits : (p : Pair) → IsStringTag p.tag → ((v : Tree) × IsPairValue p v) → (length p.bytes.now < 2 ^ 32) × HasNoNumber p
+pub string_fits : (p : Pair) → IsStringTag p.tag → ((v : Tree) × IsPairValue p v) → (length p.bytes.now < 2 ^ 32) × IsPairWithoutNumber p
 string_fits p is (v, inl (s, fits, none)) = (fits, none)
 string_fits p (inl is) (v, inr (x, tells, e, none)) = absurd (with_content p.tag amqp.LongString (ap kind is) refl (x, tells.in_range, tells.same_tag))
 string_fits p (inr is) (v, inr (x, tells, e, none)) = absurd (with_content p.tag amqp.ByteArray (ap kind is) refl (x, tells.in_range, tells.same_tag))
@@ -159,7 +159,7 @@ number_alone p other (v, inr (x, tells, e, none)) = none
 
 -- the value is written once its two parts are: of a string what is before its bytes, and of a number its
 -- type tag
-pub string_written : (p : Pair) (at : ℕ) (head old first new : List ℕ) → IsStringTag p.tag → (length p.bytes.now < 2 ^ 32) × HasNoNumber p
+pub string_written : (p : Pair) (at : ℕ) (head old first new : List ℕ) → IsStringTag p.tag → (length p.bytes.now < 2 ^ 32) × IsPairWithoutNumber p
     → head ≡ p.tag ∷ to_be_bytes w32 (length p.bytes.now) → first ≡ with_bytes at head old → new ≡ with_bytes (at + 5) p.bytes.now first
     → at + value_len p ≤ length old → (v : Tree) × IsPairValue p v × (new ≡ with_bytes at (text v) old)
 string_written p at head old first new is fits counts e₁ e₂ buffer =

@@ -11,20 +11,20 @@ use Rattle.amqp_c.specs.CallResults.{FaultsWithin}
 
 -- the JSON text of the value that is read from s within the limits is put into the buffer, and in its
 -- tables the keys ascend
-abbrev pub IsJsonPut : Limits → List ℕ → List ℕ → List ℕ → ℕ → Type 0
-IsJsonPut l s old new n = (t : List ℕ) × (rest : List ℕ) × IsOrderedJsonOf l s t rest × IsPutAtStart t old new n
+abbrev pub IsOrderedJsonPut : Limits → List ℕ → List ℕ → List ℕ → ℕ → Type 0
+IsOrderedJsonPut l s old new n = (t : List ℕ) × (rest : List ℕ) × IsOrderedJsonOf l s t rest × IsPutAtStart t old new n
 
 -- a fault is right, for s and a buffer of that many bytes: that text has more bytes than the buffer,
 -- and as many as the fault reports; or a value is read, and memory is needed for its text; or what
 -- reading results in
-abbrev pub IsJsonFault : Limits → List ℕ → ℕ → Fault → Type 0
-IsJsonFault l s buffer (BufferTooSmall n) = (t : List ℕ) × (rest : List ℕ) × IsOrderedJsonOf l s t rest × (n ≡ length t) × (buffer < n)
-IsJsonFault l s buffer OutOfMemory = NeedsMemory l s
-IsJsonFault l s buffer f = FaultsWithin l s f
+abbrev pub IsOrderedJsonFault : Limits → List ℕ → ℕ → Fault → Type 0
+IsOrderedJsonFault l s buffer (BufferTooSmall n) = (t : List ℕ) × (rest : List ℕ) × IsOrderedJsonOf l s t rest × (n ≡ length t) × (buffer < n)
+IsOrderedJsonFault l s buffer OutOfMemory = NeedsMemory l s
+IsOrderedJsonFault l s buffer f = FaultsWithin l s f
 
 -- the JSON text of the value at the start of s is put into the buffer; or the fault is right
-pub record WritesJson (frame depth : ℕ) (s old : List ℕ) (code : ℤ) (new : List ℕ) (count : ℕ) : Type 0 where
+pub record WritesOrderedJson (frame depth : ℕ) (s old : List ℕ) (code : ℤ) (new : List ℕ) (count : ℕ) : Type 0 where
   pub done : Result ℕ Fault
   pub returned : code ≡ return_code_of done
   pub counted : count ≡ count_of done
-  pub written : MatchResult done (IsJsonPut (limits frame depth) s old new) (IsJsonFault (limits frame depth) s (length old))
+  pub written : MatchResult done (IsOrderedJsonPut (limits frame depth) s old new) (IsOrderedJsonFault (limits frame depth) s (length old))

@@ -14,15 +14,15 @@ use Rattle.amqp_c.specs.Needs.{encoding_len}
 use Rattle.amqp_c.specs.Buffers.{with_bytes}
 
 -- the pair has no bits and no scale
-abbrev pub HasNoNumber : Pair → Type 0
-HasNoNumber p = (p.bits ≡ 0) × (p.scale ≡ 0)
+abbrev pub IsPairWithoutNumber : Pair → Type 0
+IsPairWithoutNumber p = (p.bits ≡ 0) × (p.scale ≡ 0)
 
 -- v is the value of a pair, by its type tag: the long string or the byte array of its bytes, whose
 -- length fits its field, or the value of fixed width that its bits and its scale determine; and the pair
 -- has nothing that is of the other
 abbrev pub IsPairValue : Pair → Tree → Type 0
 IsPairValue p v =
-    (IsStringValue p.tag p.bytes.now v × (length p.bytes.now < 2 ^ 32) × HasNoNumber p)
+    (IsStringValue p.tag p.bytes.now v × (length p.bytes.now < 2 ^ 32) × IsPairWithoutNumber p)
     ⊎ ((x : Scalar) × IsScalarOf p.tag p.bits p.scale x × (v ≡ scalar x) × (p.bytes.now ≡ []))
 
 -- the pair can be written: its key is one, and it has a value
@@ -57,8 +57,8 @@ body_len ps = sum_by pair_len ps
 
 -- a fault of a string or a byte array is right: it has bits or a scale, otherwise too many bytes
 abbrev pub RefusesString : Pair → Fault → Type 0
-RefusesString p OutOfRange = HasNoNumber p → ⊥
-RefusesString p TooLarge = HasNoNumber p × (2 ^ 32 ≤ length p.bytes.now)
+RefusesString p OutOfRange = IsPairWithoutNumber p → ⊥
+RefusesString p TooLarge = IsPairWithoutNumber p × (2 ^ 32 ≤ length p.bytes.now)
 RefusesString p _ = ⊥
 
 -- and of a value of fixed width: that of its number, otherwise it has bytes

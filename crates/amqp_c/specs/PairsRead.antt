@@ -84,8 +84,8 @@ pub record ReadsPairs (frame depth : ℕ) (s : List ℕ) (old : List Entry) (cod
 -- ---- on the way
 
 -- pairs are left of a table
-abbrev pub HoldsPairs : List ℕ → Cursor → Type 0
-HoldsPairs s c = IsOfTable (length s) c × ((ps : Entries) × TableBody (part s c.left) ps)
+abbrev pub HasPairsLeft : List ℕ → Cursor → Type 0
+HasPairsLeft s c = IsOfTable (length s) c × ((ps : Entries) × TableBody (part s c.left) ps)
 
 -- that many
 abbrev pub CountsPairs : List ℕ → Cursor → ℕ → Type 0

@@ -42,7 +42,7 @@ IsReadOr Is s (Some p) (Err f) = f ≡ fault_at p.offset p.kind (wanted s)
 IsReadOr Is s _ _ = ⊥
 
 -- e is what amqpv_first returns: the entry of the value at the start of s, by its type tag and its length
-pub record IsFirst (s : List ℕ) (e : Entry) : Type 0 where
+pub record IsFirstEntry (s : List ℕ) (e : Entry) : Type 0 where
   pub at_start : IsEntryAtStart s e
   pub inside : EntryIsIn (length s) e
   pub faithful : (v : Tree) (rest : List ℕ) → Outcome s (found v rest) → GivesFirst s v rest (Ok e)
@@ -68,7 +68,7 @@ pub record ReadsBy (rules : Rules) (Is Taken : Entry → Type 0) (l : Limits) (s
 
 -- by the rules that a number denotes the value at the start of s; if it denotes none, what was there stays
 abbrev pub ReadsValueByRules : Option Rules → Limits → List ℕ → Entry → Problem → ℤ → Entry → ℕ → Problem → Type 0
-ReadsValueByRules (Some rules) l s old was code new count stored = ReadsBy rules (IsFirst s) (IsValueTaken l s) l s (length s) (problem_of rules l s) old was code new count stored
+ReadsValueByRules (Some rules) l s old was code new count stored = ReadsBy rules (IsFirstEntry s) (IsValueTaken l s) l s (length s) (problem_of rules l s) old was code new count stored
 ReadsValueByRules None l s old was code new count stored = (code ≡ code_of BadTag) × (new ≡ old) × (count ≡ 0) × (stored ≡ was)
 
 abbrev pub ReadsValueBy : ℕ → ℕ → ℕ → List ℕ → Entry → Problem → ℤ → Entry → ℕ → Problem → Type 0

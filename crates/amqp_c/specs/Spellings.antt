@@ -16,7 +16,7 @@ use Rattle.amqp_c.specs.CallResults.{FaultsWithin, count_by}
 -- the value at the start of s is read within limits, and ends after the first x.length bytes of `given`,
 -- which are s, perhaps without its type tag; they are canonical exactly if s begins with what is written
 -- for the value, and goes on with what is after it
-pub record IsSpelled (l : Limits) (given s : List ℕ) (x : Spelling) : Type 0 where
+pub record IsSpellingRead (l : Limits) (given s : List ℕ) (x : Spelling) : Type 0 where
   pub meaning : Tree
   pub read : Within l s (found meaning (drop x.length given))
   pub inside : x.length ≤ length given
@@ -37,7 +37,7 @@ pub record TellsSpelling (frame depth : ℕ) (given s : List ℕ) (code : ℤ) (
   pub done : Result Spelling Fault
   pub returned : code ≡ spelling_code done
   pub counted : count ≡ count_by (λ x. x.length) done
-  pub right : MatchResult done (IsSpelled (limits frame depth) given s) (FaultsWithin (limits frame depth) s)
+  pub right : MatchResult done (IsSpellingRead (limits frame depth) given s) (FaultsWithin (limits frame depth) s)
 
 -- of the value at the start of s, and of the table without its type tag
 abbrev pub TellsCanonical : ℕ → ℕ → List ℕ → ℤ → ℕ → Type 0

@@ -3,7 +3,7 @@
 ghost use Rattle.std.specs.Prelude.{MatchResult};
 ghost use Rattle.amq_protocol_types.specs.parsing.Untagged.{tagged};
 ghost use Rattle.amqp_c.specs.CallResults.{FaultsWithin};
-ghost use Rattle.amqp_c.specs.Spellings.{IsSpelled};
+ghost use Rattle.amqp_c.specs.Spellings.{IsSpellingRead};
 
 use amq_protocol_types::parsing::Limits;
 use amqp_c_common::Fault;
@@ -23,7 +23,7 @@ pub struct Spelling {
 /// they are, otherwise in at most two.
 pub fn read_spelling(bytes: &[u8], limits: Limits) -> Result<Spelling, Fault>
     ensures { MatchResult result
-        (IsSpelled limits bytes.now bytes.now)
+        (IsSpellingRead limits bytes.now bytes.now)
         (FaultsWithin limits bytes.now) }
 {
     if let Some(length) = canonical_len(bytes, limits) {
@@ -42,7 +42,7 @@ pub fn read_spelling(bytes: &[u8], limits: Limits) -> Result<Spelling, Fault>
 /// That of the table without its type tag at the start.
 pub fn read_table_spelling(bytes: &[u8], limits: Limits) -> Result<Spelling, Fault>
     ensures { MatchResult result
-        (IsSpelled limits bytes.now (tagged AMQPType.FieldTable bytes.now))
+        (IsSpellingRead limits bytes.now (tagged AMQPType.FieldTable bytes.now))
         (FaultsWithin limits (tagged AMQPType.FieldTable bytes.now)) }
 {
     if let Some(length) = canonical_table_len(bytes, limits) {

@@ -1,7 +1,7 @@
 //! From an encoding to its JSON text, without memory.
 
 ghost use Rattle.std.specs.Prelude.{length, MatchResult};
-ghost use Rattle.amqp_c.specs.JsonTexts.{IsJsonPut, IsJsonFault};
+ghost use Rattle.amqp_c.specs.JsonTexts.{IsOrderedJsonPut, IsOrderedJsonFault};
 
 use amq_protocol_types::parsing::Limits;
 use amqp_c_common::Fault;
@@ -12,8 +12,8 @@ use amqp_json::{WriteError, write_json};
 #[tactic(auto, using(crate::proofs::JsonFaults::refused_so))]
 pub fn put_json(bytes: &[u8], limits: Limits, buffer: &mut [u8]) -> Result<usize, Fault>
     ensures written { MatchResult result
-        (IsJsonPut limits bytes.now buffer.old buffer.new)
-        (IsJsonFault limits bytes.now (length buffer.old)) }
+        (IsOrderedJsonPut limits bytes.now buffer.old buffer.new)
+        (IsOrderedJsonFault limits bytes.now (length buffer.old)) }
 {
     match write_json(bytes, limits, buffer) {
         Ok((count, _)) => Ok(count),

@@ -12,7 +12,7 @@ ghost use Rattle.std.specs.Prelude.{◌≡◌};
 ghost use Rattle.amqp_c.specs.Problems.{FindsInValue, FindsInTable};
 ghost use Rattle.amqp_c.specs.BuildCalls.{PutsScalar, PutsInt, PutsUint, PutsBool, PutsTimestamp, PutsDecimal, PutsVoid, PutsBytes, PutsValue, OpensContainer, ClosesContainer};
 ghost use Rattle.amqp_c.specs.WrittenTables.{WritesTable};
-ghost use Rattle.amqp_c.specs.JsonTexts.{WritesJson};
+ghost use Rattle.amqp_c.specs.JsonTexts.{WritesOrderedJson};
 ghost use Rattle.amqp_c.specs.Getters.{GetsInt, GetsUint, GetsBool, GetsTimestamp, GetsDecimal};
 ghost use Rattle.amqp_c.specs.ReadBy.{ReadsValueBy, ReadsTableBy};
 ghost use Rattle.amqp_c.specs.PairsRead.{ReadsPairs};
@@ -595,7 +595,7 @@ pub extern "C" fn amqpv_write_json(
     buffer: &mut [u8],
     count: &mut usize,
 ) -> i32
-    ensures { WritesJson frame depth bytes.now buffer.old result buffer.new count.new }
+    ensures { WritesOrderedJson frame depth bytes.now buffer.old result buffer.new count.new }
 {
     return_count(put_json(bytes, Limits { frame, depth }, buffer), count)
 }

@@ -4,7 +4,7 @@ ghost use Rattle.std.specs.Prelude.{◌≡◌, ◌+◌, ◌≤◌, ◌++◌, len
 ghost use Rattle.amqp_value_core.specs.Values.{Tree};
 ghost use Rattle.amqp_value_core.specs.Grammar.{short_field};
 ghost use Rattle.amqp_value_core.specs.Texts.{text};
-ghost use Rattle.amqp_c.specs.Pairs.{HasNoNumber, IsPairValue, IsGiven, RefusesValue, RefusesPair, value_len, pair_len};
+ghost use Rattle.amqp_c.specs.Pairs.{IsPairWithoutNumber, IsPairValue, IsGiven, RefusesValue, RefusesPair, value_len, pair_len};
 ghost use Rattle.amqp_c.specs.Buffers.{with_bytes};
 
 use crate::buffer::{write, write_content, write_few, write_name};
@@ -73,7 +73,7 @@ impl Pair<'_> {
     #[inline(always)]
     #[tactic(auto, using(std::proofs::lemmas::Nat::le_or_l, std::proofs::lemmas::Nat::le_or_r))]
     fn has_number(&self) -> bool
-        ensures { MatchBool result (HasNoNumber self.now → ⊥) (HasNoNumber self.now) }
+        ensures { MatchBool result (IsPairWithoutNumber self.now → ⊥) (IsPairWithoutNumber self.now) }
     {
         self.bits | u64::from(self.scale) != 0
     }

@@ -6,7 +6,7 @@ ghost use Rattle.amqp_in_place.specs.Problems.{problem_of, problem_in_table_of};
 ghost use Rattle.amqp_in_place.specs.declared.problems.Rules.TheVariants.{Reading};
 ghost use Rattle.amqp_c.specs.CallResults.{IsValueTaken, IsTableTaken, FaultsWithin};
 ghost use Rattle.amqp_c.specs.Steps.{IsHeaded};
-ghost use Rattle.amqp_c.specs.ReadBy.{fault_at, header_lack, IsReadOr, IsFirst, IsFirstTable, IsPrefixedTable};
+ghost use Rattle.amqp_c.specs.ReadBy.{fault_at, header_lack, IsReadOr, IsFirstEntry, IsFirstTable, IsPrefixedTable};
 
 use crate::entry::{Entry, first};
 use amq_protocol_types::parsing::header::{Header, header_of};
@@ -30,7 +30,7 @@ pub struct ReadBy {
 pub fn read_by(bytes: &[u8], rules: Rules, limits: Limits) -> ReadBy
     ensures problem { result.problem ≡ problem_of rules limits bytes.now }
     ensures inside { IfSome result.problem (λ p. p.offset ≤ length bytes.now) }
-    ensures right { IsReadOr (IsFirst bytes.now) bytes.now result.problem result.done }
+    ensures right { IsReadOr (IsFirstEntry bytes.now) bytes.now result.problem result.done }
     ensures same { rules ≡ Reading → MatchResult result.done
         (IsValueTaken limits bytes.now)
         (FaultsWithin limits bytes.now) }

@@ -2,7 +2,7 @@
 
 ghost use Rattle.std.specs.Prelude.{◌≡◌, length, Ok, OnErr, MatchResult};
 ghost use Rattle.amqp_c.specs.Steps.{GivesNextPair, StepsIn};
-ghost use Rattle.amqp_c.specs.PairsRead.{ArePairsRead, RefusesPairs, HoldsPairs, CountsPairs, HasPlacesFor, AreEntriesWritten};
+ghost use Rattle.amqp_c.specs.PairsRead.{ArePairsRead, RefusesPairs, HasPairsLeft, CountsPairs, HasPlacesFor, AreEntriesWritten};
 
 use crate::cursor::{Cursor, first_pair};
 use crate::entry::Entry;
@@ -42,7 +42,7 @@ pub fn read_pairs(bytes: &[u8], limits: Limits, places: &mut [Entry]) -> Result<
 
 /// How many pairs a table has.
 fn count_pairs(bytes: &[u8], pairs: Cursor) -> usize
-    requires { HoldsPairs bytes.now pairs }
+    requires { HasPairsLeft bytes.now pairs }
     ensures { CountsPairs bytes.now pairs result }
 {
     let mut count = 0;
@@ -56,7 +56,7 @@ fn count_pairs(bytes: &[u8], pairs: Cursor) -> usize
 
 /// Leaves the entries of a table's pairs in the first places.
 fn write_entries(bytes: &[u8], pairs: Cursor, places: &mut [Entry])
-    requires pairs { HoldsPairs bytes.now pairs }
+    requires pairs { HasPairsLeft bytes.now pairs }
     requires fits { HasPlacesFor bytes.now pairs (length places.old) }
     ensures { AreEntriesWritten bytes.now pairs places.old places.new }
 {
@@ -72,7 +72,7 @@ fn write_entries(bytes: &[u8], pairs: Cursor, places: &mut [Entry])
 /// The entry of the first pair that is left, and a cursor after it.
 #[inline(always)]
 fn next_pair(bytes: &[u8], left: Cursor) -> Option<(Entry, Cursor)>
-    requires { HoldsPairs bytes.now left }
+    requires { HasPairsLeft bytes.now left }
     ensures pair { GivesNextPair bytes.now left (Ok result) }
     ensures step { StepsIn bytes.now left result }
 {

@@ -23,18 +23,18 @@ use Rattle.amqp_c_common.specs.declared.fault.Fault.{Fault}
 use Rattle.amqp_c_common.specs.declared.fault.Fault.TheVariants.{OutOfMemory}
 use Rattle.amqp_c_common.specs.ReturnCodes.{fault_of}
 use Rattle.amqp_c_common.specs.Buffers.{IsPutAtStart, IsBufferTooSmall}
-use Rattle.amqp_c_alloc.specs.JsonCalls.{IsTextOf, IsEncodingPut, IsEncodingFault, text_fault}
+use Rattle.amqp_c_alloc.specs.JsonCalls.{IsTextOf, IsEncodingPut, IsJsonTextFault, text_fault}
 
 -- what is put is the canonical encoding of the value that was meant
 pub put_meant : (most : ℕ) (t bytes old new : List ℕ) (v : Tree) (r : Result ℕ Fault) → IsTextOf t v → (made : List ℕ) → bytes ≡ made → made ≡ text v → IsReadAs made v
-    → MatchResult r (IsPutAtStart bytes old new) (IsBufferTooSmall bytes (length old)) → MatchResult r (IsEncodingPut t old new) (IsEncodingFault most t (length old))
+    → MatchResult r (IsPutAtStart bytes old new) (IsBufferTooSmall bytes (length old)) → MatchResult r (IsEncodingPut t old new) (IsJsonTextFault most t (length old))
 put_meant most t bytes old new v (Ok n) x made same is back put =
     (v, x, subst (λ (b : List ℕ). IsReadAs b v) is back, subst (λ (b : List ℕ). IsPutAtStart b old new n) (same ∙ is) put)
 put_meant most t bytes old new v (Err f) x made same is back (e, less) =
-    subst (IsEncodingFault most t (length old)) (sym e) (v, x, subst (λ (b : List ℕ). IsReadAs b v) is back, ap length (same ∙ is), less)
+    subst (IsJsonTextFault most t (length old)) (sym e) (v, x, subst (λ (b : List ℕ). IsReadAs b v) is back, ap length (same ∙ is), less)
 
 -- why a JSON text has no encoding is reported as it is
-pub reported_text : (most : ℕ) (t : List ℕ) (buffer : ℕ) (e : EncodeError) → IsUtf8 t → IsRefused t e → IsEncodingFault most t buffer (text_fault e)
+pub reported_text : (most : ℕ) (t : List ℕ) (buffer : ℕ) (e : EncodeError) → IsUtf8 t → IsRefused t e → IsJsonTextFault most t buffer (text_fault e)
 reported_text most t buffer encode.OutOfMemory u x = u
 reported_text most t buffer (encode.Json json.OutOfMemory) u x = u
 reported_text most t buffer (encode.Json (json.Syntax at)) u none = inr (λ v is.

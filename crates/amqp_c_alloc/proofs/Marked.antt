@@ -30,9 +30,9 @@ unset true e = absurd (omega arith)
 unset false e = refl
 
 pub has_marks : (t : List ℕ) (start bits : ℕ) → start + 64 ≤ length t → bits ≡ mask_l (map is_mark (chunk start 64 t)) → HasMarksFrom t start bits start
-has_marks t start bits room is k inside from none =
+has_marks t start bits fits is k inside from none =
     let xs = chunk start 64 t in
-    let long = length-chunk start 64 t room in
+    let long = length-chunk start 64 t fits in
     let bit = sym (bit_mask_l (map is_mark xs) k) ∙ ap (λ m. bit_at m k) (sym is) ∙ none in
     ap is_mark (sym (get_or-chunk start 64 t k 0 inside)) ∙ sym (get_or-map is_mark xs k 0 false (omega arith)) ∙ unset (get_or (map is_mark xs) k false) bit
 
@@ -44,7 +44,7 @@ marks_without t start bits at bit less next has more past others k inside from n
 -- what is read up to the first of them, and up to the block's end if none is left
 pub reaches_mark : (most : ℕ) (t : List ℕ) (r : Reading) (start bits bit : ℕ) → Reaches most t r → start ≤ r.at → start + 64 ≤ length t → HasMarksFrom t start bits r.at → bit < 64 → r.at ≤ start + bit
     → ((k : ℕ) → k < bit → bit_at bits k ≡ 0) → Reaches most t (record { at = start + bit; place = r.place; depth = r.depth })
-reaches_mark most t r start bits bit so begun room has inside ahead below =
+reaches_mark most t r start bits bit so begun fits has inside ahead below =
     let n = start + bit - r.at in
     let there : r.at + n ≡ start + bit = omega arith in
     let none : (i : ℕ) → r.at ≤ i → i < r.at + n → is_mark (get_or t i 0) ≡ false = λ i from to.
@@ -54,7 +54,7 @@ reaches_mark most t r start bits bit so begun room has inside ahead below =
 
 pub reaches_end : (most : ℕ) (t : List ℕ) (r : Reading) (start bits : ℕ) → Reaches most t r → start ≤ r.at → start + 64 ≤ length t → HasMarksFrom t start bits r.at → bits ≡ 0
     → Reaches most t (record { at = max r.at (start + 64); place = r.place; depth = r.depth })
-reaches_end most t r start bits so begun room has empty =
+reaches_end most t r start bits so begun fits has empty =
     elim (cases_lt r.at (start + 64)) [
       | inl less ↦
           let n = start + 64 - r.at in

@@ -73,13 +73,13 @@ unmarked most t at (suc r) p n few whole inside none so =
 -- the bytes before a mark are passed
 pub reaches_later : (most : ℕ) (t : List ℕ) (r : Reading) (k : ℕ) → Reaches most t r → r.at < length t → r.at + k ≤ length t → ((i : ℕ) → r.at ≤ i → i < r.at + k → is_mark (get_or t i 0) ≡ false)
     → Reaches most t (record { at = r.at + k; place = r.place; depth = r.depth })
-reaches_later most t r k so more room none =
+reaches_later most t r k so more fits none =
     let whole : r.place ≢ Escaped = λ e. omega (arith, so.whole_escape e) in
     record {
-      inside = room;
+      inside = fits;
       few = so.few;
       whole_escape = λ e. absurd (whole e);
-      decides = unmarked most t r.at k r.place r.depth so.few whole room none so.decides;
+      decides = unmarked most t r.at k r.place r.depth so.few whole fits none so.decides;
     }
 
 -- few bytes can't open too many

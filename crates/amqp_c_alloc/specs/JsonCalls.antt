@@ -68,12 +68,12 @@ IsEncodingPut t old new n = (v : Tree) × IsTextOf t v × IsReadAs (text v) v ×
 -- nests deeper, or means no value; or one that has no encoding; or one whose canonical encoding has
 -- more bytes than the buffer, and as many as the fault reports; memory runs out only if the text
 -- is UTF-8
-abbrev pub IsEncodingFault : ℕ → List ℕ → ℕ → Fault → Type 0
-IsEncodingFault most t buffer NotJson = (nests_within most t ≡ false) ⊎ MeansNothing t
-IsEncodingFault most t buffer NoEncoding = (v : Tree) × IsTextOf t v × HasNoWire v
-IsEncodingFault most t buffer (BufferTooSmall n) = (v : Tree) × IsTextOf t v × IsReadAs (text v) v × (n ≡ length (text v)) × (buffer < n)
-IsEncodingFault most t buffer OutOfMemory = IsUtf8 t
-IsEncodingFault most t buffer _ = ⊥
+abbrev pub IsJsonTextFault : ℕ → List ℕ → ℕ → Fault → Type 0
+IsJsonTextFault most t buffer NotJson = (nests_within most t ≡ false) ⊎ MeansNothing t
+IsJsonTextFault most t buffer NoEncoding = (v : Tree) × IsTextOf t v × HasNoWire v
+IsJsonTextFault most t buffer (BufferTooSmall n) = (v : Tree) × IsTextOf t v × IsReadAs (text v) v × (n ≡ length (text v)) × (buffer < n)
+IsJsonTextFault most t buffer OutOfMemory = IsUtf8 t
+IsJsonTextFault most t buffer _ = ⊥
 
 -- what is reported of a text for which there is no encoding
 abbrev pub text_fault : EncodeError → Fault
@@ -95,7 +95,7 @@ pub record WritesEncoding (most : ℕ) (t old : List ℕ) (code : ℤ) (new : Li
   pub done : Result ℕ Fault
   pub returned : code ≡ return_code_of done
   pub counted : count ≡ count_of done
-  pub written : MatchResult done (IsEncodingPut t old new) (IsEncodingFault most t (length old))
+  pub written : MatchResult done (IsEncodingPut t old new) (IsJsonTextFault most t (length old))
   pub deep : nests_within most t ≡ false → done ≡ Err NotJson
   pub kept : IfErr done (λ _. new ≡ old)
 

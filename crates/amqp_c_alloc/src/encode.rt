@@ -3,7 +3,7 @@
 ghost use Rattle.std.specs.Prelude.{◌≡◌, ◌≤◌, ◌↔◌, true, false, length, is_some, Some, None, Err, IfErr, IfSome, MatchResult};
 ghost use Rattle.amqp_c_common.specs.declared.fault.Fault.TheVariants.{NotJson};
 ghost use Rattle.amqp_c_alloc.specs.Nesting.{nests_within};
-ghost use Rattle.amqp_c_alloc.specs.JsonCalls.{text_fault, text_problem, IsEncodingPut, IsEncodingFault};
+ghost use Rattle.amqp_c_alloc.specs.JsonCalls.{text_fault, text_problem, IsEncodingPut, IsJsonTextFault};
 ghost use Rattle.amqp_c_alloc.specs.TextProblems.{IsTextProblem};
 
 use crate::nesting::first_too_deep;
@@ -27,7 +27,7 @@ pub struct EncodingPut {
 pub fn put_encoding(alloc: Global, text: &[u8], nesting: u32, buffer: &mut [u8]) -> EncodingPut
     ensures written { MatchResult result.done
         (IsEncodingPut text.now buffer.old buffer.new)
-        (IsEncodingFault nesting text.now (length buffer.old)) }
+        (IsJsonTextFault nesting text.now (length buffer.old)) }
     ensures deep { nests_within nesting text.now ≡ false → result.done ≡ Err NotJson }
     ensures kept { IfErr result.done (λ _. buffer.new ≡ buffer.old) }
     ensures told { (is_some result.problem ≡ true) ↔ (result.done ≡ Err NotJson) }

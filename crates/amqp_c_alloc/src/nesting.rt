@@ -56,7 +56,7 @@ const BLOCK: usize = 64;
 // Passes at least 64 bytes, of which it looks at the marks.
 #[inline(always)]
 fn pass_block(text: &[u8], from: Reading, most: u32) -> Result<Reading, usize>
-    requires room { from.at + 64 ≤ length text.now }
+    requires fits { from.at + 64 ≤ length text.now }
     requires reached { Reaches most text.now from }
     ensures { MatchResult result
         (PassesBlock most text.now from 64)

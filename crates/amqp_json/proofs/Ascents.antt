@@ -16,7 +16,7 @@ use Rattle.amqp_in_place.specs.Places.{IsFramed, IsViewIn, IsPairViewIn}
 use Rattle.amqp_in_place.specs.Walks.{ValueStep, PairStep}
 use Rattle.amqp_in_place.specs.Written.{written, values_written, pairs_written}
 use Rattle.amqp_in_place.specs.Canonicals.{IsAbove}
-use Rattle.amqp_json.proofs.Steps.{Rising, rising_first, rising_next, rising_over, falls, none_rises}
+use Rattle.amqp_json.proofs.Steps.{RisesIfRest, rising_first, rising_next, rising_over, falls, none_rises}
 use Rattle.amqp_json.specs.Ascending.{Ascends, AllAscend, EntriesAscend, InOrder, OutOfOrder, ValuesWritten, PairsWritten, IfInOrder, IfValuesAscend, IfPairsAscend, IfTableAscends}
 
 -- ---- values
@@ -139,7 +139,7 @@ table_falls s ps falls p = (ps, p, λ x. falls ps p ((written_rises s ps p).1 x.
 -- those before the pairs that are left ascend, and `previous` is the last of them
 abbrev pub RisesSoFar : List ℕ → List ℕ → Option (Bor (List ℕ)) → Type 0
 RisesSoFar all left None = all ≡ left
-RisesSoFar all left (Some j) = Rising all left j.now
+RisesSoFar all left (Some j) = RisesIfRest all left j.now
 
 pub rises_on : (all left less : List ℕ) (previous : Option (Bor (List ℕ))) (j : Bor (List ℕ)) (x : Bor (List ℕ) × ValueRef) → RisesSoFar all left previous → j.now ≡ x.0.now → IsAbove previous j.now
     → ((qs : Entries) → TableBody left qs → PairStep qs (Some x) less) → RisesSoFar all less (Some j)
@@ -169,10 +169,10 @@ table_in_order (Some r) s body rest (c, k, few, e) (ps, p, a) =
     let v = table (insert_all no_entries ps) in
     (c ∷ long_field body, v, wire c amqp.FieldTable (long_field body) v k (raw_table body ps few p), e, a)
 
-abbrev pub IsLeaf : ValueRef → Type 0
-IsLeaf (at.FieldArray a) = ⊥
-IsLeaf (at.FieldTable t) = ⊥
-IsLeaf _ = Unit {0}
+abbrev pub IsNoContainerRef : ValueRef → Type 0
+IsNoContainerRef (at.FieldArray a) = ⊥
+IsNoContainerRef (at.FieldTable t) = ⊥
+IsNoContainerRef _ = Unit {0}
 
 -- an encoding that means no container is written without one
 leaf_raw : (w : List ℕ) (v : Tree) (p : Wire w v) → ((vs : Trees) → v ≡ array vs → ⊥) → ((es : Entries) → v ≡ table es → ⊥) → Ascends (written w v p)
@@ -183,7 +183,7 @@ leaf_raw _ _ (wire c type b v k (raw_octets s few)) n m = tt
 leaf_raw _ _ (wire c type b v k (raw_array body vs few all)) n m = absurd (n vs refl)
 leaf_raw _ _ (wire c type b v k (raw_table body ps few all)) n m = absurd (m (insert_all no_entries ps) refl)
 
-pub leaf_order : (r : ValueRef) (s rest : List ℕ) → IsLeaf r → IsViewIn s r rest → InOrder s rest
+pub leaf_order : (r : ValueRef) (s rest : List ℕ) → IsNoContainerRef r → IsViewIn s r rest → InOrder s rest
 leaf_order (at.FieldArray a) s rest leaf x = absurd leaf
 leaf_order (at.FieldTable t) s rest leaf x = absurd leaf
 leaf_order (at.LongString b) s rest leaf x =
@@ -192,8 +192,8 @@ leaf_order (at.ByteArray b) s rest leaf x =
     (x.0 ∷ long_field b.now, values.octets b.now, wire x.0 amqp.ByteArray (long_field b.now) (values.octets b.now) x.1 (raw_octets b.now x.2), x.3, tt)
 leaf_order _ s rest leaf x = (x.0, _, x.1, x.2, leaf_raw x.0 _ x.1 (λ vs e. absurd cc) (λ es e. absurd cc))
 
-pub leaf_at : (r q : ValueRef) (s rest : List ℕ) → r ≡ q → IsLeaf q → IsViewIn s r rest → InOrder s rest
-leaf_at r q s rest is leaf x = leaf_order r s rest (subst IsLeaf (sym is) leaf) x
+pub leaf_at : (r q : ValueRef) (s rest : List ℕ) → r ≡ q → IsNoContainerRef q → IsViewIn s r rest → InOrder s rest
+leaf_at r q s rest is leaf x = leaf_order r s rest (subst IsNoContainerRef (sym is) leaf) x
 
 pub array_at : {T : Type 0} (result : Option T) (r : ValueRef) (a : ArrayRef) (s rest : List ℕ) (v : Tree) → r ≡ at.FieldArray a → IsViewIn s r rest → Denotes r v
     → ((vs : Trees) → ArrayBody (array_body a) vs → IfValuesAscend result (array_body a)) → IfInOrder result s rest

@@ -25,7 +25,7 @@ use Rattle.amqp_value_core.specs.InMemory.{IsScalar}
 use Rattle.amqp_value_core.specs.Strings.{IsShort}
 use Rattle.amqp_value_core.specs.Texts.{text}
 use Rattle.amqp_value_core.proofs.GrammarLaws.{text_is_wire}
-use Rattle.amqp_json.specs.Encodes.{IsObject, IsTextPut, PutsValue, PutsValues, PutsPairs, IsTableRead, IsFieldRead}
+use Rattle.amqp_json.specs.Encodes.{IsObject, IsTextPut, PutsEncodingOf, PutsValues, PutsPairs, AreEntriesRead, IsFieldRead}
 use Rattle.amqp_json.specs.InMemory.{IsStored, AreStoredTrees, EntriesStored}
 use Rattle.amqp_json.specs.Json as amqp
 use Rattle.amqp_json.specs.Json.{items_json, members_json, sole_type, under, natural, decimal_json}
@@ -58,7 +58,7 @@ module _ (p : Parse json.Json) (first : List Token) (old : List ℕ) where
   }
 
   pub items_next : (now r : List Token) (mid new : List ℕ) → ItemsLeft p first now old mid → after_end_array now ≡ None → length r < length now
-      → PutsValue (λ v. converted of_json (p now) ≡ Some (amqp.json v, r)) mid new → ItemsLeft p first r old new
+      → PutsEncodingOf (λ v. converted of_json (p now) ≡ Some (amqp.json v, r)) mid new → ItemsLeft p first r old new
   items_next now r mid new l going less (w, v, same, is, stored, read) =
       let some : 0 < l.count = omega (arith, less, l.enough) in
       record {
@@ -80,13 +80,13 @@ module _ (p : Parse json.Json) (first : List Token) (old : List ℕ) where
 -- ---- a table
 
 -- no name of a type is the only key of the entries, also not with the next key
-abbrev pub IsPlain : Entries → Option (List ℕ) → Type 0
-IsPlain no_entries None = Unit {0}
-IsPlain no_entries (Some k) = type_named k ≡ None
-IsPlain (entry j u es) o = sole_type (members_json (entry j u es)) ≡ None
+abbrev pub HasNoTypeName : Entries → Option (List ℕ) → Type 0
+HasNoTypeName no_entries None = Unit {0}
+HasNoTypeName no_entries (Some k) = type_named k ≡ None
+HasNoTypeName (entry j u es) o = sole_type (members_json (entry j u es)) ≡ None
 
 plain_at : (k j : List ℕ) (v u : Tree) (es fs : Entries) (o : Ordering) (next : Option (List ℕ)) → sole_type (members_json (entry j u es)) ≡ None → sole_type (members_json (entry j u fs)) ≡ None → sole_type (members_json (entry j v es)) ≡ None
-    → IsPlain (match_ordering o (entry k v (entry j u es)) (entry j v es) (entry j u fs)) next
+    → HasNoTypeName (match_ordering o (entry k v (entry j u es)) (entry j v es) (entry j u fs)) next
 plain_at k j v u es fs Less next is more same = refl
 plain_at k j v u es fs Equal next is more same = same
 plain_at k j v u es fs Greater next is more same = more
@@ -105,11 +105,11 @@ same_key : (j : List ℕ) (v u : Tree) (es : Entries) → sole_type (members_jso
 same_key j v u no_entries is = is
 same_key j v u (entry i w es) is = refl
 
-plain_next : (k : List ℕ) (v : Tree) (es : Entries) (next : Option (List ℕ)) → IsPlain es (Some k) → IsPlain (insert k v es) next
+plain_next : (k : List ℕ) (v : Tree) (es : Entries) (next : Option (List ℕ)) → HasNoTypeName es (Some k) → HasNoTypeName (insert k v es) next
 plain_next k v no_entries next is = is
 plain_next k v (entry j u es) next is = plain_at k j v u es (insert k v es) (slice_cmp nat_cmp k j) next is (two_keys k j v u es) (same_key j v u es is)
 
-plain_end : (es : Entries) → IsPlain es None → sole_type (members_json es) ≡ None
+plain_end : (es : Entries) → HasNoTypeName es None → sole_type (members_json es) ≡ None
 plain_end no_entries is = refl
 plain_end (entry j u es) is = is
 
@@ -118,7 +118,7 @@ plain_end (entry j u es) is = is
 pub record PairsLeft (p : Parse json.Json) (first : Option (List ℕ)) (start : List Token) (next : Option (List ℕ)) (now : List Token) (old new : List ℕ) : Type 0 where
   pub es : Entries
   pub stored : EntriesStored es
-  pub plain : IsPlain es next
+  pub plain : HasNoTypeName es next
   pub body : List ℕ
   pub put : new ≡ old ++ body
   pub rest : (tail : List ℕ) (ps : Entries) → TableBody tail ps → (qs : Entries) × TableBody (body ++ tail) qs × (insert_all no_entries qs ≡ insert_all es ps)
@@ -127,7 +127,7 @@ pub record PairsLeft (p : Parse json.Json) (first : Option (List ℕ)) (start : 
       × (converted (λ ms. of_members ms no_members) (members p n ts) ≡ converted (λ ms. of_members ms (members_json es)) (members p m us))
 
 module _ (p : Parse json.Json) (first : Option (List ℕ)) (start : List Token) (old : List ℕ) where
-  pub pairs_first : IsPlain no_entries first → PairsLeft p first start first start old old
+  pub pairs_first : HasNoTypeName no_entries first → PairsLeft p first start first start old old
   pairs_first is = record {
     es = no_entries;
     stored = tt;
@@ -139,7 +139,7 @@ module _ (p : Parse json.Json) (first : Option (List ℕ)) (start : List Token) 
   }
 
   pub pairs_next : (k : List ℕ) (next : Option (List ℕ)) (now r s : List Token) (mid keyed new : List ℕ) → PairsLeft p first start (Some k) now old mid → IsShort k → keyed ≡ mid ++ short_field k
-      → PutsValue (λ v. converted of_json (p now) ≡ Some (amqp.json v, r)) keyed new → length r < length now → read_key r ≡ Some (next, s) → PairsLeft p first start next s old new
+      → PutsEncodingOf (λ v. converted of_json (p now) ≡ Some (amqp.json v, r)) keyed new → length r < length now → read_key r ≡ Some (next, s) → PairsLeft p first start next s old new
   pairs_next k next now r s mid keyed new l is_key key_put (w, v, same, is, stored, found) less after =
       let more = short_field k ++ w in
       record {
@@ -164,7 +164,7 @@ module _ (p : Parse json.Json) (first : Option (List ℕ)) (start : List Token) 
             );
       }
 
-  pub pairs_done : (now : List Token) (new : List ℕ) → PairsLeft p first start None now old new → PutsPairs (λ es. IsTableRead es p first start now) old new
+  pub pairs_done : (now : List Token) (new : List ℕ) → PairsLeft p first start None now old new → PutsPairs (λ es. AreEntriesRead es p first start now) old new
   pairs_done now new l =
       let at = l.rest [] no_entries no_pairs in (
         l.body,
@@ -172,7 +172,7 @@ module _ (p : Parse json.Json) (first : Option (List ℕ)) (start : List Token) 
         l.put,
         subst (λ (b : List ℕ). TableBody b at.0) (append-nil l.body) at.1,
         subst EntriesStored (sym at.2) l.stored,
-        subst (λ (fs : Entries). IsTableRead fs p first start now) (sym at.2) (
+        subst (λ (fs : Entries). AreEntriesRead fs p first start now) (sym at.2) (
           λ ts n h enough.
               let left = l.read ts n h enough in
               left.4 ∙ members_over p (members_json l.es) left.1 left.0 now left.2 left.3,
@@ -204,38 +204,38 @@ length_filled c at old mid end new w place headed more filled =
     )
 
 module _ (at : ℕ) (old mid end new : List ℕ) (place : at ≡ length old + 1) (filled : new ≡ take at end ++ (to_be_bytes w32 (length end - at - 4) ++ drop (at + 4) end)) (fits : length end - at - 4 < 2 ^ 32) where
-  pub array_put : (P : Trees → Type 0) → mid ≡ old ++ 65 ∷ zeros → PutsValues P mid end → PutsValue (λ v. (vs : Trees) × (v ≡ array vs) × P vs) old new
+  pub array_put : (P : Trees → Type 0) → mid ≡ old ++ 65 ∷ zeros → PutsValues P mid end → PutsEncodingOf (λ v. (vs : Trees) × (v ≡ array vs) × P vs) old new
   array_put P headed (w, vs, more, all, stored, is) =
       let done = length_filled 65 at old mid end new w place headed more filled in
       (65 ∷ long_field w, array vs, done.1, wire 65 _ (long_field w) (array vs) refl (raw_array w vs (subst (λ n. n < 2 ^ 32) done.0 fits) all), stored, (vs, refl, is))
 
-  pub table_put : (P : Entries → Type 0) → mid ≡ old ++ 70 ∷ zeros → PutsPairs P mid end → PutsValue (λ v. (es : Entries) × (v ≡ table es) × P es) old new
+  pub table_put : (P : Entries → Type 0) → mid ≡ old ++ 70 ∷ zeros → PutsPairs P mid end → PutsEncodingOf (λ v. (es : Entries) × (v ≡ table es) × P es) old new
   table_put P headed (w, ps, more, all, stored, is) =
       let es = insert_all no_entries ps in
       let done = length_filled 70 at old mid end new w place headed more filled in
       (70 ∷ long_field w, table es, done.1, wire 70 _ (long_field w) (table es) refl (raw_table w ps (subst (λ n. n < 2 ^ 32) done.0 fits) all), stored, (es, refl, is))
 
-pub puts_weaker : (P Q : Tree → Type 0) (old new : List ℕ) → ((v : Tree) → P v → Q v) → PutsValue P old new → PutsValue Q old new
+pub puts_weaker : (P Q : Tree → Type 0) (old new : List ℕ) → ((v : Tree) → P v → Q v) → PutsEncodingOf P old new → PutsEncodingOf Q old new
 puts_weaker P Q old new f (w, v, more, is, stored, h) = (w, v, more, is, stored, f v h)
 
 -- ---- what isn't a container
 
 -- the canonical encoding of a value that memory can hold is one of its encodings
-pub text_put : (P : Tree → Type 0) (old new : List ℕ) (v : Tree) → IsTextPut v old new → IsStored v → P v → PutsValue P old new
+pub text_put : (P : Tree → Type 0) (old new : List ℕ) (v : Tree) → IsTextPut v old new → IsStored v → P v → PutsEncodingOf P old new
 text_put P old new v is stored h = (text v, v, is.put, text_is_wire v is.value is.fits is.readable, stored, h)
 
-pub scalar_put : (P : Tree → Type 0) (old new : List ℕ) (x : Scalar) → new ≡ old ++ text (scalar x) → IsScalar x → P (scalar x) → PutsValue P old new
+pub scalar_put : (P : Tree → Type 0) (old new : List ℕ) (x : Scalar) → new ≡ old ++ text (scalar x) → IsScalar x → P (scalar x) → PutsEncodingOf P old new
 scalar_put P old new x same is h = text_put P old new (scalar x) (record { put = same; value = is; fits = tt; readable = refl }) is h
 
 -- a number without the name of a type
-pub integer_put : (old new s : List ℕ) (z : ℤ) → SFits w64 z → number_of s ≡ Some (of_integer z) → new ≡ old ++ text (scalar (number_tree types.LongLongInt (cast_unsigned w64 z))) → PutsValue (λ v. option_map number (number_of s) ≡ Some (amqp.json v)) old new
+pub integer_put : (old new s : List ℕ) (z : ℤ) → SFits w64 z → number_of s ≡ Some (of_integer z) → new ≡ old ++ text (scalar (number_tree types.LongLongInt (cast_unsigned w64 z))) → PutsEncodingOf (λ v. option_map number (number_of s) ≡ Some (amqp.json v)) old new
 integer_put old new s z f is same =
     scalar_put (λ v. option_map number (number_of s) ≡ Some (amqp.json v)) old new (number_tree types.LongLongInt (cast_unsigned w64 z)) same (laws.of_z_fits w64 z f).fits
     (ap (option_map number) is ∙ ap (λ y. Some (number (of_integer y))) (sym (to_z-of_z w64 z f)))
 
 -- an integer under the name of a type
 pub signed_put : (type : AMQPType) (w : Width) (old new : List ℕ) (z : ℤ) → ((n : ℕ) → n < 2 ^ bits w → IsScalar (number_tree type n)) → ((n : ℕ) → amqp.json (scalar (number_tree type n)) ≡ under type (amqp.integer w n))
-    → SFits w z → new ≡ old ++ text (scalar (number_tree type (cast_unsigned w z))) → PutsValue (λ v. amqp.json v ≡ under type (number (of_integer z))) old new
+    → SFits w z → new ≡ old ++ text (scalar (number_tree type (cast_unsigned w z))) → PutsEncodingOf (λ v. amqp.json v ≡ under type (number (of_integer z))) old new
 signed_put type w old new z held written f same =
     scalar_put (λ v. amqp.json v ≡ under type (number (of_integer z))) old new (number_tree type (cast_unsigned w z)) same (held (cast_unsigned w z) (laws.of_z_fits w z f).fits)
     (written (cast_unsigned w z) ∙ ap (λ y. under type (number (of_integer y))) (to_z-of_z w z f))
@@ -246,36 +246,36 @@ natural_is k n (pos m) fits is = (ap pos is, subst (λ i. i < 2 ^ k) (sym is) fi
 natural_is k n (negsuc m) fits is = absurd fits
 
 pub unsigned_put : (type : AMQPType) (old new : List ℕ) (n : ℕ) → IsScalar (number_tree type n) → amqp.json (scalar (number_tree type n)) ≡ under type (natural n)
-    → new ≡ old ++ text (scalar (number_tree type n)) → PutsValue (λ v. amqp.json v ≡ under type (natural n)) old new
+    → new ≡ old ++ text (scalar (number_tree type n)) → PutsEncodingOf (λ v. amqp.json v ≡ under type (natural n)) old new
 unsigned_put type old new n held written same = scalar_put (λ v. amqp.json v ≡ under type (natural n)) old new (number_tree type n) same held written
 
-pub number_put : (type : AMQPType) (old new s : List ℕ) (x : Num) → number_of s ≡ Some x → PutsValue (λ v. amqp.json v ≡ under type (number x)) old new
-    → PutsValue (λ v. option_map (under type) (option_map number (number_of s)) ≡ Some (amqp.json v)) old new
+pub number_put : (type : AMQPType) (old new s : List ℕ) (x : Num) → number_of s ≡ Some x → PutsEncodingOf (λ v. amqp.json v ≡ under type (number x)) old new
+    → PutsEncodingOf (λ v. option_map (under type) (option_map number (number_of s)) ≡ Some (amqp.json v)) old new
 number_put type old new s x is put =
     puts_weaker (λ v. amqp.json v ≡ under type (number x)) (λ v. option_map (under type) (option_map number (number_of s)) ≡ Some (amqp.json v)) old new
     (λ v h. ap (λ o. option_map (under type) (option_map number o)) is ∙ ap Some (sym h)) put
 
 -- the bits of a float, as hexadecimal digits
-pub float_put : (old new s b : List ℕ) → sized_in 4 (string s) ≡ Some b → from_be_bytes w32 b < 2 ^ 32 → new ≡ old ++ text (scalar (number_tree types.Float (from_be_bytes w32 b))) → PutsValue (λ v. amqp.json v ≡ under types.Float (string s)) old new
+pub float_put : (old new s b : List ℕ) → sized_in 4 (string s) ≡ Some b → from_be_bytes w32 b < 2 ^ 32 → new ≡ old ++ text (scalar (number_tree types.Float (from_be_bytes w32 b))) → PutsEncodingOf (λ v. amqp.json v ≡ under types.Float (string s)) old new
 float_put old new s b read low same =
     scalar_put (λ v. amqp.json v ≡ under types.Float (string s)) old new (number_tree types.Float (from_be_bytes w32 b)) same low
     (is_under types.Float (string s) _ (ap (option_map (λ x. scalar (number_tree types.Float (from_be_bytes w32 x)))) read))
 
-pub double_put : (old new s b : List ℕ) → sized_in 8 (string s) ≡ Some b → from_be_bytes w64 b < 2 ^ 64 → new ≡ old ++ text (scalar (number_tree types.Double (from_be_bytes w64 b))) → PutsValue (λ v. amqp.json v ≡ under types.Double (string s)) old new
+pub double_put : (old new s b : List ℕ) → sized_in 8 (string s) ≡ Some b → from_be_bytes w64 b < 2 ^ 64 → new ≡ old ++ text (scalar (number_tree types.Double (from_be_bytes w64 b))) → PutsEncodingOf (λ v. amqp.json v ≡ under types.Double (string s)) old new
 double_put old new s b read low same =
     scalar_put (λ v. amqp.json v ≡ under types.Double (string s)) old new (number_tree types.Double (from_be_bytes w64 b)) same low
     (is_under types.Double (string s) _ (ap (option_map (λ x. scalar (number_tree types.Double (from_be_bytes w64 x)))) read))
 
 -- bytes, as hexadecimal digits
-pub array_bytes_put : (old new s b : List ℕ) → bytes_in (string s) ≡ Some b → IsBytes b → IsTextPut (octets b) old new → PutsValue (λ v. amqp.json v ≡ under types.ByteArray (string s)) old new
+pub array_bytes_put : (old new s b : List ℕ) → bytes_in (string s) ≡ Some b → IsBytes b → IsTextPut (octets b) old new → PutsEncodingOf (λ v. amqp.json v ≡ under types.ByteArray (string s)) old new
 array_bytes_put old new s b read all put =
     text_put (λ v. amqp.json v ≡ under types.ByteArray (string s)) old new (octets b) put all (is_under types.ByteArray (string s) _ (ap (option_map octets) read))
 
-pub string_bytes_put : (old new s b : List ℕ) → bytes_in (string s) ≡ Some b → (IsUtf8 b → ⊥) → IsBytes b → IsTextPut (long b) old new → PutsValue (λ v. amqp.json v ≡ under types.LongString (string s)) old new
+pub string_bytes_put : (old new s b : List ℕ) → bytes_in (string s) ≡ Some b → (IsUtf8 b → ⊥) → IsBytes b → IsTextPut (long b) old new → PutsEncodingOf (λ v. amqp.json v ≡ under types.LongString (string s)) old new
 string_bytes_put old new s b read none all put =
     text_put (λ v. amqp.json v ≡ under types.LongString (string s)) old new (long b) put all (is_under types.LongString (string s) _ (long_is_read (string s) b read none))
 
-pub plain_first : (o : Option (Bor (List ℕ))) → IfSome o (λ k. type_named k.now ≡ None) → IsPlain no_entries (option_map (λ b. b.now) o)
+pub plain_first : (o : Option (Bor (List ℕ))) → IfSome o (λ k. type_named k.now ≡ None) → HasNoTypeName no_entries (option_map (λ b. b.now) o)
 plain_first None h = tt
 plain_first (Some k) h = h
 

@@ -17,7 +17,7 @@ use Rattle.amqp_json.specs.Names.{type_named}
 use Rattle.amqp_json.specs.Reading.{decimal_in, value_under, value_named, ambiguous_table, entries_of, values_of, value_of}
 use Rattle.amqp_json.proofs.Back.{read_back}
 use Rattle.amqp_json.proofs.Walks.{shown}
-use Rattle.amqp_json.specs.Tokens.{IsNoTable, IsOther, IsForm, IsReadError, IsValueRead, IsAfterItem, IsStop, IsObjectError}
+use Rattle.amqp_json.specs.Tokens.{IsOtherThanTable, IsOther, IsForm, IsReadError, IsValueRead, IsAfterItem, IsStop, IsObjectError}
 use Rattle.amqp_json.specs.declared.error.JsonError.{JsonError}
 use Rattle.amqp_json.specs.declared.error.JsonError.TheVariants.{OutOfMemory, Syntax, NotAValue}
 use Rattle.json.specs.Token.{Token}
@@ -183,7 +183,7 @@ item_error (NotAValue at) vs d all left rest none is after =
 
 abbrev pub IsOtherToken : AMQPType → Token → Type 0
 IsOtherToken type (Token.number s) = ⊥
-IsOtherToken type Token.begin_object = IsNoTable type
+IsOtherToken type Token.begin_object = IsOtherThanTable type
 IsOtherToken type t = Unit {0}
 
 -- no value begins with it
@@ -202,7 +202,7 @@ of_array : (type : AMQPType) (o : Option (Items × List Token)) (d : Data) (r : 
 of_array type None d r e = absurd (cc e)
 of_array type (Some p) d r e = subst (IsOther type) (same_data (array p.0) d p.1 r _ refl e) tt
 
-of_object : (type : AMQPType) (o : Option (Members × List Token)) (d : Data) (r : List Token) → IsNoTable type → parse_map object o ≡ Some (d, r) → IsOther type d
+of_object : (type : AMQPType) (o : Option (Members × List Token)) (d : Data) (r : List Token) → IsOtherThanTable type → parse_map object o ≡ Some (d, r) → IsOther type d
 of_object type None d r h e = absurd (cc e)
 of_object type (Some p) d r h e = subst (IsOther type) (same_data (object p.0) d p.1 r _ refl e) h
 
@@ -211,7 +211,7 @@ unfolding value
 begun_array type zero s r d e = absurd (cc e)
 begun_array type (suc n) s r d e = of_array type (converted of_items (items (value n) (length s) s)) d r (sym (converted-array (items (value n) (length s) s)) ∙ e)
 
-begun_object : (type : AMQPType) (depth : ℕ) (s r : List Token) (d : Data) → IsNoTable type → converted of_json (value depth (Token.begin_object ∷ s)) ≡ Some (d, r) → IsOther type d
+begun_object : (type : AMQPType) (depth : ℕ) (s r : List Token) (d : Data) → IsOtherThanTable type → converted of_json (value depth (Token.begin_object ∷ s)) ≡ Some (d, r) → IsOther type d
 unfolding value
 begun_object type zero s r d h e = absurd (cc e)
 begun_object type (suc n) s r d h e = of_object type (converted (λ ms. of_members ms no_members) (members (value n) (length s) s)) d r h (sym (converted-object (members (value n) (length s) s)) ∙ e)

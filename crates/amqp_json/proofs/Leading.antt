@@ -9,7 +9,7 @@ use Rattle.serde_json.specs.Read.{of_json, converted}
 use Rattle.amqp_value_core.specs.declared.types.field_table.FieldTable.{FieldTable}
 use Rattle.amqp_json.specs.declared.error.JsonError.{JsonError}
 use Rattle.amqp_json.specs.declared.error.JsonError.TheVariants.{OutOfMemory, Syntax, NotAValue}
-use Rattle.amqp_json.specs.Tokens.{LeadsTo, EndsIn, EndsNowhere, members_of, next_token, IsStop, IsTable, IsTableRead, IsTableError, IsObjectError, IsObjectOf, IsObjectRead}
+use Rattle.amqp_json.specs.Tokens.{MembersLeadTo, IsObjectOfMembers, EndsNowhere, members_of, next_token, IsStop, IsTableObject, IsTableRead, IsTableError, IsObjectError, IsObjectOf, IsObjectRead}
 use Rattle.amqp_json.specs.Json.{members_json, sole_type}
 use Rattle.amqp_json.specs.declared.direct.Object.{Object}
 use Rattle.amqp_json.specs.declared.direct.Object.TheVariants.{Table}
@@ -26,43 +26,43 @@ next_is ts None r e = read_key_is ts None r e
 next_is ts (Some k) r e = read_key_is ts (Some k) r e
 
 module _ (p : Parse json.Json) (old : Members) (ts : List Token) where
-  pub leads : LeadsTo p old ts old ts
+  pub leads : MembersLeadTo p old ts old ts
   leads = λ n enough. (n, enough, refl)
 
   module _ (now : Members) where
-    pub leads_as : (us vs : List Token) → LeadsTo p old ts now us → us ≡ vs → LeadsTo p old ts now vs
-    leads_as us vs so e = subst (LeadsTo p old ts now) e so
+    pub leads_as : (us vs : List Token) → MembersLeadTo p old ts now us → us ≡ vs → MembersLeadTo p old ts now vs
+    leads_as us vs so e = subst (MembersLeadTo p old ts now) e so
 
     -- past a member
-    pub past_member : (k : List ℕ) (s r : List Token) (d : Data) → LeadsTo p old ts now (key k ∷ s) → converted of_json (p s) ≡ Some (d, r) → length r < length s → LeadsTo p old ts (put k d now) r
+    pub past_member : (k : List ℕ) (s r : List Token) (d : Data) → MembersLeadTo p old ts now (key k ∷ s) → converted of_json (p s) ≡ Some (d, r) → length r < length s → MembersLeadTo p old ts (put k d now) r
     past_member k s r d so e less = λ n enough.
         let at = so n enough in
         let some = at.1 in
         (at.0 - 1, omega (arith, some, less), at.2 ∙ member_read p now at.0 k (key k ∷ s) s r d (omega (arith, some)) refl e)
 
     -- at the closing brace
-    pub over : (s : List Token) → LeadsTo p old ts now (end_object ∷ s) → EndsIn p old ts now s
+    pub over : (s : List Token) → MembersLeadTo p old ts now (end_object ∷ s) → IsObjectOfMembers p old ts now s
     over s so = λ n enough. let at = so n enough in at.2 ∙ members_over p now at.0 (end_object ∷ s) s at.1 refl
 
-    pub no_member : (k : List ℕ) (s : List Token) → LeadsTo p old ts now (key k ∷ s) → converted of_json (p s) ≡ None → EndsNowhere p old ts
+    pub no_member : (k : List ℕ) (s : List Token) → MembersLeadTo p old ts now (key k ∷ s) → converted of_json (p s) ≡ None → EndsNowhere p old ts
     no_member k s so e = λ n enough. let at = so n enough in at.2 ∙ member_refused p now at.0 k (key k ∷ s) s refl e
 
-    pub no_key : (s : List Token) → LeadsTo p old ts now s → read_key s ≡ None → EndsNowhere p old ts
+    pub no_key : (s : List Token) → MembersLeadTo p old ts now s → read_key s ≡ None → EndsNowhere p old ts
     no_key s so e = λ n enough. let at = so n enough in at.2 ∙ key_refused p now at.0 s e
 
     -- what is so from there on
-    pub ends_on : (us : List Token) (found : Members) (rest : List Token) → LeadsTo p old ts now us → EndsIn p now us found rest → EndsIn p old ts found rest
+    pub ends_on : (us : List Token) (found : Members) (rest : List Token) → MembersLeadTo p old ts now us → IsObjectOfMembers p now us found rest → IsObjectOfMembers p old ts found rest
     ends_on us found rest so e = λ n enough. let at = so n enough in at.2 ∙ e at.0 at.1
 
-    pub nowhere_on : (us : List Token) → LeadsTo p old ts now us → EndsNowhere p now us → EndsNowhere p old ts
+    pub nowhere_on : (us : List Token) → MembersLeadTo p old ts now us → EndsNowhere p now us → EndsNowhere p old ts
     nowhere_on us so e = λ n enough. let at = so n enough in at.2 ∙ e at.0 at.1
 
-    pub error_on : (e : JsonError) (us rest : List Token) → LeadsTo p old ts now us → IsTableError e p now us rest → IsTableError e p old ts rest
+    pub error_on : (e : JsonError) (us rest : List Token) → MembersLeadTo p old ts now us → IsTableError e p now us rest → IsTableError e p old ts rest
     error_on OutOfMemory us rest so is = is
     error_on (Syntax at) us rest so is = nowhere_on us so is
     error_on (NotAValue at) us rest so is = (is.0, ends_on us is.0 rest so is.1, is.2, is.3)
 
-    pub table_on : (r : Result (Unit {0}) JsonError) (t : FieldTable) (us rest : List Token) → LeadsTo p old ts now us → IsTableRead r t p now us rest → IsTableRead r t p old ts rest
+    pub table_on : (r : Result (Unit {0}) JsonError) (t : FieldTable) (us rest : List Token) → MembersLeadTo p old ts now us → IsTableRead r t p now us rest → IsTableRead r t p old ts rest
     table_on (Ok _) t us rest so is = (ends_on us _ rest so is.0, is.1, is.2)
     table_on (Err e) t us rest so is = error_on e us rest so is
 
@@ -92,7 +92,7 @@ was_put A B (Some x) is e = absurd (cc e)
 pub was_bad : {X : Type 0} (A : Type 0) (B : X → Type 0) (o : Option X) (x : X) → MatchOption o A B → o ≡ Some x → B x
 was_bad {X} A B o x is e = subst (λ (p : Option X). MatchOption p A B) e is
 
-pub sole_of_table : (ms : Members) → IsTable ms → sole_type ms ≡ None
+pub sole_of_table : (ms : Members) → IsTableObject ms → sole_type ms ≡ None
 sole_of_table no_members is = absurd is
 sole_of_table (member k d ms) is = is
 

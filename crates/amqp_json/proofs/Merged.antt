@@ -12,7 +12,7 @@ use Rattle.amqp_json.specs.Reading.{value_of, with_entry, entries_of}
 use Rattle.amqp_json.specs.InMemory.{EntriesStored}
 use Rattle.amqp_json.specs.Json.{members_json}
 use Rattle.amqp_json.specs.Names.{type_named}
-use Rattle.amqp_json.specs.Tokens.{IsTable, IsNoEntry, BecomesTable}
+use Rattle.amqp_json.specs.Tokens.{IsTableObject, IsNoEntry, BecomesTable}
 
 abbrev by : List ℕ → List ℕ → Ordering
 by k l = slice_cmp nat_cmp k l
@@ -117,9 +117,9 @@ abbrev Before : List ℕ → Members → Type 0
 Before k no_members = Unit {0}
 Before k (member l e bs) = by k l ≡ Less
 
-abbrev pub Rising : Members → Type 0
-Rising no_members = Unit {0}
-Rising (member k d bs) = Before k bs × Rising bs
+abbrev pub AreMembersRising : Members → Type 0
+AreMembersRising no_members = Unit {0}
+AreMembersRising (member k d bs) = Before k bs × AreMembersRising bs
 
 before_put : (j k : List ℕ) (d : Data) (bs : Members) → by j k ≡ Less → Before j bs → Before j (put k d bs)
 before_put j k d no_members first before = first
@@ -130,11 +130,11 @@ before_put j k d (member l e bs) first before = so (by k l)
     so Equal = before
     so Greater = before
 
-pub rising_put : (k : List ℕ) (d : Data) (bs : Members) → Rising bs → Rising (put k d bs)
+pub rising_put : (k : List ℕ) (d : Data) (bs : Members) → AreMembersRising bs → AreMembersRising (put k d bs)
 rising_put k d no_members rises = (tt, tt)
 rising_put k d (member l e bs) rises = so (by k l) refl (rising_put k d bs rises.1)
   where
-    so : (o : Ordering) → by k l ≡ o → Rising (put k d bs) → Rising (match_ordering o (member k d (member l e bs)) (member l d bs) (member l e (put k d bs)))
+    so : (o : Ordering) → by k l ≡ o → AreMembersRising (put k d bs) → AreMembersRising (match_ordering o (member k d (member l e bs)) (member l d bs) (member l e (put k d bs)))
     so Less is inner = (is, rises)
     so Equal is inner = rises
     so Greater is inner = (before_put l k d bs (lesser l k is) rises.0, inner)
@@ -144,11 +144,11 @@ abbrev pub without : List ℕ → Members → Members
 without k no_members = no_members
 without k (member l e bs) = cond (is_eq (by k l)) bs (member l e (without k bs))
 
-before_all : (k : List ℕ) (bs : Members) → Before k bs → Rising bs → (j : List ℕ) → by j k ≡ Less → Before j bs
+before_all : (k : List ℕ) (bs : Members) → Before k bs → AreMembersRising bs → (j : List ℕ) → by j k ≡ Less → Before j bs
 before_all k no_members before rises j less = tt
 before_all k (member l e bs) before rises j less = nat_list_cmp_total.trans j k l less before
 
-before_without : (j k : List ℕ) (bs : Members) → Rising bs → Before j bs → Before j (without k bs)
+before_without : (j k : List ℕ) (bs : Members) → AreMembersRising bs → Before j bs → Before j (without k bs)
 before_without j k no_members rises before = tt
 before_without j k (member l e bs) rises before = so (is_eq (by k l))
   where
@@ -156,22 +156,22 @@ before_without j k (member l e bs) rises before = so (is_eq (by k l))
     so true = before_all l bs rises.0 rises.1 j before
     so false = before
 
-pub rising_without : (k : List ℕ) (bs : Members) → Rising bs → Rising (without k bs)
+pub rising_without : (k : List ℕ) (bs : Members) → AreMembersRising bs → AreMembersRising (without k bs)
 rising_without k no_members rises = tt
 rising_without k (member l e bs) rises = so (is_eq (by k l)) (rising_without k bs rises.1)
   where
-    so : (b : Bool) → Rising (without k bs) → Rising (cond b bs (member l e (without k bs)))
+    so : (b : Bool) → AreMembersRising (without k bs) → AreMembersRising (cond b bs (member l e (without k bs)))
     so true inner = rises.1
     so false inner = (before_without l k bs rises.1 rises.0, inner)
 
 -- a member whose key comes before all is put before or after them
-past : (k : List ℕ) (d : Data) (bs ms : Members) → Before k bs → Rising bs → merge bs (put k d ms) ≡ put k d (merge bs ms)
+past : (k : List ℕ) (d : Data) (bs ms : Members) → Before k bs → AreMembersRising bs → merge bs (put k d ms) ≡ put k d (merge bs ms)
 past k d no_members ms before rises = refl
 past k d (member l e bs) ms before rises =
     ap (put l e) (past k d bs ms (before_all l bs rises.0 rises.1 k before) rises.1) ∙ sym (put_either k l d e (merge bs ms) Less before less_other)
 
 -- a member that replaces one of them
-pub merge_without : (k : List ℕ) (d : Data) (bs ms : Members) → Rising bs → merge (without k bs) (put k d ms) ≡ put k d (merge bs ms)
+pub merge_without : (k : List ℕ) (d : Data) (bs ms : Members) → AreMembersRising bs → merge (without k bs) (put k d ms) ≡ put k d (merge bs ms)
 merge_without k d no_members ms rises = refl
 merge_without k d (member l e bs) ms rises = so (by k l) refl (merge_without k d bs ms rises.1)
   where
@@ -226,24 +226,24 @@ no_entry k d (member l e ms) none = so (by k l) refl (no_entry k d ms none)
 
 -- ---- the map that has their keys
 
-abbrev pub HasKeys : List (Bor (List ℕ) × ℕ) → Members → Type 0
-HasKeys [] no_members = Unit {0}
-HasKeys (e ∷ es) (member k d bs) = (e.0.now ≡ k) × HasKeys es bs
-HasKeys _ _ = ⊥
+abbrev pub AreKeysOf : List (Bor (List ℕ) × ℕ) → Members → Type 0
+AreKeysOf [] no_members = Unit {0}
+AreKeysOf (e ∷ es) (member k d bs) = (e.0.now ≡ k) × AreKeysOf es bs
+AreKeysOf _ _ = ⊥
 
 abbrev pub by_bytes : Bor (List ℕ) → Bor (List ℕ) → Ordering
 by_bytes x y = slice_cmp nat_cmp x.now y.now
 
-pub keys_put : (es : List (Bor (List ℕ) × ℕ)) (bs : Members) (x : Bor (List ℕ)) (at : ℕ) (d : Data) → HasKeys es bs → HasKeys (insert_entry by_bytes es x at) (put x.now d bs)
+pub keys_put : (es : List (Bor (List ℕ) × ℕ)) (bs : Members) (x : Bor (List ℕ)) (at : ℕ) (d : Data) → AreKeysOf es bs → AreKeysOf (insert_entry by_bytes es x at) (put x.now d bs)
 keys_put [] no_members x at d are = (refl, tt)
 keys_put [] (member k e bs) x at d are = absurd are
 keys_put (e ∷ es) no_members x at d are = absurd are
 keys_put (e ∷ es) (member k f bs) x at d are =
-    subst (λ (o : Ordering). HasKeys (match_ordering (by_bytes x e.0) ((x, at) ∷ e ∷ es) ((e.0, at) ∷ es) (e ∷ insert_entry by_bytes es x at)) (match_ordering o (member x.now d (member k f bs)) (member k d bs) (member k f (put x.now d bs))))
+    subst (λ (o : Ordering). AreKeysOf (match_ordering (by_bytes x e.0) ((x, at) ∷ e ∷ es) ((e.0, at) ∷ es) (e ∷ insert_entry by_bytes es x at)) (match_ordering o (member x.now d (member k f bs)) (member k d bs) (member k f (put x.now d bs))))
     (ap (slice_cmp nat_cmp x.now) are.0) (so (by_bytes x e.0) (keys_put es bs x at d are.1))
   where
-    so : (o : Ordering) → HasKeys (insert_entry by_bytes es x at) (put x.now d bs)
-        → HasKeys (match_ordering o ((x, at) ∷ e ∷ es) ((e.0, at) ∷ es) (e ∷ insert_entry by_bytes es x at)) (match_ordering o (member x.now d (member k f bs)) (member k d bs) (member k f (put x.now d bs)))
+    so : (o : Ordering) → AreKeysOf (insert_entry by_bytes es x at) (put x.now d bs)
+        → AreKeysOf (match_ordering o ((x, at) ∷ e ∷ es) ((e.0, at) ∷ es) (e ∷ insert_entry by_bytes es x at)) (match_ordering o (member x.now d (member k f bs)) (member k d bs) (member k f (put x.now d bs)))
     so Less later = (refl, are)
     so Equal later = are
     so Greater later = (are.0, later)
@@ -251,24 +251,24 @@ keys_put (e ∷ es) (member k f bs) x at d are =
 abbrev pub at_key : List ℕ → Bor (List ℕ) → Bool
 at_key k x = is_eq (slice_cmp nat_cmp k x.now)
 
-pub keys_without : (k : List ℕ) (es : List (Bor (List ℕ) × ℕ)) (bs : Members) → HasKeys es bs → HasKeys (remove_entry (at_key k) es) (without k bs)
+pub keys_without : (k : List ℕ) (es : List (Bor (List ℕ) × ℕ)) (bs : Members) → AreKeysOf es bs → AreKeysOf (remove_entry (at_key k) es) (without k bs)
 keys_without k [] no_members are = tt
 keys_without k [] (member l e bs) are = absurd are
 keys_without k (e ∷ es) no_members are = absurd are
 keys_without k (e ∷ es) (member l f bs) are =
-    subst (λ (b : Bool). HasKeys (cond (at_key k e.0) es (e ∷ remove_entry (at_key k) es)) (cond b bs (member l f (without k bs))))
+    subst (λ (b : Bool). AreKeysOf (cond (at_key k e.0) es (e ∷ remove_entry (at_key k) es)) (cond b bs (member l f (without k bs))))
     (ap (λ (j : List ℕ). is_eq (slice_cmp nat_cmp k j)) are.0) (so (at_key k e.0) (keys_without k es bs are.1))
   where
-    so : (b : Bool) → HasKeys (remove_entry (at_key k) es) (without k bs) → HasKeys (cond b es (e ∷ remove_entry (at_key k) es)) (cond b bs (member l f (without k bs)))
+    so : (b : Bool) → AreKeysOf (remove_entry (at_key k) es) (without k bs) → AreKeysOf (cond b es (e ∷ remove_entry (at_key k) es)) (cond b bs (member l f (without k bs)))
     so true later = are.1
     so false later = (are.0, later)
 
-pub no_keys : (es : List (Bor (List ℕ) × ℕ)) (bs : Members) → HasKeys es bs → es ≡ [] → bs ≡ no_members
+pub no_keys : (es : List (Bor (List ℕ) × ℕ)) (bs : Members) → AreKeysOf es bs → es ≡ [] → bs ≡ no_members
 no_keys [] no_members are none = refl
 no_keys [] (member k d bs) are none = absurd are
 no_keys (e ∷ es) bs are none = absurd (cc none)
 
-pub some_keys : (es : List (Bor (List ℕ) × ℕ)) (bs ms : Members) → HasKeys es bs → es ≢ [] → AreNoEntries bs → entries_of (merge bs ms) ≡ None
+pub some_keys : (es : List (Bor (List ℕ) × ℕ)) (bs ms : Members) → AreKeysOf es bs → es ≢ [] → AreNoEntries bs → entries_of (merge bs ms) ≡ None
 some_keys [] bs ms are some all = absurd (some refl)
 some_keys (e ∷ es) no_members ms are some all = absurd are
 some_keys (e ∷ es) (member k d bs) ms are some all = no_entry k d (merge bs ms) all.0
@@ -276,18 +276,18 @@ some_keys (e ∷ es) (member k d bs) ms are some all = no_entry k d (merge bs ms
 -- ---- tables
 
 -- with one more member, the name of a type is no more the only key
-pub still_table : (k : List ℕ) (d : Data) (ms : Members) → IsTable ms → IsTable (put k d ms)
+pub still_table : (k : List ℕ) (d : Data) (ms : Members) → IsTableObject ms → IsTableObject (put k d ms)
 still_table k d no_members is = absurd is
 still_table k d (member l e no_members) is = so (by k l)
   where
-    so : (o : Ordering) → IsTable (match_ordering o (member k d (member l e no_members)) (member l d no_members) (member l e (member k d no_members)))
+    so : (o : Ordering) → IsTableObject (match_ordering o (member k d (member l e no_members)) (member l d no_members) (member l e (member k d no_members)))
     so Less = refl
     so Equal = is
     so Greater = refl
 still_table k d (member l e (member m f ms)) is = so (by k l) (by k m)
   where
     so : (o p : Ordering)
-        → IsTable (match_ordering o (member k d (member l e (member m f ms))) (member l d (member m f ms)) (member l e (match_ordering p (member k d (member m f ms)) (member m d ms) (member m f (put k d ms)))))
+        → IsTableObject (match_ordering o (member k d (member l e (member m f ms))) (member l d (member m f ms)) (member l e (match_ordering p (member k d (member m f ms)) (member m d ms) (member m f (put k d ms)))))
     so Less p = refl
     so Equal p = refl
     so Greater Less = refl
@@ -295,7 +295,7 @@ still_table k d (member l e (member m f ms)) is = so (by k l) (by k m)
     so Greater Greater = refl
 
 -- a table remains one
-pub becomes : (k : Option (List ℕ)) (ms : Members) → IsTable ms → BecomesTable k ms
+pub becomes : (k : Option (List ℕ)) (ms : Members) → IsTableObject ms → BecomesTable k ms
 becomes None ms is = is
 becomes (Some k) ms is = λ d. still_table k d ms is
 
@@ -307,7 +307,7 @@ first_of_table k none d = none
 pub second_of_table : (k j : List ℕ) (d : Data) → k ≢ j → BecomesTable (Some k) (member j d no_members)
 second_of_table k j d other e = so (by k j) refl
   where
-    so : (o : Ordering) → by k j ≡ o → IsTable (match_ordering o (member k e (member j d no_members)) (member j e no_members) (member j d (member k e no_members)))
+    so : (o : Ordering) → by k j ≡ o → IsTableObject (match_ordering o (member k e (member j d no_members)) (member j e no_members) (member j d (member k e no_members)))
     so Less is = refl
     so Equal is = absurd (other (equal_keys k j is))
     so Greater is = refl
@@ -327,18 +327,18 @@ no_value_entry k d none es = ap (λ (o : Option Tree). with_entry k o es) none �
 
 pub rest_step : (S : Type 0) (o : Option ℕ) (k : Bor (List ℕ)) (d : Data) (es fs : List (Bor (List ℕ) × ℕ)) (bs : Members) (old new : Entries)
     → MatchOption o ((members_json new ≡ put k.now d (members_json old)) × S) (λ _. IsNoEntry k.now d × (new ≡ old))
-    → MatchOption o (fs ≡ remove_entry (at_key k.now) es) (λ at. fs ≡ insert_entry by_bytes es k at) → HasKeys es bs → AreNoEntries bs → Rising bs
-    → (cs : Members) × HasKeys fs cs × AreNoEntries cs × Rising cs × (merge cs (members_json new) ≡ put k.now d (merge bs (members_json old)))
+    → MatchOption o (fs ≡ remove_entry (at_key k.now) es) (λ at. fs ≡ insert_entry by_bytes es k at) → AreKeysOf es bs → AreNoEntries bs → AreMembersRising bs
+    → (cs : Members) × AreKeysOf fs cs × AreNoEntries cs × AreMembersRising cs × (merge cs (members_json new) ≡ put k.now d (merge bs (members_json old)))
 rest_step S None k d es fs bs old new is map keys all rises = (
   without k.now bs,
-  subst (λ (gs : List (Bor (List ℕ) × ℕ)). HasKeys gs (without k.now bs)) (sym map) (keys_without k.now es bs keys),
+  subst (λ (gs : List (Bor (List ℕ) × ℕ)). AreKeysOf gs (without k.now bs)) (sym map) (keys_without k.now es bs keys),
   no_entries_without k.now bs all,
   rising_without k.now bs rises,
   ap (merge (without k.now bs)) is.0 ∙ merge_without k.now d bs (members_json old) rises,
 )
 rest_step S (Some at) k d es fs bs old new is map keys all rises = (
   put k.now d bs,
-  subst (λ (gs : List (Bor (List ℕ) × ℕ)). HasKeys gs (put k.now d bs)) (sym map) (keys_put es bs k at d keys),
+  subst (λ (gs : List (Bor (List ℕ) × ℕ)). AreKeysOf gs (put k.now d bs)) (sym map) (keys_put es bs k at d keys),
   no_entries_put k.now d bs is.0 all,
   rising_put k.now d bs rises,
   ap (λ (x : Entries). merge (put k.now d bs) (members_json x)) is.1 ∙ merge_put k.now d bs (members_json old),

@@ -14,7 +14,7 @@ use Rattle.json.proofs.Printed.Tokens.{print_from_push, print_from-append, ends_
 use Rattle.amqp_value_core.specs.declared.types.amqp_type.AMQPType.{AMQPType}
 use Rattle.amqp_value_core.specs.Names.{name_of}
 use Rattle.amqp_json.specs.declared.buffer.place.Place.{Place}
-use Rattle.amqp_json.specs.Puts.{Begins, Puts, IsPrinted, PutsTokens}
+use Rattle.amqp_json.specs.Puts.{Begins, Puts, AreTokensPrinted, PutsTokens}
 
 pub puts_none : (buffer : List ℕ) (at : ℕ) → Puts buffer at buffer at []
 puts_none buffer at = λ start t h. subst (λ (u : List ℕ). Begins start buffer at u) (sym (append-nil t)) h
@@ -23,7 +23,7 @@ pub puts_more : (a b c : List ℕ) (i j k : ℕ) (xs ys : List ℕ) → Puts a i
 puts_more a b c i j k xs ys p q = λ start t h. subst (λ (u : List ℕ). Begins start c k u) (append_assoc t xs ys) (q start (t ++ xs) (p start t h))
 
 pub tokens_more : (a b c : List ℕ) (p q r : Place) (us vs : List Token) → PutsTokens a p b q us → PutsTokens b q c r vs → PutsTokens a p c r (us ++ vs)
-tokens_more a b c p q r us vs x y = λ start ts h. subst (λ (ws : List Token). IsPrinted start c r ws) (append_assoc ts us vs) (y start (ts ++ us) (x start ts h))
+tokens_more a b c p q r us vs x y = λ start ts h. subst (λ (ws : List Token). AreTokensPrinted start c r ws) (append_assoc ts us vs) (y start (ts ++ us) (x start ts h))
 
 pub token_put : (a b c : List ℕ) (p r : Place) (at : ℕ) (t : Token) → Puts a p.count b at (separator p.after_value t) → Puts b at c r.count (token_text t) → r.after_value ≡ ends t → PutsTokens a p c r (t ∷ [])
 token_put a b c p r at t x y e = λ start ts h.

@@ -45,10 +45,10 @@ members_over now target left (entry k v es) s step e = absurd step
 -- ---- keys
 
 -- the keys ascend if those that are left do, above the previous one
-abbrev pub Rising : List ℕ → List ℕ → List ℕ → Type 0
-Rising all left j = (ps : Entries) → TableBody all ps → (qs : Entries) × TableBody left qs × (ComesBefore j qs → IsRising qs → IsRising ps) × (IsRising ps → ComesBefore j qs × IsRising qs)
+abbrev pub RisesIfRest : List ℕ → List ℕ → List ℕ → Type 0
+RisesIfRest all left j = (ps : Entries) → TableBody all ps → (qs : Entries) × TableBody left qs × (ComesBefore j qs → IsRising qs → IsRising ps) × (IsRising ps → ComesBefore j qs × IsRising qs)
 
-pub rising_first : (all left : List ℕ) (x : Bor (List ℕ) × ValueRef) (j : List ℕ) → j ≡ x.0.now → ((ps : Entries) → TableBody all ps → PairStep ps (Some x) left) → Rising all left j
+pub rising_first : (all left : List ℕ) (x : Bor (List ℕ) × ValueRef) (j : List ℕ) → j ≡ x.0.now → ((ps : Entries) → TableBody all ps → PairStep ps (Some x) left) → RisesIfRest all left j
 rising_first all left x j same step = λ ps p. by ps (step ps p)
   where
     by : (ps : Entries) → PairStep ps (Some x) left → (qs : Entries) × TableBody left qs × (ComesBefore j qs → IsRising qs → IsRising ps) × (IsRising ps → ComesBefore j qs × IsRising qs)
@@ -61,8 +61,8 @@ rising_first all left x j same step = λ ps p. by ps (step ps p)
           λ rises. (subst (λ (t : List ℕ). ComesBefore t qs) (sym is) rises.0, rises.1),
         )
 
-pub rising_next : (all left less : List ℕ) (i j : List ℕ) (x : Bor (List ℕ) × ValueRef) → Rising all left i → j ≡ x.0.now → slice_cmp nat_cmp i j ≡ Less
-    → ((qs : Entries) → TableBody left qs → PairStep qs (Some x) less) → Rising all less j
+pub rising_next : (all left less : List ℕ) (i j : List ℕ) (x : Bor (List ℕ) × ValueRef) → RisesIfRest all left i → j ≡ x.0.now → slice_cmp nat_cmp i j ≡ Less
+    → ((qs : Entries) → TableBody left qs → PairStep qs (Some x) less) → RisesIfRest all less j
 rising_next all left less i j x so same above step = λ ps p. let at = so ps p in by ps at.0 (step at.0 at.1) at.2 at.3
   where
     by : (ps qs : Entries) → PairStep qs (Some x) less → (ComesBefore i qs → IsRising qs → IsRising ps) → (IsRising ps → ComesBefore i qs × IsRising qs)
@@ -76,7 +76,7 @@ rising_next all left less i j x so same above step = λ ps p. let at = so ps p i
           λ rises. let at = (g rises).1 in (subst (λ (t : List ℕ). ComesBefore t rs) (sym is) at.0, at.1),
         )
 
-pub rising_over : (all left less j : List ℕ) → Rising all left j → ((qs : Entries) → TableBody left qs → PairStep qs None less) → (ps : Entries) → TableBody all ps → IsRising ps
+pub rising_over : (all left less j : List ℕ) → RisesIfRest all left j → ((qs : Entries) → TableBody left qs → PairStep qs None less) → (ps : Entries) → TableBody all ps → IsRising ps
 rising_over all left less j so step ps p = let at = so ps p in at.2 (by at.0 (step at.0 at.1)).0 (by at.0 (step at.0 at.1)).1
   where
     by : (qs : Entries) → PairStep qs None less → ComesBefore j qs × IsRising qs
@@ -84,7 +84,7 @@ rising_over all left less j so step ps p = let at = so ps p in at.2 (by at.0 (st
     by (entry k v rs) given = absurd given
 
 -- a key that isn't above the previous one
-pub falls : (all left less : List ℕ) (i j : List ℕ) (x : Bor (List ℕ) × ValueRef) → Rising all left i → j ≡ x.0.now → (slice_cmp nat_cmp i j ≡ Less → ⊥)
+pub falls : (all left less : List ℕ) (i j : List ℕ) (x : Bor (List ℕ) × ValueRef) → RisesIfRest all left i → j ≡ x.0.now → (slice_cmp nat_cmp i j ≡ Less → ⊥)
     → ((qs : Entries) → TableBody left qs → PairStep qs (Some x) less) → (ps : Entries) → TableBody all ps → IsRising ps → ⊥
 falls all left less i j x so same not step ps p rises = let at = so ps p in by at.0 (step at.0 at.1) (at.3 rises).0
   where

@@ -75,8 +75,8 @@ abbrev pub SortsInMemory : ValueRef → List ℕ → List ℕ → Result ℕ Wri
 SortsInMemory view old new r =
     (l : Limits) (s rest : List ℕ) → IsViewOfRead l s view rest → NeedsMemory l s → MatchResult r (λ n. IsSortedWritten l s old new n rest) (IsNotSorted l s (length old))
 
--- the text of the value has that count, and is written if it has no more bytes than there is room
--- for, nor than the buffer
+-- the text of the value has that count, and is written if it has at most as many bytes as the
+-- capacity and the buffer
 abbrev pub IsTried : ℕ → ValueRef → List ℕ → List ℕ → ℕ → Type 0
-IsTried room view old new n =
-    (v : Tree) → Denotes view v → (n ≡ counted (compact_text (json v))) × (n ≤ room → n ≤ length old → new ≡ compact_text (json v) ++ drop n old)
+IsTried capacity view old new n =
+    (v : Tree) → Denotes view v → (n ≡ counted (compact_text (json v))) × (n ≤ capacity → n ≤ length old → new ≡ compact_text (json v) ++ drop n old)

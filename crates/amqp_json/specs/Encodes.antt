@@ -24,8 +24,8 @@ pub record IsTextPut (v : Tree) (old new : List ℕ) : Type 0 where
   pub readable : IsTrue (readable v)
 
 -- an encoding of a value is put after the bytes that were there, and P is so of the value
-abbrev pub PutsValue : (Tree → Type 0) → List ℕ → List ℕ → Type 0
-PutsValue P old new = (w : List ℕ) × (v : Tree) × (new ≡ old ++ w) × Wire w v × IsStored v × P v
+abbrev pub PutsEncodingOf : (Tree → Type 0) → List ℕ → List ℕ → Type 0
+PutsEncodingOf P old new = (w : List ℕ) × (v : Tree) × (new ≡ old ++ w) × Wire w v × IsStored v × P v
 
 -- the values of an array's body are, and P is so of these
 abbrev pub PutsValues : (Trees → Type 0) → List ℕ → List ℕ → Type 0
@@ -41,8 +41,8 @@ IsFieldRead n name ts rest = (us : List Token) × (read_key ts ≡ Some (Some na
 
 -- a table of these entries is read from the members that follow a key, and no name of a type is its
 -- only key
-abbrev pub IsTableRead : Entries → Parse Json → Option (List ℕ) → List Token → List Token → Type 0
-IsTableRead es value first after rest =
+abbrev pub AreEntriesRead : Entries → Parse Json → Option (List ℕ) → List Token → List Token → Type 0
+AreEntriesRead es value first after rest =
     ((ts : List Token) (n : ℕ) → read_key ts ≡ Some (first, after) → length ts ≤ n
     → converted (λ ms. of_members ms no_members) (members value n ts) ≡ Some (members_json es, rest))
     × (sole_type (members_json es) ≡ None)

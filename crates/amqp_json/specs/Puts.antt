@@ -23,13 +23,13 @@ abbrev pub Puts : List ℕ → ℕ → List ℕ → ℕ → List ℕ → Type 0
 Puts old at new end bytes = (start t : List ℕ) → Begins start old at t → Begins start new end (t ++ bytes)
 
 -- the buffer begins with the text of these tokens
-pub record IsPrinted (start buffer : List ℕ) (place : Place) (ts : List Token) : Type 0 where
+pub record AreTokensPrinted (start buffer : List ℕ) (place : Place) (ts : List Token) : Type 0 where
   pub text : Begins start buffer place.count (print ts)
   pub after : place.after_value ≡ ends_value ts
 
 -- tokens are put after those that were there
 abbrev pub PutsTokens : List ℕ → Place → List ℕ → Place → List Token → Type 0
-PutsTokens old place new end us = (start : List ℕ) (ts : List Token) → IsPrinted start old place ts → IsPrinted start new end (ts ++ us)
+PutsTokens old place new end us = (start : List ℕ) (ts : List Token) → AreTokensPrinted start old place ts → AreTokensPrinted start new end (ts ++ us)
 
 -- the tokens of a JSON value are put after those that were there
 abbrev pub PutsJson : List ℕ → Place → List ℕ → Place → Data → Type 0

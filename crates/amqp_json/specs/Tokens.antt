@@ -53,8 +53,8 @@ members_of value n old ts = converted (λ ms. of_members ms old) (members value 
 
 -- with the members at the start of ts after `old`, an object has the members `found`, and `rest`
 -- follows
-abbrev pub EndsIn : Parse Json → Members → List Token → Members → List Token → Type 0
-EndsIn value old ts found rest = (n : ℕ) → length ts ≤ n → members_of value n old ts ≡ Some (found, rest)
+abbrev pub IsObjectOfMembers : Parse Json → Members → List Token → Members → List Token → Type 0
+IsObjectOfMembers value old ts found rest = (n : ℕ) → length ts ≤ n → members_of value n old ts ≡ Some (found, rest)
 
 -- with the members at the start of ts there is no object
 abbrev pub EndsNowhere : Parse Json → Members → List Token → Type 0
@@ -62,14 +62,14 @@ EndsNowhere value old ts = (n : ℕ) → length ts ≤ n → members_of value n 
 
 -- with the members at the start of ts after `old`, an object has those that it has with the ones at the
 -- start of us after `now`
-abbrev pub LeadsTo : Parse Json → Members → List Token → Members → List Token → Type 0
-LeadsTo value old ts now us =
+abbrev pub MembersLeadTo : Parse Json → Members → List Token → Members → List Token → Type 0
+MembersLeadTo value old ts now us =
     (n : ℕ) → length ts ≤ n → (m : ℕ) × (length us ≤ m) × (members_of value n old ts ≡ members_of value m now us)
 
 -- there is a member, and no name of a type is the only key
-abbrev pub IsTable : Members → Type 0
-IsTable no_members = ⊥
-IsTable (member k d ms) = sole_type (member k d ms) ≡ None
+abbrev pub IsTableObject : Members → Type 0
+IsTableObject no_members = ⊥
+IsTableObject (member k d ms) = sole_type (member k d ms) ≡ None
 
 -- it isn't that of an entry of a table
 abbrev pub IsNoEntry : List ℕ → Data → Type 0
@@ -99,14 +99,14 @@ IsFormsRead type r f read rest = MatchResult r (λ _. (d : Data) × (read ≡ So
 abbrev pub IsValueRead : Result AMQPValue JsonError → Option (Data × List Token) → List Token → Type 0
 IsValueRead r read rest = MatchResult r (λ v. (read ≡ Some (json (view v), rest)) × IsStored (view v)) (λ e. IsReadError e read rest)
 
-abbrev pub IsNoTable : AMQPType → Type 0
-IsNoTable amqp.FieldTable = ⊥
-IsNoTable type = Unit {0}
+abbrev pub IsOtherThanTable : AMQPType → Type 0
+IsOtherThanTable amqp.FieldTable = ⊥
+IsOtherThanTable type = Unit {0}
 
 -- JSON whose form under the name of a type is the value of its own, converted
 abbrev pub IsOther : AMQPType → Data → Type 0
 IsOther type (number n) = ⊥
-IsOther type (object ms) = IsNoTable type
+IsOther type (object ms) = IsOtherThanTable type
 IsOther type d = Unit {0}
 
 -- a number without a type's name
@@ -137,17 +137,17 @@ next_token (Some k) = key k
 
 -- with the next key, if there is one, no name of a type is the only key
 abbrev pub BecomesTable : Option (List ℕ) → Members → Type 0
-BecomesTable None ms = IsTable ms
-BecomesTable (Some k) ms = (d : Data) → IsTable (put k d ms)
+BecomesTable None ms = IsTableObject ms
+BecomesTable (Some k) ms = (d : Data) → IsTableObject (put k d ms)
 
 -- the table of these members is read
 abbrev pub IsTableEnd : Parse Json → Members → List Token → FieldTable → List Token → Type 0
-IsTableEnd value old ts t rest = EndsIn value old ts (members_json (table_view t)) rest × EntriesStored (table_view t) × IsTable (members_json (table_view t))
+IsTableEnd value old ts t rest = IsObjectOfMembers value old ts (members_json (table_view t)) rest × EntriesStored (table_view t) × IsTableObject (members_json (table_view t))
 
 abbrev pub IsTableError : JsonError → Parse Json → Members → List Token → List Token → Type 0
 IsTableError OutOfMemory value old ts rest = Unit {0}
 IsTableError (Syntax at) value old ts rest = EndsNowhere value old ts
-IsTableError (NotAValue at) value old ts rest = (ms : Members) × EndsIn value old ts ms rest × IsTable ms × (entries_of ms ≡ None)
+IsTableError (NotAValue at) value old ts rest = (ms : Members) × IsObjectOfMembers value old ts ms rest × IsTableObject ms × (entries_of ms ≡ None)
 
 abbrev pub IsTableRead : Result (Unit {0}) JsonError → FieldTable → Parse Json → Members → List Token → List Token → Type 0
 IsTableRead r t value old ts rest = MatchResult r (λ _. IsTableEnd value old ts t rest) (λ e. IsTableError e value old ts rest)
@@ -155,7 +155,7 @@ IsTableRead r t value old ts rest = MatchResult r (λ _. IsTableEnd value old ts
 -- a member that isn't that of an entry comes after those of the table
 abbrev pub IsBadMember : Parse Json → Members → List Token → FieldTable → List ℕ → List Token → Type 0
 IsBadMember value old ts t k rest =
-    (d : Data) × IsNoEntry k d × IsTable (put k d (members_json (table_view t))) × LeadsTo value old ts (put k d (members_json (table_view t))) rest
+    (d : Data) × IsNoEntry k d × IsTableObject (put k d (members_json (table_view t))) × MembersLeadTo value old ts (put k d (members_json (table_view t))) rest
 
 -- all members are those of the table, or there is one that isn't
 abbrev pub IsMembersRead : Result (Option (Bor (List ℕ) × ℕ)) JsonError → FieldTable → Parse Json → Members → List Token → List Token → Type 0

@@ -113,7 +113,7 @@ fn write_whole_value(buffer: &mut [u8], value: ValueRef<'_>) -> Result<usize, Wr
 
 /// Writes the JSON text as `write_whole_json` does, also if the keys of a table don't ascend.
 ///
-/// Then room for the text is allocated, and for such a table a map of its keys; `NeedsMemory` means
+/// Then memory for the text is allocated, and for such a table a map of its keys; `NeedsMemory` means
 /// that memory ran out. By measurements it uses stack for at most `limits.depth` levels;
 /// docs/PROMISES.md has what `amqpv_to_json` takes for one.
 pub fn write_sorted_json<'a>(
@@ -154,7 +154,7 @@ fn write_sorted_value(
     }
 }
 
-// The text in memory first. Room for four times the bytes of the encoding is enough for most, and a
+// The text in memory first. Four times the bytes of the encoding is enough for most, and a
 // map of each table is made again if it isn't.
 fn sort_value(
     alloc: Global,
@@ -165,15 +165,15 @@ fn sort_value(
     ensures written { SortsInMemory value.entry buffer.old buffer.new result }
     ensures kept { OnErr result (buffer.new ≡ buffer.old) }
 {
-    let room = size.saturating_mul(4).min(buffer.len());
-    let count = sort_within(alloc, buffer, value, room)?;
+    let capacity = size.saturating_mul(4).min(buffer.len());
+    let count = sort_within(alloc, buffer, value, capacity)?;
     if count == usize::MAX {
         return Err(WriteError::NeedsMemory);
     }
     if count > buffer.len() {
         return Err(WriteError::BufferTooSmall(count));
     }
-    if count <= room {
+    if count <= capacity {
         return Ok(count);
     }
     Ok(sort_within(alloc, buffer, value, count)?)
@@ -184,17 +184,17 @@ fn sort_within(
     alloc: Global,
     buffer: &mut [u8],
     value: ValueRef<'_>,
-    room: usize,
+    capacity: usize,
 ) -> Result<usize, AllocError>
-    ensures tried { IfOk result (IsTried room value.entry buffer.old buffer.new) }
+    ensures tried { IfOk result (IsTried capacity value.entry buffer.old buffer.new) }
     ensures kept { MatchResult result
-        (λ n. (n ≤ room → n ≤ length buffer.old → ⊥) → buffer.new ≡ buffer.old)
+        (λ n. (n ≤ capacity → n ≤ length buffer.old → ⊥) → buffer.new ≡ buffer.old)
         (λ _. buffer.new ≡ buffer.old) }
 {
-    let mut memory = vec![in alloc; 0u8; room]?;
+    let mut memory = vec![in alloc; 0u8; capacity]?;
     let text = memory.as_mut_slice();
     let count = sorting::put_value(alloc, text, Place::START, value)?.count;
-    if count > room {
+    if count > capacity {
         return Ok(count);
     }
     if count > buffer.len() {

@@ -8,7 +8,7 @@ ghost use Rattle.json.specs.Reads.{token_of};
 ghost use Rattle.json.specs.Json.{value, items, parse_map, read_key};
 ghost use Rattle.serde_json.specs.Data.{Data, array, number};
 ghost use Rattle.serde_json.specs.Read.{of_json, of_items, converted, number_of};
-ghost use Rattle.amqp_json.specs.Encodes.{IsObject, IsEncodedMeaning, PutsValue, PutsValues, PutsPairs, IsTableRead, IsFieldRead};
+ghost use Rattle.amqp_json.specs.Encodes.{IsObject, IsEncodedMeaning, PutsEncodingOf, PutsValues, PutsPairs, AreEntriesRead, IsFieldRead};
 ghost use Rattle.amqp_json.specs.Json.{json, items_json, under, decimal_json};
 ghost use Rattle.amqp_json.specs.Names.{type_named};
 
@@ -83,7 +83,7 @@ fn put_value(
     out: &mut Vec<u8>,
     depth: usize,
 ) -> Result<(), Stop>
-    ensures ok { OnOk result (PutsValue (λ v. converted of_json (value depth reader.old)
+    ensures ok { OnOk result (PutsEncodingOf (λ v. converted of_json (value depth reader.old)
         ≡ Some (json v, reader.new)) out.old.items out.new.items) }
     ensures shorter { OnOk result (length reader.new < length reader.old) }
 {
@@ -101,7 +101,7 @@ fn put_token<'a>(
     out: &mut Vec<u8>,
     depth: usize,
 ) -> Result<(), Stop>
-    ensures ok { OnOk result (PutsValue (λ v. converted of_json
+    ensures ok { OnOk result (PutsEncodingOf (λ v. converted of_json
         (value depth (token_of token.entry ∷ reader.old)) ≡ Some (json v, reader.new))
         out.old.items out.new.items) }
     ensures shorter { OnOk result (length reader.new ≤ length reader.old) }
@@ -130,7 +130,7 @@ fn put_token<'a>(
 // A number without a type's name.
 #[inline(always)]
 fn put_integer(out: &mut Vec<u8>, text: &str) -> Result<(), Stop>
-    ensures { OnOk result (PutsValue (λ v. option_map number (number_of text.now) ≡ Some (json v))
+    ensures { OnOk result (PutsEncodingOf (λ v. option_map number (number_of text.now) ≡ Some (json v))
         out.old.items out.new.items) }
 {
     let Some(n) = integer(text) else {
@@ -147,7 +147,7 @@ fn put_array(
     out: &mut Vec<u8>,
     depth: usize,
 ) -> Result<(), Stop>
-    ensures ok { OnOk result (PutsValue (λ v. parse_map array
+    ensures ok { OnOk result (PutsEncodingOf (λ v. parse_map array
         (converted of_items (items (value depth) (length reader.old) reader.old))
         ≡ Some (json v, reader.new)) out.old.items out.new.items) }
     ensures shorter { OnOk result (length reader.new < length reader.old) }
@@ -194,7 +194,7 @@ fn put_object(
     out: &mut Vec<u8>,
     depth: usize,
 ) -> Result<(), Stop>
-    ensures ok { OnOk result (PutsValue (λ v. IsObject (json v) (value depth) reader.old reader.new)
+    ensures ok { OnOk result (PutsEncodingOf (λ v. IsObject (json v) (value depth) reader.old reader.new)
         out.old.items out.new.items) }
     ensures shorter { OnOk result (length reader.new < length reader.old) }
 {
@@ -221,7 +221,7 @@ fn put_members<'a>(
     depth: usize,
 ) -> Result<(), Stop>
     requires plain { IfSome first (λ k. type_named k.now ≡ None) }
-    ensures ok { OnOk result (PutsPairs (λ es. IsTableRead es (value depth)
+    ensures ok { OnOk result (PutsPairs (λ es. AreEntriesRead es (value depth)
         (option_map (λ s. s.now) first.entry) reader.old reader.new) out.old.items out.new.items) }
     ensures shorter { OnOk result (length reader.new ≤ length reader.old) }
 {
@@ -243,7 +243,7 @@ fn put_named(
     amqp_type: AMQPType,
     depth: usize,
 ) -> Result<(), Stop>
-    ensures ok { OnOk result (PutsValue (λ v. (ts : List SpecToken) (k : List ℕ)
+    ensures ok { OnOk result (PutsEncodingOf (λ v. (ts : List SpecToken) (k : List ℕ)
         → type_named k ≡ Some amqp_type → read_key ts ≡ Some (Some k, reader.old)
         → IsObject (json v) (value depth) ts reader.new) out.old.items out.new.items) }
     ensures shorter { OnOk result (length reader.new < length reader.old) }
@@ -265,7 +265,7 @@ fn put_leaf(
     amqp_type: AMQPType,
     depth: usize,
 ) -> Result<(), Stop>
-    ensures ok { OnOk result (PutsValue (λ v. (inner : Data) × (json v ≡ under amqp_type inner)
+    ensures ok { OnOk result (PutsEncodingOf (λ v. (inner : Data) × (json v ≡ under amqp_type inner)
         × (converted of_json (value depth reader.old) ≡ Some (inner, reader.new))) out.old.items out.new.items) }
     ensures shorter { OnOk result (length reader.new < length reader.old) }
 {

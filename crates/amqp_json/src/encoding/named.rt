@@ -6,7 +6,7 @@ ghost use Rattle.serde_json.specs.Data.{number, string, unsigned};
 ghost use Rattle.serde_json.specs.Find.{of_integer};
 ghost use Rattle.serde_json.specs.Read.{number_of};
 ghost use Rattle.amqp_value_core.specs.declared.types.amqp_type.AMQPType.TheVariants as amqp;
-ghost use Rattle.amqp_json.specs.Encodes.{PutsValue};
+ghost use Rattle.amqp_json.specs.Encodes.{PutsEncodingOf};
 ghost use Rattle.amqp_json.specs.Json.{json, under};
 
 use super::Stop;
@@ -27,7 +27,7 @@ pub(crate) fn put_named_number(
     amqp_type: AMQPType,
     text: &str,
 ) -> Result<(), Stop>
-    ensures { OnOk result (PutsValue (λ v. option_map (under amqp_type)
+    ensures { OnOk result (PutsEncodingOf (λ v. option_map (under amqp_type)
         (option_map number (number_of text.now)) ≡ Some (json v)) out.old.items out.new.items) }
 {
     if let AMQPType::Timestamp = amqp_type {
@@ -42,7 +42,7 @@ pub(crate) fn put_named_number(
 // A time.
 #[inline(always)]
 fn put_time(out: &mut Vec<u8>, text: &str) -> Result<(), Stop>
-    ensures { OnOk result (PutsValue (λ v. option_map (under amqp.Timestamp)
+    ensures { OnOk result (PutsEncodingOf (λ v. option_map (under amqp.Timestamp)
         (option_map number (number_of text.now)) ≡ Some (json v)) out.old.items out.new.items) }
 {
     let Some(n) = natural_number(text) else {
@@ -54,7 +54,7 @@ fn put_time(out: &mut Vec<u8>, text: &str) -> Result<(), Stop>
 // An integer of fewer than 64 bits.
 #[inline(always)]
 fn put_narrow(out: &mut Vec<u8>, amqp_type: AMQPType, n: i64) -> Result<(), Stop>
-    ensures { OnOk result (PutsValue (λ v. json v ≡ under amqp_type (number (of_integer n)))
+    ensures { OnOk result (PutsEncodingOf (λ v. json v ≡ under amqp_type (number (of_integer n)))
         out.old.items out.new.items) }
 {
     match amqp_type {
@@ -93,7 +93,7 @@ pub(crate) fn put_named_text(
     amqp_type: AMQPType,
     text: &str,
 ) -> Result<(), Stop>
-    ensures { OnOk result (PutsValue (λ v. json v ≡ under amqp_type (string text.now))
+    ensures { OnOk result (PutsEncodingOf (λ v. json v ≡ under amqp_type (string text.now))
         out.old.items out.new.items) }
 {
     match amqp_type {
@@ -106,7 +106,7 @@ pub(crate) fn put_named_text(
 }
 
 fn put_float_of(out: &mut Vec<u8>, text: &str) -> Result<(), Stop>
-    ensures { OnOk result (PutsValue (λ v. json v ≡ under amqp.Float (string text.now))
+    ensures { OnOk result (PutsEncodingOf (λ v. json v ≡ under amqp.Float (string text.now))
         out.old.items out.new.items) }
 {
     let Some(bytes) = sized_of::<4>(text) else {
@@ -116,7 +116,7 @@ fn put_float_of(out: &mut Vec<u8>, text: &str) -> Result<(), Stop>
 }
 
 fn put_double_of(out: &mut Vec<u8>, text: &str) -> Result<(), Stop>
-    ensures { OnOk result (PutsValue (λ v. json v ≡ under amqp.Double (string text.now))
+    ensures { OnOk result (PutsEncodingOf (λ v. json v ≡ under amqp.Double (string text.now))
         out.old.items out.new.items) }
 {
     let Some(bytes) = sized_of::<8>(text) else {
@@ -127,7 +127,7 @@ fn put_double_of(out: &mut Vec<u8>, text: &str) -> Result<(), Stop>
 
 // A long string that isn't UTF-8.
 fn put_string_of(alloc: Global, out: &mut Vec<u8>, text: &str) -> Result<(), Stop>
-    ensures { OnOk result (PutsValue (λ v. json v ≡ under amqp.LongString (string text.now))
+    ensures { OnOk result (PutsEncodingOf (λ v. json v ≡ under amqp.LongString (string text.now))
         out.old.items out.new.items) }
 {
     let bytes = bytes_of(alloc, text)?;
@@ -138,7 +138,7 @@ fn put_string_of(alloc: Global, out: &mut Vec<u8>, text: &str) -> Result<(), Sto
 }
 
 fn put_array_of(alloc: Global, out: &mut Vec<u8>, text: &str) -> Result<(), Stop>
-    ensures { OnOk result (PutsValue (λ v. json v ≡ under amqp.ByteArray (string text.now))
+    ensures { OnOk result (PutsEncodingOf (λ v. json v ≡ under amqp.ByteArray (string text.now))
         out.old.items out.new.items) }
 {
     let bytes = bytes_of(alloc, text)?;

@@ -18,10 +18,7 @@ use amqp_in_place::ValueRef;
 fn put_byte(out: &mut Vec<u8>, byte: u8) -> Result<(), Stop>
     ensures { OnOk result (out.new.items ≡ out.old.items ++ byte ∷ []) }
 {
-    match out.push(byte) {
-        Ok(()) => Ok(()),
-        Err(_) => Err(Stop::OutOfMemory),
-    }
+    Ok(out.push(byte)?)
 }
 
 /// A value without payload.

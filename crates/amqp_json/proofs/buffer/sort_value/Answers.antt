@@ -11,8 +11,8 @@ returns-then-count-buffer-clause-written c = λ l s rest read needs.
     let tried = c.in_ok-count.ensures.tried v denotes in
     (t, rest, decoded l s rest t v read.0 within refl, omega (arith, tried.0), omega arith)
 
-pub returns-then-count-room-clause-written : goal.returns-then-count-room-clause-written
-returns-then-count-room-clause-written c = λ l s rest read needs.
+pub returns-then-count-capacity-clause-written : goal.returns-then-count-capacity-clause-written
+returns-then-count-capacity-clause-written c = λ l s rest read needs.
     let (v, denotes, within) = read.2 in
     let t = compact_text (json v) in
     let tried = c.in_ok-count.ensures.tried v denotes in

@@ -5,8 +5,8 @@ use Rattle.amqp_json.proofs.Filling.{text_begins}
 use Rattle.amqp_json.proofs.Ordered.{copied_text}
 use Rattle.amqp_json.proofs.buffer.sort_within.Goals as goal
 
-pub returns-then-count-room-clause-tried : goal.returns-then-count-room-clause-tried
-returns-then-count-room-clause-tried c = λ v denotes.
+pub returns-then-count-capacity-clause-tried : goal.returns-then-count-capacity-clause-tried
+returns-then-count-capacity-clause-tried c = λ v denotes.
     let made = text_begins _ c.put_value.new.buffer c.in_ok-count.field-0 v (c.in_ok-count.ensures v denotes) in
     (made.count, λ few fits. absurd (omega (arith, few)))
 
@@ -20,7 +20,7 @@ returns-clause-tried c = λ v denotes.
     let t = compact_text (json v) in
     let start = c.as_mut_slice-text.result.now in
     let made = text_begins start c.put_value.new.buffer c.in_ok-count.field-0 v (c.in_ok-count.ensures v denotes) in
-    let long : length start ≡ c.args.room = search rules in (
+    let long : length start ≡ c.args.capacity = search rules in (
       made.count,
       λ few fits.
           let size : c.in_ok-count.field-0.count ≡ length t = omega (arith, made.count, few, fits) in

@@ -14,13 +14,13 @@ use Rattle.amqp_json.specs.declared.error.JsonError.{JsonError}
 use Rattle.amqp_json.specs.declared.error.JsonError.TheVariants as error
 use Rattle.amqp_json.specs.Json.{json, items_json, members_json}
 use Rattle.amqp_json.specs.InMemory.{AreStoredTrees, EntriesStored}
-use Rattle.amqp_json.specs.Tokens.{IsObjectOf, IsReadError, IsValueRead, IsFormsRead, IsObjectError, IsTableRead, IsTableError, IsForm, IsStop, IsTable, BecomesTable, LeadsTo, EndsNowhere, next_token, members_of}
+use Rattle.amqp_json.specs.Tokens.{IsObjectOf, IsReadError, IsValueRead, IsFormsRead, IsObjectError, IsTableRead, IsTableError, IsForm, IsStop, IsTableObject, BecomesTable, MembersLeadTo, EndsNowhere, next_token, members_of}
 use Rattle.amqp_json.proofs.Walks.{trees_stored}
 use Rattle.amqp_json.proofs.Turns.{insert_put, closed}
 use Rattle.amqp_json.proofs.Turns.{converted-array, converted-object, item_read, item_refused, items_over, items_before, items_before-no_items, one_more_item, key_refused, members_over}
 use Rattle.amqp_json.proofs.Forms.{object_error, text_read, item_error, stops_value, IsOtherToken, other_token}
 use Rattle.amqp_json.proofs.Leading.{table_object, taken, next_is, leads, leads_as, past_member, over, no_member, no_key, table_on, stops, stops_table, stops_object, was_put, was_bad}
-use Rattle.amqp_json.proofs.Merged.{merge, HasKeys, by_bytes, becomes, first_of_table, second_of_table, put_over, no_value_entry, rest_step, stored_step, no_keys, some_keys}
+use Rattle.amqp_json.proofs.Merged.{merge, AreKeysOf, by_bytes, becomes, first_of_table, second_of_table, put_over, no_value_entry, rest_step, stored_step, no_keys, some_keys}
 use Rattle.std.specs.BTreeMap.{insert_entry}
 use Rattle.amqp_json.proofs.direct.+read.Goals as goal
 
@@ -303,8 +303,8 @@ read_members-members-preserved t c =
     let lesser = read_key-shorter r next u c.in_ok-next.ensures.ok in
     let past = past_member p old ts now k l.reader r ok.0 at ok.1 less in
     let new = members_json (table_view c.read_member.new.table) in (
-      leads_as p old ts new r (next_token next ∷ u) (subst (λ (ms : Members). LeadsTo p old ts ms r) (sym was.0) past) (next_is r next u c.in_ok-next.ensures.ok),
-      λ many. becomes next new (subst IsTable (sym was.0) (subst (λ (o : Option (Bor (List ℕ))). BecomesTable (option_map (λ b. b.now) o) now) c.in-Some.is (l.invariant.1 many) ok.0)),
+      leads_as p old ts new r (next_token next ∷ u) (subst (λ (ms : Members). MembersLeadTo p old ts ms r) (sym was.0) past) (next_is r next u c.in_ok-next.ensures.ok),
+      λ many. becomes next new (subst IsTableObject (sym was.0) (subst (λ (o : Option (Bor (List ℕ))). BecomesTable (option_map (λ b. b.now) o) now) c.in-Some.is (l.invariant.1 many) ok.0)),
       omega (arith, less, lesser, l.invariant.2),
       λ all. was.1 (l.invariant.3 all),
     )
@@ -357,8 +357,8 @@ read_members-returns-in-Some-2 t c stored many =
       (
         d,
         was.0,
-        subst (λ (ms : Members). IsTable (put k d ms)) (sym same) table,
-        subst (λ (ms : Members). LeadsTo p old ts (put k d ms) r) (sym same) past,
+        subst (λ (ms : Members). IsTableObject (put k d ms)) (sym same) table,
+        subst (λ (ms : Members). MembersLeadTo p old ts (put k d ms) r) (sym same) past,
       ),
     )
 
@@ -425,7 +425,7 @@ read_named-turns-preserved t c =
     let u = c.key_after.new.reader in
     let f = c.in_ok-read_forms.ensures in
     let less = taken c.args.depth l.reader r f.0 f.1 in
-    let past = subst (λ (ms : Members). LeadsTo p no_members ts ms r) (l.invariant.1 f.0) (past_member p no_members ts found k l.reader r f.0 l.invariant.2 f.1 less) in
+    let past = subst (λ (ms : Members). MembersLeadTo p no_members ts ms r) (l.invariant.1 f.0) (past_member p no_members ts found k l.reader r f.0 l.invariant.2 f.1 less) in
     let same : c.in-Some.key.now ≡ k = search rules in
     let next : read_key r ≡ Some (Some k, u) = c.in_ok-key_after.ensures.ok ∙ ap (λ (o : Option (Bor (List ℕ))). Some (option_map (λ b. b.now) o, u)) c.in-Some.is ∙ ap (λ (j : List ℕ). Some (Some j, u)) same in
     let lesser = read_key-shorter r (Some k) u next in (
@@ -453,7 +453,7 @@ read_named-returns-in-None t c typed n enough =
     let r = c.read_forms.new.reader in
     let u = c.key_after.new.reader in
     let f = c.in_ok-read_forms.ensures in
-    let past = subst (λ (ms : Members). LeadsTo p no_members ts ms r) (l.invariant.1 f.0) (past_member p no_members ts l.invariant.0 k l.reader r f.0 l.invariant.2 f.1 (taken c.args.depth l.reader r f.0 f.1)) in
+    let past = subst (λ (ms : Members). MembersLeadTo p no_members ts ms r) (l.invariant.1 f.0) (past_member p no_members ts l.invariant.0 k l.reader r f.0 l.invariant.2 f.1 (taken c.args.depth l.reader r f.0 f.1)) in
     let last = next_is r None u (closed c.in_ok-key_after.field-0 r u c.in_ok-key_after.ensures.ok c.in-None.is) in
     let one = member k f.0 no_members in
     (one, over p no_members ts one u (leads_as p no_members ts one r (Token.end_object ∷ u) past last) n enough, subst (λ o. IsObjectOf o one) (sym c.set_named.ensures) (c.args.amqp_type, f.0, typed, refl, f.2))
@@ -468,7 +468,7 @@ read_named-returns-in-Some-2 t c typed n enough =
     let u = c.key_after.new.reader in
     let f = c.in_ok-read_forms.ensures in
     let j = c.in-Some.key.now in
-    let past = subst (λ (ms : Members). LeadsTo p no_members ts ms r) (l.invariant.1 f.0) (past_member p no_members ts l.invariant.0 k l.reader r f.0 l.invariant.2 f.1 (taken c.args.depth l.reader r f.0 f.1)) in
+    let past = subst (λ (ms : Members). MembersLeadTo p no_members ts ms r) (l.invariant.1 f.0) (past_member p no_members ts l.invariant.0 k l.reader r f.0 l.invariant.2 f.1 (taken c.args.depth l.reader r f.0 f.1)) in
     let next : read_key r ≡ Some (Some j, u) = c.in_ok-key_after.ensures.ok ∙ ap (λ (o : Option (Bor (List ℕ))). Some (option_map (λ b. b.now) o, u)) c.in-Some.is in
     let other : j ≢ k = search rules in
     let one = member k f.0 no_members in
@@ -497,7 +497,7 @@ read_named-returns-in_err-key_after t c typed n enough =
     let ts = key k ∷ c.args.reader.now in
     let r = c.read_forms.new.reader in
     let f = c.in_ok-read_forms.ensures in
-    let past = subst (λ (ms : Members). LeadsTo p no_members ts ms r) (l.invariant.1 f.0) (past_member p no_members ts l.invariant.0 k l.reader r f.0 l.invariant.2 f.1 (taken c.args.depth l.reader r f.0 f.1)) in
+    let past = subst (λ (ms : Members). MembersLeadTo p no_members ts ms r) (l.invariant.1 f.0) (past_member p no_members ts l.invariant.0 k l.reader r f.0 l.invariant.2 f.1 (taken c.args.depth l.reader r f.0 f.1)) in
     let err = c.in_err-key_after.ensures.err in
     let refused = subst (λ (e : JsonError). IsObjectError e (members_of p n no_members ts) c.key_after.new.reader) (sym err.1) (no_key p no_members ts (member k f.0 no_members) r past err.2 n enough) in
     search (rules, refused)
@@ -508,7 +508,7 @@ read_rest-members-init t c =
     let map = c.in_ok-note.ensures ∙ ap (λ (es : List (Bor (List ℕ) × ℕ)). insert_entry by_bytes es k c.args.first.1) c.new-bad.ensures.empty in (
       λ d none many. (
         member k.now d no_members,
-        subst (λ (es : List (Bor (List ℕ) × ℕ)). HasKeys es (member k.now d no_members)) (sym map) (refl, tt),
+        subst (λ (es : List (Bor (List ℕ) × ℕ)). AreKeysOf es (member k.now d no_members)) (sym map) (refl, tt),
         (none, tt),
         (tt, tt),
         many,
@@ -546,8 +546,8 @@ read_rest-members-preserved t c =
             step.1,
             step.2,
             step.3,
-            becomes next (merge step.0 new) (subst IsTable (sym step.4) table),
-            leads_as p old ts (merge step.0 new) r (next_token next ∷ u) (subst (λ (ms : Members). LeadsTo p old ts ms r) (sym step.4) past) (next_is r next u c.in_ok-next.ensures.ok),
+            becomes next (merge step.0 new) (subst IsTableObject (sym step.4) table),
+            leads_as p old ts (merge step.0 new) r (next_token next ∷ u) (subst (λ (ms : Members). MembersLeadTo p old ts ms r) (sym step.4) past) (next_is r next u c.in_ok-next.ensures.ok),
           ),
       omega (arith, less, lesser, l.invariant.1),
       λ all. stored_step _ _ c.in_ok-found.found (table_view l.table) (table_view c.read_member.new.table) ok.2 (l.invariant.2 all),
@@ -576,9 +576,9 @@ read_rest-returns-in-None t c stored d none many =
     let clear = no_keys l.bad.entries bs at.1 (c.least.ensures.none c.in-None.is) in
     let same : merge bs now ≡ now = ap (λ (ms : Members). merge ms now) clear in
     let here = leads_as p old ts (merge bs now) _ (Token.end_object ∷ l.reader) at.5 (ap (λ (o : Option (Bor (List ℕ))). next_token (option_map (λ b. b.now) o) ∷ l.reader) last) in (
-      over p old ts now l.reader (subst (λ (ms : Members). LeadsTo p old ts ms (Token.end_object ∷ l.reader)) same here),
+      over p old ts now l.reader (subst (λ (ms : Members). MembersLeadTo p old ts ms (Token.end_object ∷ l.reader)) same here),
       l.invariant.2 stored,
-      subst IsTable same (subst (λ (o : Option (Bor (List ℕ))). BecomesTable (option_map (λ b. b.now) o) (merge bs now)) last at.4),
+      subst IsTableObject same (subst (λ (o : Option (Bor (List ℕ))). BecomesTable (option_map (λ b. b.now) o) (merge bs now)) last at.4),
     )
 
 pub read_rest-returns : goal.read_rest-returns

@@ -6,9 +6,9 @@ use Rattle.serde_json.specs.Read.{of_items, converted}
 use Rattle.amqp_value_core.specs.Containers.{array_items, array_view, table_view}
 use Rattle.amqp_json.specs.Json.{members_json}
 use Rattle.amqp_json.specs.InMemory.{AreStoredTrees, EntriesStored}
-use Rattle.amqp_json.specs.Tokens.{LeadsTo, IsNoEntry, BecomesTable, next_token}
+use Rattle.amqp_json.specs.Tokens.{MembersLeadTo, IsNoEntry, BecomesTable, next_token}
 use Rattle.amqp_json.proofs.Turns.{items_before}
-use Rattle.amqp_json.proofs.Merged.{merge, AreNoEntries, HasKeys, Rising}
+use Rattle.amqp_json.proofs.Merged.{merge, AreNoEntries, AreKeysOf, AreMembersRising}
 use Rattle.amqp_json.proofs.direct.+read.Given as goal
 
 abbrev pub decreases-read_token : goal.decreases-read_token
@@ -62,7 +62,7 @@ decreases-read_items-items l = length l.reader
 abbrev pub invariant-read_named-turns : goal.invariant-read_named-turns
 invariant-read_named-turns l =
     (found : Members) × ((d : Data) → put l.name d found ≡ member l.name d no_members)
-    × LeadsTo (value l.depth) no_members (key l.name ∷ l.initial.reader) found (key l.name ∷ l.reader)
+    × MembersLeadTo (value l.depth) no_members (key l.name ∷ l.initial.reader) found (key l.name ∷ l.reader)
     × (length l.reader ≤ length l.initial.reader)
 
 abbrev pub decreases-read_named-turns : goal.decreases-read_named-turns
@@ -71,7 +71,7 @@ decreases-read_named-turns l = length l.reader
 -- with the members that are left, the table is read
 abbrev pub invariant-read_members-members : goal.invariant-read_members-members
 invariant-read_members-members l =
-    LeadsTo (value l.depth) (members_json (table_view l.fn.table)) (key l.fn.key ∷ l.fn.reader) (members_json (table_view l.table)) (next_token (option_map (λ s. s.now) l.next) ∷ l.reader)
+    MembersLeadTo (value l.depth) (members_json (table_view l.fn.table)) (key l.fn.key ∷ l.fn.reader) (members_json (table_view l.table)) (next_token (option_map (λ s. s.now) l.next) ∷ l.reader)
     × (BecomesTable (Some l.fn.key) (members_json (table_view l.fn.table)) → BecomesTable (option_map (λ s. s.now) l.next) (members_json (table_view l.table)))
     × (length l.reader ≤ length l.fn.reader)
     × (EntriesStored (table_view l.fn.table) → EntriesStored (table_view l.table))
@@ -84,9 +84,9 @@ abbrev pub invariant-read_rest-members : goal.invariant-read_rest-members
 invariant-read_rest-members l =
     ((d : Data) → IsNoEntry l.fn.first.0.now d
     → BecomesTable (option_map (λ s. s.now) l.fn.key) (put l.fn.first.0.now d (members_json (table_view l.fn.table)))
-    → (bs : Members) × HasKeys l.bad.entries bs × AreNoEntries bs × Rising bs
+    → (bs : Members) × AreKeysOf l.bad.entries bs × AreNoEntries bs × AreMembersRising bs
     × BecomesTable (option_map (λ s. s.now) l.next) (merge bs (members_json (table_view l.table)))
-    × LeadsTo (value l.fn.depth) (put l.fn.first.0.now d (members_json (table_view l.fn.table))) (next_token (option_map (λ s. s.now) l.fn.key) ∷ l.fn.reader) (merge bs (members_json (table_view l.table))) (next_token (option_map (λ s. s.now) l.next) ∷ l.reader))
+    × MembersLeadTo (value l.fn.depth) (put l.fn.first.0.now d (members_json (table_view l.fn.table))) (next_token (option_map (λ s. s.now) l.fn.key) ∷ l.fn.reader) (merge bs (members_json (table_view l.table))) (next_token (option_map (λ s. s.now) l.next) ∷ l.reader))
     × (length l.reader ≤ length l.fn.reader)
     × (EntriesStored (table_view l.fn.table) → EntriesStored (table_view l.table))
 

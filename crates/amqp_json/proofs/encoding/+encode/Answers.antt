@@ -11,7 +11,7 @@ use Rattle.serde_json.specs.Data.{Data, number, array, object}
 use Rattle.serde_json.specs.Read.{of_json, of_items, converted, number_of}
 use Rattle.amqp_value_core.specs.Values as values
 use Rattle.amqp_value_core.specs.Values.{Tree, Trees, Entries, scalar, boolean, void, long}
-use Rattle.amqp_json.specs.Encodes.{IsTableRead}
+use Rattle.amqp_json.specs.Encodes.{AreEntriesRead}
 use Rattle.amqp_json.specs.Json.{json, items_json, members_json}
 use Rattle.amqp_json.specs.Encodes.{IsObject}
 use Rattle.amqp_json.proofs.Turns.{converted-array, converted-object}
@@ -131,7 +131,7 @@ put_object-returns-2-clause-ok t c =
     let o = option_map (λ (b : Bor (List ℕ)). b.now) c.in_ok-first.first in
     let place : c.len-at.result + 1 ≡ length c.args.out.now.items + 1 = grind arith in
     on_ok_weaker c.fill_length.result (λ done.
-    puts_weaker (λ v. (es : Entries) × (v ≡ values.table es) × IsTableRead es p o a r) (λ v. IsObject (json v) p s r) _ _
+    puts_weaker (λ v. (es : Entries) × (v ≡ values.table es) × AreEntriesRead es p o a r) (λ v. IsObject (json v) p s r) _ _
     (λ v (es, is, h). (members_json es, plain_object v es is h.1, h.0 s (length s) c.in_ok-first.ensures (omega arith)))
     (table_put (c.len-at.result + 1) _ _ _ _ place done.0 done.1 _ c.in_ok-put_head.ensures c.in_ok-put_members.ensures.ok))
     c.fill_length.ensures
