@@ -18,7 +18,7 @@ use amqp_in_place::ValueRef;
 fn put_byte(out: &mut Vec<u8>, byte: u8) -> Result<(), Stop>
     ensures { OnOk result (out.new.items ≡ out.old.items ++ byte ∷ []) }
 {
-    Ok(out.push(byte)?)
+    Ok(out.extend_from_slice(&[byte])?)
 }
 
 /// A value without payload.
