@@ -7,4 +7,7 @@ pub mod Yields
 pub mod Lines
 pub mod Digits
 pub mod Pieces
+pub mod Listed
+pub mod Nodes
+pub mod Starts
 pub mod Payloads

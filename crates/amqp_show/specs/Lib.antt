@@ -17,4 +17,11 @@ pub mod Outcomes
 pub mod Printed
 -- payloads and parts
 pub mod Payloads
+pub mod Remarks
 pub mod Parts
+-- the tree
+pub mod Keys
+pub mod Tree
+-- failures and outcomes
+pub mod Failures
+pub mod Shown

@@ -1,5 +1,5 @@
 -- What the program makes of an input, and ends with.
-use Rattle.std.specs.Prelude.{ℕ, List, drop}
+use Rattle.std.specs.Prelude.{ℕ, List, drop, codes, Result, Ok, Err}
 use Rattle.amqp_value_core.specs.Values.{Tree}
 use Rattle.amqp_value_core.specs.Outcomes.{found}
 use Rattle.amq_protocol_types.specs.declared.parsing.limits.Limits.{Limits}
@@ -8,6 +8,7 @@ use Rattle.amq_protocol_types.specs.parsing.Refusals.{Refusal}
 use Rattle.amqp_screen.specs.declared.status.Status.{Status}
 use Rattle.amqp_screen.specs.declared.status.Status.TheVariants as status
 use Rattle.amqp_show.specs.declared.arguments.Subject.{Subject}
+use Rattle.amqp_show.specs.declared.fault.Fault.{Fault}
 use Rattle.amqp_show.specs.declared.arguments.Subject.TheVariants.{Value, Table}
 use Rattle.amqp_show.specs.declared.input.Tagged.{Tagged}
 
@@ -15,6 +16,11 @@ use Rattle.amqp_show.specs.declared.input.Tagged.{Tagged}
 abbrev pub left_out : Subject → ℕ
 left_out Value = 0
 left_out Table = 1
+
+-- what it is called
+abbrev pub subject_name : Subject → List ℕ
+subject_name Value = codes "value"
+subject_name Table = codes "table"
 
 -- the encoding that is read: the input, which of a table is after a type tag
 abbrev pub encoding_of : Subject → Tagged → List ℕ
@@ -33,3 +39,8 @@ abbrev pub IsStatusOf : Limits → List ℕ → Status → Type 0
 IsStatusOf l s status.Read = IsReadWithin l s
 IsStatusOf l s status.Refused = IsRefusedWithin l s
 IsStatusOf l s status.Mistake = ⊥
+
+-- after a fault, as output that can't be written, the program has done no more than a mistake
+abbrev pub status_after : Result Status Fault → Status
+status_after (Ok s) = s
+status_after (Err fault) = status.Mistake

@@ -1,5 +1,5 @@
 -- The lines of `--bytes`: one for each part.
-use Rattle.std.specs.Prelude.{ℕ, ◌≡◌, ◌-◌, ◌^◌, min, nat_lt, Bool, false, List, [], ◌∷◌, ◌++◌, length, take, codes, if◌then◌else◌}
+use Rattle.std.specs.Prelude.{ℕ, ◌≡◌, ◌-◌, ◌^◌, min, nat_lt, Bool, false, Option, List, [], ◌∷◌, ◌++◌, length, take, drop, codes, if◌then◌else◌}
 use Rattle.std.specs.Fmt.{decimal, padded, padded_integral, format_spec}
 use Rattle.std.specs.Int.{w32, from_be_bytes}
 use Rattle.hex.specs.Hex.{encode_lower}
@@ -13,6 +13,9 @@ use Rattle.amqp_screen.specs.Pushes.{AddsText}
 use Rattle.amqp_screen.specs.declared.screen.Colour.TheVariants as colour
 use Rattle.amqp_screen.specs.declared.screen.Screen.{Screen}
 use Rattle.amqp_show.specs.Payloads.{quoted, IsPayloadText}
+use Rattle.amqp_show.specs.Remarks.{remark, Remarks}
+use Rattle.amqp_show.specs.Text.{line}
+use Rattle.amqp_show.specs.declared.notes.Note.{Note}
 
 -- a length: of one byte, or of four
 abbrev pub number : List ℕ → ℕ
@@ -60,3 +63,24 @@ IsPartShown colours left p text =
 -- it is added to a screen
 abbrev pub ShowsPart : ℕ → Part → Screen → Screen → Type 0
 ShowsPart left p old new = (text : List ℕ) × IsPartShown old.has_colours left p text × AddsText old new text
+
+-- the line of a part, with what is after it
+abbrev pub IsLineShown : Bool → Bool → Option Note → ℕ → Part → List ℕ → Type 0
+IsLineShown colours is_cut note left p text =
+    (part : List ℕ) × IsPartShown colours left p part × (text ≡ line (part ++ remark colours is_cut note))
+
+abbrev pub ShowsLine : Bool → Option Note → ℕ → Part → Screen → Screen → Type 0
+ShowsLine is_cut note left p old new = (text : List ℕ) × IsLineShown old.has_colours is_cut note left p text × AddsText old new text
+
+-- the lines of parts, in order
+abbrev pub AreLinesShown : Bool → Bool → List ℕ → ℕ → List Part → List ℕ → Type 0
+AreLinesShown colours canonical cut left [] text = text ≡ []
+AreLinesShown colours canonical cut left (p ∷ ps) text =
+    (is_cut : Bool) × (note : Option Note) × (first : List ℕ) × (rest : List ℕ)
+    × Remarks canonical cut p.offset is_cut note × IsLineShown colours is_cut note left p first
+    × AreLinesShown colours canonical cut left ps rest × (text ≡ first ++ rest)
+
+-- those of all parts but the first `left` are added to a screen
+abbrev pub ShowsParts : Bool → List ℕ → ℕ → List Part → Screen → Screen → Type 0
+ShowsParts canonical cut left ps old new =
+    (text : List ℕ) × AreLinesShown old.has_colours canonical cut left (drop left ps) text × AddsText old new text

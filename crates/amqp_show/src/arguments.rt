@@ -1,7 +1,7 @@
 //! What the command line asks for.
 
 ghost use Rattle.std.specs.Prelude.{◌≡◌, ◌-◌};
-ghost use Rattle.amqp_show.specs.Outcomes.{left_out};
+ghost use Rattle.amqp_show.specs.Outcomes.{left_out, subject_name};
 
 use amq_protocol_types::stream::Limits;
 use amqp_in_place::rabbitmq::CLIENT_LEVELS;
@@ -67,7 +67,9 @@ pub enum Subject {
 
 impl Subject {
     /// What it is called.
-    pub fn name(self) -> &'static str {
+    pub fn name(self) -> &'static str
+        ensures { result.now ≡ subject_name self }
+    {
         match self {
             Subject::Value => "value",
             Subject::Table => "table",

@@ -4,11 +4,11 @@ ghost use Rattle.std.specs.Prelude.{◌≡◌, OnOk, IfOk, string_bytes};
 ghost use Rattle.amqp_screen.specs.Escapes.{in_text};
 ghost use Rattle.amqp_screen.specs.Pushes.{AddsText};
 ghost use Rattle.amqp_show.specs.Outcomes.{left_out};
-ghost use Rattle.amqp_show.specs.Parts.{first_bytes, place, in_colour_of, ShowsPart};
+ghost use Rattle.amqp_show.specs.Parts.{first_bytes, place, in_colour_of, ShowsPart, ShowsLine, ShowsParts};
 
 use crate::arguments::Subject;
-use crate::cut::{is_cut, push_cut};
-use crate::notes::{Keys, push_note};
+use crate::cut::is_cut;
+use crate::notes::{Keys, Note, push_remark};
 use crate::texts::{part_text, push_indent};
 use amqp_dissect::{Field, Part};
 use amqp_screen::{Colour, Screen};
@@ -28,21 +28,35 @@ pub fn push_bytes(
     canonical: bool,
     cut: &[usize],
     subject: Subject,
-) -> Result<(), AllocError> {
+) -> Result<(), AllocError>
+    ensures { OnOk result (ShowsParts canonical cut.now (left_out subject) parts.now
+        screen.old screen.new) }
+{
     let mut keys = Keys::new(alloc, canonical);
     for (index, part) in parts.iter().enumerate() {
-        let note = keys.note(part, parts.get(index + 1))?;
-        if index < subject.left_out() {
-            continue;
+        let note = keys.note(part, &parts[index..])?;
+        if index >= subject.left_out() {
+            push_line(alloc, screen, part, is_cut(part, cut), note, subject)?;
         }
-        push_part(alloc, screen, part, subject)?;
-        if is_cut(part, cut) {
-            push_cut(screen)?;
-        } else if let Some(note) = note {
-            push_note(alloc, screen, note)?;
-        }
-        screen.end_line()?;
     }
+    Ok(())
+}
+
+// Adds the line of a part, which is cut or not, with why it isn't canonical, if there is a note.
+fn push_line(
+    alloc: Global,
+    screen: &mut Screen,
+    part: &Part<'_>,
+    is_cut: bool,
+    note: Option<Note>,
+    subject: Subject,
+) -> Result<(), AllocError>
+    ensures { OnOk result (ShowsLine is_cut note (left_out subject) part.now
+        screen.old screen.new) }
+{
+    push_part(alloc, screen, part, subject)?;
+    push_remark(alloc, screen, is_cut, note)?;
+    screen.end_line()?;
     Ok(())
 }
 

@@ -1,5 +1,11 @@
 //! What the end of the input cuts.
 
+ghost use Rattle.std.specs.Prelude.{◌≡◌, [], OnOk, IfOk, true, None, Contains};
+ghost use Rattle.std.specs.Bool.{OnTrue};
+ghost use Rattle.amqp_dissect.specs.Truncated.{IsTruncated};
+ghost use Rattle.amqp_screen.specs.Pushes.{AddsText};
+ghost use Rattle.amqp_show.specs.Remarks.{remark};
+
 use amq_protocol_types::AMQPType;
 use amq_protocol_types::parsing::SliceInput;
 use amq_protocol_types::parsing::header::value_len;
@@ -14,7 +20,9 @@ pub fn cut_offsets(
     alloc: Global,
     input: &[u8],
     partial: &Partial<'_>,
-) -> Result<Vec<usize>, AllocError> {
+) -> Result<Vec<usize>, AllocError>
+    ensures { IfOk result (λ cut. (IsTruncated input.now → ⊥) → cut.items ≡ []) }
+{
     let mut offsets = Vec::new(alloc);
     if !is_longer(input) {
         return Ok(offsets);
@@ -33,7 +41,9 @@ pub fn cut_offsets(
 }
 
 // Whether the value at the start of the bytes has more of them.
-fn is_longer(bytes: &[u8]) -> bool {
+fn is_longer(bytes: &[u8]) -> bool
+    ensures { OnTrue result (IsTruncated bytes.now) }
+{
     value_len(SliceInput::new(bytes)) > bytes.len()
 }
 
@@ -49,8 +59,13 @@ fn is_beyond(part: &Part<'_>, bytes: &[u8]) -> bool {
 }
 
 /// The parts that are shown, if what is cut begins at these offsets: of a number or a length that is
-/// cut, and of a key that is cut inside a character, no byte is.
-pub fn shown_parts<'p, 'a>(parts: &'p [Part<'a>], cut: &[usize]) -> &'p [Part<'a>] {
+/// cut, and of a key that is cut inside a character, no byte is. If nothing is cut all are shown.
+pub fn shown_parts<'p, 'a>(parts: &'p [Part<'a>], cut: &[usize]) -> &'p [Part<'a>]
+    ensures { cut.now ≡ [] → result.now ≡ parts.entry.now }
+{
+    if cut.is_empty() {
+        return parts;
+    }
     let left_out = if is_last_shown(parts, cut) { 0 } else { 1 };
     &parts[..parts.len().saturating_sub(left_out)]
 }
@@ -76,12 +91,18 @@ fn is_shown(last: &Part<'_>, before: Option<&Part<'_>>, cut: &[usize]) -> bool {
 }
 
 /// Whether what begins with a part is cut, if what is cut begins at these offsets.
-pub fn is_cut(part: &Part<'_>, offsets: &[usize]) -> bool {
+pub fn is_cut(part: &Part<'_>, offsets: &[usize]) -> bool
+    ensures { OnTrue result (Contains offsets.now part.now.offset) }
+{
     offsets.binary_search(&part.offset).is_ok()
 }
 
 /// Adds that something is cut.
-pub fn push_cut(screen: &mut Screen) -> Result<(), AllocError> {
+pub fn push_cut(screen: &mut Screen) -> Result<(), AllocError>
+    ensures { OnOk result (AddsText screen.old screen.new
+        (remark screen.old.has_colours true None)) }
+{
     screen.push_text(" ")?;
-    screen.push_coloured("(cut)", Colour::Failure)
+    screen.push_coloured("(cut)", Colour::Failure)?;
+    Ok(())
 }

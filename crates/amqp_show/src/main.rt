@@ -3,6 +3,11 @@
 //! and encodes the values that JSON denotes.
 #![tactic(auto)]
 
+ghost use Rattle.std.specs.Prelude.{◌≡◌};
+ghost use Rattle.std.specs.Process.{exit_status};
+ghost use Rattle.amqp_screen.specs.Statuses.{code_of};
+ghost use Rattle.amqp_show.specs.Outcomes.{status_after};
+
 mod arguments;
 mod bytes;
 mod check;
@@ -38,12 +43,22 @@ use std::env;
 use std::process::ExitCode;
 
 fn main(rt: HostRuntime) -> ExitCode {
-    let status = run(&rt).unwrap_or_else(|fault| {
+    let outcome = run(&rt);
+    if let Err(fault) = &outcome {
         // If the message can't be written, the status still reports what happened.
-        let _ = fail(&rt, &fault);
-        Status::Mistake
-    });
-    ExitCode::from(exit_status(status))
+        let _ = fail(&rt, fault);
+    }
+    exit_code(&outcome)
+}
+
+// What the program ends with: the status of its work, or of a mistake if a fault ended it.
+fn exit_code(outcome: &Result<Status>) -> ExitCode
+    ensures { exit_status result ≡ code_of (status_after outcome.now) }
+{
+    match outcome {
+        Ok(status) => ExitCode::from(exit_status(*status)),
+        Err(_) => ExitCode::from(exit_status(Status::Mistake)),
+    }
 }
 
 fn run(rt: &HostRuntime) -> Result<Status> {

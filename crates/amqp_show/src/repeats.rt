@@ -1,5 +1,8 @@
 //! Keys that come again in their table.
 
+ghost use Rattle.std.specs.Prelude.{OnOk};
+ghost use Rattle.amqp_show.specs.Failures.{AddsWarnings};
+
 use crate::arguments::Subject;
 use crate::notes::key_of;
 use crate::show::push_warning;
@@ -25,16 +28,34 @@ pub fn push_repeats(
     screen: &mut Screen,
     parts: &[Part<'_>],
     subject: Subject,
-) -> Result<(), AllocError> {
+) -> Result<(), AllocError>
+    ensures { OnOk result (AddsWarnings screen.old screen.new) }
+{
     let mut entries = entries_of(alloc, parts)?;
     entries.sort_unstable();
     let same = |a: &Entry<'_>, b: &Entry<'_>| a.table == b.table && a.key == b.key;
     for entries in entries.as_slice().chunk_by(same) {
-        if let [first, .., last] = entries {
-            let line = repeat_text(alloc, parts, entries.len(), *first, *last, subject)?;
-            push_warning(alloc, screen, line.as_str())?;
-        }
+        push_repeat(alloc, screen, parts, entries, subject)?;
     }
+    Ok(())
+}
+
+// Adds a line for a key that comes in these entries, if there is more than one.
+#[tactic(auto, using(crate::proofs::Starts::warns_none))]
+fn push_repeat(
+    alloc: Global,
+    screen: &mut Screen,
+    parts: &[Part<'_>],
+    entries: &[Entry<'_>],
+    subject: Subject,
+) -> Result<(), AllocError>
+    ensures { OnOk result (AddsWarnings screen.old screen.new) }
+{
+    let [first, .., last] = entries else {
+        return Ok(());
+    };
+    let line = repeat_text(alloc, parts, entries.len(), *first, *last, subject)?;
+    push_warning(alloc, screen, line.as_str())?;
     Ok(())
 }
 
@@ -61,7 +82,7 @@ fn entries_of<'a>(alloc: Global, parts: &[Part<'a>]) -> Result<Vec<Entry<'a>>, A
     let mut last_key = None;
     for (value, part) in parts.iter().enumerate() {
         match part.field {
-            Field::KeyLength => last_key = key_of(part.bytes, parts.get(value + 1)),
+            Field::KeyLength => last_key = key_of(&parts[value..]),
             Field::TypeTag(_) => {
                 open.truncate(part.level as usize);
                 if let (Some(key), Some(table)) = (last_key.take(), open.last()) {

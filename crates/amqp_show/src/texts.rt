@@ -4,8 +4,10 @@ ghost use Rattle.std.specs.Prelude.{◌≡◌, [], ◌∷◌, ◌++◌, IfOk, On
 ghost use Rattle.amqp_dissect.specs.Texts.{escaped};
 ghost use Rattle.amqp_screen.specs.Escapes.{in_text};
 ghost use Rattle.amqp_screen.specs.Pushes.{AddsText};
+ghost use Rattle.amqp_show.specs.Failures.{failure, end_text, problem_text, too_large, count_left, value_outcome, refusal_text, kind_name, IsOutcomeText};
 ghost use Rattle.amqp_show.specs.Parts.{number, level_mark, indented, IsFieldText};
 ghost use Rattle.amqp_show.specs.Payloads.{quoted, quoted_character};
+ghost use Rattle.amqp_show.specs.Tree.{IsTypedText};
 
 use crate::arguments::{Settings, Subject};
 use crate::payload::payload_text;
@@ -71,7 +73,9 @@ pub fn typed_text(
     alloc: Global,
     amqp_type: AMQPType,
     parts: &[Part<'_>],
-) -> Result<String, AllocError> {
+) -> Result<String, AllocError>
+    ensures { IfOk result (λ text. IsTypedText amqp_type parts.now (string_bytes text)) }
+{
     match first_leaf(parts) {
         Some(leaf) => {
             let text = payload_text(alloc, leaf.amqp_type, leaf.payload)?;
@@ -130,7 +134,9 @@ pub fn failure_text(
     offset: usize,
     end: End,
     subject: Subject,
-) -> Result<String, AllocError> {
+) -> Result<String, AllocError>
+    ensures { IfOk result (λ text. string_bytes text ≡ failure subject offset end) }
+{
     let why = end_text(alloc, end, subject)?;
     let offset = subject.offset(offset);
     format!(in alloc; "offset {offset}: {why}")
@@ -141,17 +147,32 @@ pub fn outcome_text(
     alloc: Global,
     encoding: &[u8],
     settings: Settings,
-) -> Result<String, AllocError> {
+) -> Result<String, AllocError>
+    ensures { IfOk result (λ text.
+        IsOutcomeText settings.limits settings.subject encoding.now (string_bytes text)) }
+{
     let (subject, limits) = (settings.subject, settings.limits);
     match read_in_place(encoding, limits) {
-        Ok((_, rest)) => {
-            let len = subject.offset(encoding.len().saturating_sub(rest.len()));
-            let count = count_text(alloc, encoding, rest, limits)?;
-            let name = subject.name();
-            format!(in alloc; "a {name} of {len} bytes, {count} follow")
-        }
+        Ok((_, rest)) => value_text(alloc, encoding, rest, settings),
         Err(error) => refusal_text(alloc, error),
     }
+}
+
+// That the value at the beginning of an encoding is read, with the rest after it.
+fn value_text(
+    alloc: Global,
+    encoding: &[u8],
+    rest: &[u8],
+    settings: Settings,
+) -> Result<String, AllocError>
+    ensures { IfOk result (λ text. string_bytes text
+        ≡ value_outcome settings.limits settings.subject encoding.now rest.now) }
+{
+    let subject = settings.subject;
+    let len = subject.offset(encoding.len().saturating_sub(rest.len()));
+    let count = count_text(alloc, encoding, rest, settings.limits)?;
+    let name = subject.name();
+    format!(in alloc; "a {name} of {len} bytes, {count} follow")
 }
 
 /// How many bytes are left of an input. Of one that has more than the limit no more than the next
@@ -161,7 +182,10 @@ pub fn count_text(
     input: &[u8],
     rest: &[u8],
     limits: Limits,
-) -> Result<String, AllocError> {
+) -> Result<String, AllocError>
+    ensures { IfOk result (λ text.
+        string_bytes text ≡ count_left limits input.now rest.now) }
+{
     if input.len() as u64 > u64::from(limits.frame) {
         return format!(in alloc; "at least {}", rest.len());
     }
@@ -169,25 +193,36 @@ pub fn count_text(
 }
 
 // What an error means.
-fn refusal_text(alloc: Global, error: ParserError) -> Result<String, AllocError> {
+fn refusal_text(alloc: Global, error: ParserError) -> Result<String, AllocError>
+    ensures { IfOk result (λ text. string_bytes text ≡ refusal_text error) }
+{
     match error {
         Err::Incomplete(Needed::Size(n)) => format!(in alloc; "truncated; more bytes needed: {n}"),
         Err::Incomplete(Needed::Unknown) => format!(in alloc; "truncated"),
         Err::Error(error) | Err::Failure(error) => {
-            let name = match error.kind() {
-                ErrorKind::MapOpt => "MapOpt",
-                ErrorKind::MapRes => "MapRes",
-                ErrorKind::Eof => "Eof",
-                ErrorKind::OutOfMemory => "OutOfMemory",
-                ErrorKind::TooLarge => "TooLarge",
-            };
+            let name = kind_name(error.kind());
             format!(in alloc; "refused, {name}")
         }
     }
 }
 
+// What a kind of error is called.
+fn kind_name(kind: ErrorKind) -> &'static str
+    ensures { result.now ≡ kind_name kind }
+{
+    match kind {
+        ErrorKind::MapOpt => "MapOpt",
+        ErrorKind::MapRes => "MapRes",
+        ErrorKind::Eof => "Eof",
+        ErrorKind::OutOfMemory => "OutOfMemory",
+        ErrorKind::TooLarge => "TooLarge",
+    }
+}
+
 // What ends a dissection, and what should be there.
-fn end_text(alloc: Global, end: End, subject: Subject) -> Result<String, AllocError> {
+fn end_text(alloc: Global, end: End, subject: Subject) -> Result<String, AllocError>
+    ensures { IfOk result (λ text. string_bytes text ≡ end_text subject end) }
+{
     match end {
         End::Value => format!(in alloc; "the end of the {}", subject.name()),
         End::TooLarge => too_large_text(alloc, subject),
@@ -196,14 +231,18 @@ fn end_text(alloc: Global, end: End, subject: Subject) -> Result<String, AllocEr
 }
 
 /// What is reported of a value, or a table, that is too large.
-pub fn too_large_text(alloc: Global, subject: Subject) -> Result<String, AllocError> {
+pub fn too_large_text(alloc: Global, subject: Subject) -> Result<String, AllocError>
+    ensures { IfOk result (λ text. string_bytes text ≡ too_large subject) }
+{
     format!(in alloc;
         "the {} has more bytes than --max-bytes allows",
         subject.name()
     )
 }
 
-fn problem_text(alloc: Global, problem: Problem) -> Result<String, AllocError> {
+fn problem_text(alloc: Global, problem: Problem) -> Result<String, AllocError>
+    ensures { IfOk result (λ text. string_bytes text ≡ problem_text problem) }
+{
     match problem {
         Problem::NoTypeTag => format!(in alloc; "a type tag is expected; nothing is left"),
         Problem::UnknownTypeTag(byte) => format!(in alloc;
