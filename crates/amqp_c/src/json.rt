@@ -1,5 +1,7 @@
 //! From an encoding to its JSON text, without memory.
 
+// The tactic at the function names the lemma that its clause is proved by.
+
 ghost use Rattle.std.specs.Prelude.{length, MatchResult};
 ghost use Rattle.amqp_c.specs.JsonTexts.{IsOrderedJsonPut, IsOrderedJsonFault};
 

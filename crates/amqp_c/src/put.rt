@@ -2,6 +2,8 @@
 //!
 //! What this takes is in line in each call for C, so that what is returned isn't copied through the stack.
 
+// The tactic at the function names the lemma that its clause is proved by.
+
 ghost use Rattle.std.specs.Prelude.{ℕ, ◌≡◌, ◌≤◌, ◌<◌, ◌^◌, ◌∷◌, length, take, None, OnErr, MatchOption, MatchResult, MatchBool};
 ghost use Rattle.std.specs.Int.{w32, to_be_bytes};
 ghost use Rattle.amqp_c.specs.Containers.{IsPlace, end_of};

@@ -1,5 +1,7 @@
 //! From an encoding to the JSON text.
 
+// Tactics at functions: each names the lemmas that its clauses are proved by.
+
 ghost use Rattle.std.specs.Prelude.{◌≡◌, length, Err, OnErr, MatchResult};
 ghost use Rattle.amqp_json.specs.Buffers.{NeedsMemory};
 ghost use Rattle.amqp_c_common.specs.declared.fault.Fault.TheVariants.{OutOfMemory};

@@ -19,6 +19,6 @@ measures bytes values levels =
 -- a text is the line of the measures of the value at the start of s, as reading within the limits has
 -- it, with `rest` after it: of the encoding there its length, without a type tag that is left out, how
 -- many values are written in it, and how many levels its containers nest
-pub record IsMeasured (l : Limits) (subject : Subject) (s text rest : List ℕ) : Type 0 where
+pub record IsMeasureLine (l : Limits) (subject : Subject) (s text rest : List ℕ) : Type 0 where
   pub value : (v : Tree) × Within l s (found v rest)
   pub measures : OfEncoding s (λ w v p. text ≡ line (measures (length w - left_out subject) (written w v p) (nesting w v p)))

@@ -28,15 +28,15 @@ encoding_of Value input = drop 1 input.bytes.items
 encoding_of Table input = input.bytes.items
 
 -- a value is read from the start of s within the limits, or an error is
-abbrev pub IsReadWithin : Limits → List ℕ → Type 0
-IsReadWithin l s = (v : Tree) × (rest : List ℕ) × Within l s (found v rest)
+abbrev pub HasValueWithin : Limits → List ℕ → Type 0
+HasValueWithin l s = (v : Tree) × (rest : List ℕ) × Within l s (found v rest)
 
 abbrev pub IsRefusedWithin : Limits → List ℕ → Type 0
 IsRefusedWithin l s = (e : Refusal) × RefusesWithin l s e
 
 -- the status says which of the two
 abbrev pub IsStatusOf : Limits → List ℕ → Status → Type 0
-IsStatusOf l s status.Read = IsReadWithin l s
+IsStatusOf l s status.Read = HasValueWithin l s
 IsStatusOf l s status.Refused = IsRefusedWithin l s
 IsStatusOf l s status.Mistake = ⊥
 

@@ -1,5 +1,7 @@
 //! From JSON to an encoding.
 
+// The tactic at the function names the lemma that its clause is proved by.
+
 ghost use Rattle.std.specs.Prelude.{◌≡◌, drop, IfOk};
 ghost use Rattle.hex.specs.Hex.{encode_lower};
 ghost use Rattle.amqp_screen.specs.Pushes.{shown};

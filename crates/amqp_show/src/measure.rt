@@ -1,8 +1,10 @@
 //! How large a value is.
 
+// Tactics at functions: each names the lemmas that its clauses are proved by.
+
 ghost use Rattle.std.specs.Prelude.{◌≡◌, ℕ, List, IfOk, OnOk, MatchOption};
 ghost use Rattle.amqp_screen.specs.Pushes.{shown, AddsText};
-ghost use Rattle.amqp_show.specs.Lines.{measures, IsMeasured};
+ghost use Rattle.amqp_show.specs.Lines.{measures, IsMeasureLine};
 ghost use Rattle.amqp_show.specs.Outcomes.{encoding_of, IsRefusedWithin, IsStatusOf};
 ghost use Rattle.amqp_show.specs.Text.{line};
 
@@ -46,7 +48,7 @@ fn measured<'a>(
 ) -> Result<Option<(Screen, &'a [u8])>, AllocError>
     ensures line { IfOk result (λ found. MatchOption found
         (IsRefusedWithin settings.limits encoding.entry.now)
-        (λ x. IsMeasured settings.limits settings.subject encoding.entry.now
+        (λ x. IsMeasureLine settings.limits settings.subject encoding.entry.now
         (shown x.0) x.1.now)) }
 {
     let Ok(measure) = measure_value(encoding, settings.limits) else {

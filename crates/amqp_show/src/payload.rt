@@ -1,5 +1,7 @@
 //! A payload as a string.
 
+// Tactics at functions: each names the lemmas that its clauses are proved by.
+
 ghost use Rattle.std.specs.Prelude.{◌≡◌, [], ◌∷◌, ◌*◌, ◌<◌, ◌≤◌, pos, MatchOption, ◌/◌, ◌%◌, ◌^◌, IfOk, string_bytes};
 ghost use Rattle.amqp_show.specs.Payloads.{decimal_value, pointed, IsFloatText, IsDoubleText, IsTimestampText, IsOneText, IsTwoText, IsFourText, IsEightText, IsPayloadText};
 

@@ -1,5 +1,7 @@
 //! Keys that come again in their table.
 
+// The tactic at the function names the lemma that its clause is proved by.
+
 ghost use Rattle.std.specs.Prelude.{OnOk};
 ghost use Rattle.amqp_show.specs.Failures.{AddsWarnings};
 

@@ -1,5 +1,7 @@
 //! The value at the beginning of an input.
 
+// Tactics at functions: each names the lemmas that its clauses are proved by.
+
 ghost use Rattle.std.specs.Prelude.{◌≡◌, drop, OnOk, IfOk};
 ghost use Rattle.amqp_screen.specs.Pushes.{AddsText};
 ghost use Rattle.amqp_show.specs.Failures.{failure_line, warning_line};

@@ -1,5 +1,7 @@
 //! The bytes that a text in hexadecimal spells, character by character.
 
+// The tactic at the function names the lemma that its clause is proved by.
+
 ghost use Rattle.std.specs.Prelude.{◌≡◌, ◌+◌, ◌-◌, ◌^◌, ◌<◌, ◌++◌, ◌∷◌, [], ℕ, List, length, IfOk, IfErr, OnErr, OnOk, option_to_list};
 ghost use Rattle.amqp_show.specs.Characters.{character_of};
 ghost use Rattle.amqp_show.specs.Positions.{after};

@@ -1,5 +1,7 @@
 //! Words for what is shown.
 
+// Tactics at functions: each names the lemmas that its clauses are proved by.
+
 ghost use Rattle.std.specs.Prelude.{◌≡◌, [], ◌∷◌, ◌++◌, IfOk, OnOk, string_bytes};
 ghost use Rattle.amqp_dissect.specs.Texts.{escaped};
 ghost use Rattle.amqp_screen.specs.Escapes.{in_text};

@@ -46,6 +46,8 @@ const PARSER: &[&str] = &["Failure(ParserErrors { kind: OutOfMemory })"];
 
 const MEMORY: &[&str] = &["OutOfMemory"];
 
+const SORTED: &[&str] = &["NeedsMemory"];
+
 const ENCODE: &[&str] = &["OutOfMemory", "Json(OutOfMemory)"];
 
 /// A step of a case: calls, and their arguments.
@@ -430,6 +432,7 @@ fn of_texts() -> &'static [Case] {
         OfText(TextCall::JsonOfEncoding, ONE_NUMBER), OfText(TextCall::JsonOfEncoding, VOIDS),
         OfText(TextCall::JsonOfEncoding, FALLING),
     ]
+    "write_sorted_json" SORTED [OfText(TextCall::WriteSortedJson, FALLING)]
     "encoding_of_json" ENCODE [
         OfText(TextCall::EncodingOfJson, ONE_NUMBER_JSON), OfText(TextCall::EncodingOfJson, VOIDS_JSON),
     ]
@@ -438,7 +441,7 @@ fn of_texts() -> &'static [Case] {
     "escape" ALLOC [OfText(TextCall::Escape, &[Bytes(b"a\0\"")]), OfText(TextCall::Escape, &[Times(70_000, b"a")])]
     "texts_without_memory" NO_ALLOC [
         OfText(TextCall::Dissect, &[]), OfText(TextCall::DissectPartial, &[]), OfText(TextCall::Escape, &[]),
-        OfText(TextCall::WriteJson, VOIDS),
+        OfText(TextCall::WriteJson, VOIDS), OfText(TextCall::WriteSortedJson, VOIDS),
     ]
     };
     CASES

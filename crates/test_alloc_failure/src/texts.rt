@@ -9,7 +9,7 @@ use amq_protocol_types::stream::Limits;
 use amqp_dissect::{dissect, dissect_partial, escape};
 use amqp_json::{
     DecodeError, EncodeError, JsonError, ValueError, WriteError, encoding_of_json, from_json,
-    from_value, json_of_encoding, to_json, to_value, write_json,
+    from_value, json_of_encoding, to_json, to_value, write_json, write_sorted_json,
 };
 use serde_json::Value;
 use std::alloc::{AllocError, Global};
@@ -30,6 +30,7 @@ pub enum TextCall {
     FromValue,
     JsonOfEncoding,
     WriteJson,
+    WriteSortedJson,
     EncodingOfJson,
     Dissect,
     DissectPartial,
@@ -119,6 +120,22 @@ impl Call for WriteJson {
 }
 
 #[derive(Drop)]
+struct WriteSortedJson {
+    bytes: Vec<u8>,
+    buffer: Vec<u8>,
+}
+
+impl Call for WriteSortedJson {
+    type Error = WriteError;
+
+    fn call(&mut self, alloc: Global) -> Result<AnyValue, WriteError> {
+        let (bytes, buffer) = (self.bytes.as_slice(), self.buffer.as_mut_slice());
+        let (count, _) = write_sorted_json(alloc, bytes, WIDE, buffer)?;
+        Ok(AnyValue::Number(count as i128))
+    }
+}
+
+#[derive(Drop)]
 struct EncodingOfJson {
     text: String,
 }
@@ -200,6 +217,10 @@ pub fn run<R: Print + Eprint>(h: &Harness<R>, call: TextCall, pieces: &[Piece]) 
         TextCall::WriteJson => {
             let buffer = fixtures::encoding(h.alloc, &[Piece::Times(20_001, b"\0")])?;
             h.run(&mut WriteJson { bytes, buffer })
+        }
+        TextCall::WriteSortedJson => {
+            let buffer = fixtures::encoding(h.alloc, &[Piece::Times(20_001, b"\0")])?;
+            h.run(&mut WriteSortedJson { bytes, buffer })
         }
         TextCall::EncodingOfJson => {
             let text = String::from_utf8(bytes).map_err(fixtures::failed)?;
