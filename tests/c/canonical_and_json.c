@@ -48,6 +48,10 @@ static const struct {
     INPUT("S\0\0\0\3a\"\n", "\"a\\\"\\n\"", "S\0\0\0\3a\"\n"),
     INPUT("S\0\0\0\2h\377", "{\"LongString\":\"68ff\"}", "S\0\0\0\2h\377"),
     INPUT("x\0\0\0\2\1\253", "{\"ByteArray\":\"01ab\"}", "x\0\0\0\2\1\253"),
+    // its text has more than four times the encoding's bytes, so it is sorted twice
+    INPUT("F\0\0\0\14\1cb\5\1bb\6\1ab\7",
+          "{\"a\":{\"ShortShortInt\":7},\"b\":{\"ShortShortInt\":6},\"c\":{\"ShortShortInt\":5}}",
+          "F\0\0\0\14\1ab\7\1bb\6\1cb\5"),
     INPUT("F\0\0\0\0", "{}", "F\0\0\0\0"),
     INPUT("A\0\0\0\6A\0\0\0\0V", "[[],null]", "A\0\0\0\6A\0\0\0\0V"),
     INPUT("F\0\0\0\12\1bt\7\1aV\1bV", "{\"a\":null,\"b\":null}", "F\0\0\0\6\1aV\1bV"),

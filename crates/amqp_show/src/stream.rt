@@ -128,9 +128,6 @@ fn show_values<R: Read + Drop>(
     mut progress: Progress,
     settings: Settings,
 ) -> Result<Status> {
-    if settings.limits.frame == 0 {
-        return Err(Fault::NoValue);
-    }
     let mut screen = Screen::new(rt.alloc(), settings.colours);
     let shown = show_each(rt, file, source, &mut screen, &mut progress, settings);
     if let Err(Fault::OutOfMemory) = shown {
@@ -148,6 +145,9 @@ fn show_each<R: Read + Drop>(
     progress: &mut Progress,
     settings: Settings,
 ) -> Result<Status> {
+    if settings.limits.frame == 0 {
+        return Err(Fault::NoValue);
+    }
     let mut values = Values::new(rt.alloc(), settings.limits);
     let mut recorder = Recorder::new(rt.alloc(), source);
     let mut offset: u64 = 0;
