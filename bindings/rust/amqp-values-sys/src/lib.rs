@@ -40,7 +40,7 @@
 //!        288   288       in amqpv_canonical
 //!        560   528       in amqpv_write_json
 //!        928   928       in amqpv_from_json and amqpv_from_json_or_problem
-//!        688   768       in amqpv_to_json
+//!        768   704       in amqpv_to_json
 //!        512   480       in amqpv_first_warnings and amqpv_first_warnings_in_table
 //!   The others don't recurse.
 //! - The six functions that allocate have one more, stated before them.
