@@ -12,6 +12,8 @@ from crates import TOP
 SCRIPT = re.compile(rb"#!/usr/bin/(?:env )?python3\b")
 # What each tool has to refuse, in a file that is made.
 WRONG = "def one() -> int:\n    return  '1'\n"
+# How git marks the two sides of a conflict, which a merge leaves in a file.
+MARK = "^(<{7}|[|]{7}|>{7}) "
 
 
 def tracked() -> list[str]:
@@ -81,3 +83,13 @@ def test_format(by_black: list[str], wrong: Path) -> None:
 
 def test_wrong_format_is_found(by_black: list[str], wrong: Path) -> None:
     assert f"would reformat {wrong}" in by_black
+
+
+def test_no_conflict_is_left() -> None:
+    assert lines("git", "grep", "-nE", MARK) == []
+
+
+def test_conflict_is_found(tmp_path: Path) -> None:
+    path = tmp_path / "merged"
+    path.write_text(f"{'<' * 7} HEAD\none\n{'=' * 7}\ntwo\n{'>' * 7} a change\n")
+    assert lines("grep", "-nE", MARK, path) == [f"1:{'<' * 7} HEAD", f"5:{'>' * 7} a change"]
