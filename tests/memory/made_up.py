@@ -1,10 +1,10 @@
 """The places at which the sources make up that memory ran out, may ask for more than there is, or pass on a call otherwise.
 
 No clause can state that an allocation failed. A body that returns OutOfMemory above a size keeps its contract, so its
-form is what is rejected: OutOfMemory, of whatever error, and AllocError are made by From<AllocError>, which `?` calls,
-or on the right of a match arm with no guard, each alternative of whose pattern names such an error. Failure and
-out_of_memory() are what parsers call it. A request that can't succeed makes it up too: whatever asks for memory by a
-number is a line of BY_NUMBER, whether it is called there or only named.
+form is what is rejected: OutOfMemory and NeedsMemory, of whatever error, and AllocError are made by From<AllocError>,
+which `?` calls, or on the right of a match arm with no guard, each alternative of whose pattern names such an error.
+Failure and out_of_memory() are what parsers call it. A request that can't succeed makes it up too: whatever asks for
+memory by a number is a line of BY_NUMBER, whether it is called there or only named.
 
 Nor can a clause state with which error a reader or a writer of std failed: the bodies that call one for a trait of ours are PASSED_ON.
 """
@@ -20,10 +20,10 @@ LEFT_OUT = "test_"
 LISTED = {
     # the keys that are put have at most 255 bytes, so copying one fails only for want of memory
     ("amqp_json/src/direct.rt", "Err(ValueError::OutOfMemory | ValueError::NotAValue) => Err(JsonError::OutOfMemory),"),
-    # the call never asks for memory, and a clause states when it would need some
-    ("amqp_c/src/json.rt", "Err(WriteError::NeedsMemory) => Err(Fault::OutOfMemory),"),
-    # a clause states that this takes keys that don't ascend, whose text and map are allocated
-    ("amqp_c_alloc/src/decode.rt", "Err(WriteError::NeedsMemory) => Err(Fault::OutOfMemory),"),
+    # nothing is allocated there: a clause states that keys don't ascend
+    ("amqp_json/src/buffer.rt", "None => Err(WriteError::NeedsMemory),"),
+    # a clause states that the text has 2^64 - 1 bytes or more
+    ("amqp_json/src/buffer.rt", "return Err(WriteError::NeedsMemory);"),
 }
 # The lines that ask for memory by a number, and what bounds that.
 BY_NUMBER = {
@@ -59,9 +59,9 @@ PASSED_ON = {
     "amqp_wire/src/sink.rt": "fn write_some(&mut self, buf: &[u8]) -> io::Result<usize> { self.write(buf) } }",
 }
 SILENT = r"""//[^\n]*|/\*.*?\*/|\bb?r(#*)".*?"\1|"(?:\\.|[^"\\])*"|'(?:\\.[^']*|[^'\\])'"""
-MADE = r"\bAlloc(?:Error|Failed)\b(?!\s*[<>])|\bOutOfMemory\b|\bFailure\s*\(|\bout_of_memory\s*\("
-NAMED = r"\bAllocError\b|::\s*OutOfMemory\b|::\s*Failure\s*\("
-RENAMED = r"\b(?:AllocError|AllocFailed|OutOfMemory|out_of_memory)\s+as\b"
+MADE = r"\bAlloc(?:Error|Failed)\b(?!\s*[<>])|\b(?:OutOf|Needs)Memory\b|\bFailure\s*\(|\bout_of_memory\s*\("
+NAMED = r"\bAllocError\b|::\s*(?:OutOf|Needs)Memory\b|::\s*Failure\s*\("
+RENAMED = r"\b(?:AllocError|AllocFailed|OutOfMemory|NeedsMemory|out_of_memory)\s+as\b"
 IMPORTED = r"\buse std::alloc::(?:AllocError;|\{[^}]*\bAllocError\b)"
 # What makes one of an AllocError.
 MAKER = r"\bimpl From<AllocError> for [^{]*\{|\bpub fn out_of_memory\(\)[^{]*\{"

@@ -1,5 +1,5 @@
 -- An encoding is written in one way, and its text is one.
-use Rattle.std.proofs.Common.{◌≡◌, ◌+◌, ◌<◌, ◌≤◌, ◌^◌, ℕ, inl, inr, Result, Ok, Err, MatchResult, OnErr, List, ◌++◌, length, take, drop, refl, sym, ap, ap₂, ◌∙◌, subst, arith}
+use Rattle.std.proofs.Common.{◌≡◌, ◌+◌, ◌<◌, ◌≤◌, ◌^◌, ℕ, inl, inr, Result, Ok, Err, MatchResult, IfOk, OnErr, List, ◌++◌, length, take, drop, refl, sym, ap, ap₂, ◌∙◌, subst, arith}
 use Rattle.std.proofs.lemmas.List.{take_at}
 use Rattle.serde_json.specs.Written.{compact_text}
 use Rattle.amqp_value_core.specs.declared.types.amqp_type.AMQPType.{AMQPType}
@@ -16,11 +16,14 @@ use Rattle.amq_protocol_types.specs.declared.parsing.limits.Limits.{Limits}
 use Rattle.amq_protocol_types.specs.parsing.Limits.{RefusesWithin}
 use Rattle.amq_protocol_types.specs.parsing.Refusals.{Refusal}
 use Rattle.amqp_in_place.specs.InPlaceResults.{NeedsNoMemory}
+use Rattle.amqp_in_place.specs.declared.refs.ValueRef.{ValueRef}
+use Rattle.amqp_in_place.specs.Refs.{Denotes}
 use Rattle.amqp_in_place.specs.Written.{written, raw_written, values_written, pairs_written}
 use Rattle.amqp_json.specs.Json.{json}
 use Rattle.amqp_json.specs.Ascending.{Ascends, InOrder, OutOfOrder}
 use Rattle.amqp_json.specs.Converts.{IsJsonOf}
-use Rattle.amqp_json.specs.Buffers.{IsOrderedJsonOf, IsJsonWritten, IsNotWritten, IsSortedWritten, IsNotSorted}
+use Rattle.amqp_json.specs.Buffers.{IsOrderedJsonOf, IsJsonWritten, NeedsMemory, IsNotWritten, IsSortedWritten, IsNotSorted, IsTried, IsUnfit}
+use Rattle.amqp_json.specs.Puts.{Begins, counted}
 use Rattle.amqp_json.specs.declared.conversion_error.WriteError.{WriteError}
 use Rattle.amqp_json.specs.declared.conversion_error.WriteError.TheVariants as write
 
@@ -131,3 +134,52 @@ sorted_too l s rest old new (Ok n) (t, (is, order), size, few, put) = (t, is, si
 sorted_too l s rest old new (Err (write.Refused e)) x = x
 sorted_too l s rest old new (Err (write.BufferTooSmall n)) (t, left, (is, order), size, less) = (t, left, is, size, less)
 sorted_too l s rest old new (Err write.NeedsMemory) x = x
+
+-- ---- a count that may fit a buffer
+
+pub counts_all : (n : ℕ) (t : List ℕ) → n ≡ counted t → 1 + n < 2 ^ 64 → n ≡ length t
+counts_all n t size few = omega (arith, size, few)
+
+-- the text of keys in order was put
+pub ordered_fits : (l : Limits) (s t rest old new : List ℕ) (count : ℕ) (r : Result ℕ WriteError) → IsOrderedJsonOf l s t rest → Begins old new count t → 1 + length old < 2 ^ 64
+    → MatchResult r (λ n. (n ≡ count) × (n ≤ length new)) (IsUnfit count (length new)) → MatchResult r (λ n. IsJsonWritten l s old new n rest) (IsNotWritten l s (length old))
+ordered_fits l s t rest old new count (Ok n) is put few (same, fits) =
+    let size : n ≡ length t = counts_all n t (same ∙ put.count) (omega (arith, fits, put.same, few)) in
+    (t, is, size, omega (arith, fits, put.same), put.text (omega (arith, size, fits, put.same)) ∙ ap (λ k. t ++ drop k old) (sym size))
+ordered_fits l s t rest old new count (Err (write.Refused e)) is put few none = absurd none
+ordered_fits l s t rest old new count (Err (write.BufferTooSmall n)) is put few (same, longer, counts) =
+    (t, rest, is, counts_all n t (same ∙ put.count) counts, omega (arith, longer, put.same))
+ordered_fits l s t rest old new count (Err write.NeedsMemory) is put few most = (t, rest, is.0, inr (omega (arith, most, put.count)))
+
+-- a text was put in memory
+pub sorted_fits : (l : Limits) (s t rest old new : List ℕ) (count : ℕ) (r : Result ℕ WriteError) → IsJsonOf l s t rest → NeedsMemory l s → count ≡ counted t → (count ≤ length old → new ≡ t ++ drop count old)
+    → 1 + length old < 2 ^ 64 → MatchResult r (λ n. (n ≡ count) × (n ≤ length old)) (IsUnfit count (length old)) → MatchResult r (λ n. IsSortedWritten l s old new n rest) (IsNotSorted l s (length old))
+sorted_fits l s t rest old new count (Ok n) is needs size put few (same, fits) =
+    (t, is, counts_all n t (same ∙ size) (omega (arith, fits, few)), fits, put (omega (arith, same, fits)) ∙ ap (λ k. t ++ drop k old) (sym same))
+sorted_fits l s t rest old new count (Err (write.Refused e)) is needs size put few none = absurd none
+sorted_fits l s t rest old new count (Err (write.BufferTooSmall n)) is needs size put few (same, longer, counts) = (t, rest, is, counts_all n t (same ∙ size) counts, longer)
+sorted_fits l s t rest old new count (Err write.NeedsMemory) is needs size put few most = needs
+
+pub kept_if_unfit : (old new : List ℕ) (count : ℕ) (r : Result ℕ WriteError) → ((count ≤ length old → ⊥) → new ≡ old) → 1 + length old < 2 ^ 64
+    → MatchResult r (λ n. (n ≡ count) × (n ≤ length old)) (IsUnfit count (length old)) → OnErr r (new ≡ old)
+kept_if_unfit old new count (Ok n) kept few fits = tt
+kept_if_unfit old new count (Err (write.Refused e)) kept few none = absurd none
+kept_if_unfit old new count (Err (write.BufferTooSmall n)) kept few (same, longer, counts) = kept (λ fits. omega (arith, same, longer, fits))
+kept_if_unfit old new count (Err write.NeedsMemory) kept few most = kept (λ fits. omega (arith, most, fits, few))
+
+-- ---- a text that is put in memory a second time, where it fits
+
+pub tried_again : {E : Type 0} (r : Result ℕ E) (view : ValueRef) (old mid new : List ℕ) (count : ℕ) → mid ≡ old → count ≤ length old → ((v : Tree) → Denotes view v → count ≡ counted (compact_text (json v)))
+    → IfOk r (IsTried count view mid new) → IfOk r (IsTried (length old) view old new)
+tried_again (Err e) view old mid new count same fits first second = second
+tried_again (Ok n) view old mid new count same fits first second = λ v denotes.
+    let again = second v denotes in
+    let one : n ≡ count = again.0 ∙ sym (first v denotes) in (
+      again.0,
+      λ few less. again.1 (omega (arith, one)) (omega (arith, less, ap length same)) ∙ ap (λ (b : List ℕ). compact_text (json v) ++ drop n b) same,
+    )
+
+pub kept_again : {E : Type 0} (r : Result ℕ E) (old mid new : List ℕ) (count : ℕ) → mid ≡ old → MatchResult r (λ n. (n ≤ count → n ≤ length mid → ⊥) → new ≡ mid) (λ _. new ≡ mid)
+    → MatchResult r (λ n. (n ≤ length old → ⊥) → new ≡ old) (λ _. new ≡ old)
+kept_again (Err e) old mid new count same second = second ∙ same
+kept_again (Ok n) old mid new count same second = λ longer. second (λ few fits. longer (omega (arith, fits, ap length same))) ∙ same

@@ -1,5 +1,5 @@
 -- From an encoding to a JSON text in a buffer.
-use Rattle.std.specs.Prelude.{ℕ, ◌≡◌, ◌+◌, ◌^◌, ◌<◌, ◌≤◌, ◌⊎◌, List, ◌++◌, length, drop, Result, MatchResult}
+use Rattle.std.specs.Prelude.{ℕ, ◌≡◌, ◌+◌, ◌-◌, ◌^◌, ◌<◌, ◌≤◌, ◌⊎◌, List, ◌++◌, length, drop, Result, MatchResult}
 use Rattle.amq_protocol_types.specs.declared.parsing.limits.Limits.{Limits}
 use Rattle.amqp_value_core.specs.Inputs.{IsBytes}
 use Rattle.amqp_value_core.specs.Outcomes.{found}
@@ -70,13 +70,15 @@ abbrev pub SortsView : ValueRef → List ℕ → List ℕ → Result ℕ WriteEr
 SortsView view old new r =
     (l : Limits) (s rest : List ℕ) → IsViewOfRead l s view rest → MatchResult r (λ n. IsSortedWritten l s old new n rest) (IsNotSorted l s (length old))
 
--- that is so if the text isn't written without memory
-abbrev pub SortsInMemory : ValueRef → List ℕ → List ℕ → Result ℕ WriteError → Type 0
-SortsInMemory view old new r =
-    (l : Limits) (s rest : List ℕ) → IsViewOfRead l s view rest → NeedsMemory l s → MatchResult r (λ n. IsSortedWritten l s old new n rest) (IsNotSorted l s (length old))
-
 -- the text of the value has that count, and is written if it has at most as many bytes as the
 -- capacity and the buffer
 abbrev pub IsTried : ℕ → ValueRef → List ℕ → List ℕ → ℕ → Type 0
 IsTried capacity view old new n =
     (v : Tree) → Denotes view v → (n ≡ counted (compact_text (json v))) × (n ≤ capacity → n ≤ length old → new ≡ compact_text (json v) ++ drop n old)
+
+-- an error reports why a text of that count doesn't fit a buffer of that many bytes; the largest count
+-- may be that of any longer text
+abbrev pub IsUnfit : ℕ → ℕ → WriteError → Type 0
+IsUnfit count len (write.Refused e) = ⊥
+IsUnfit count len (write.BufferTooSmall n) = (n ≡ count) × (len < n) × (1 + n < 2 ^ 64)
+IsUnfit count len write.NeedsMemory = count ≡ 2 ^ 64 - 1

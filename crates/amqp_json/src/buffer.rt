@@ -2,7 +2,7 @@
 
 ghost use Rattle.std.specs.Prelude.{◌≡◌, ◌≤◌, ℕ, List, length, IfOk, OnErr, MatchResult};
 ghost use Rattle.amq_protocol_types.specs.declared.parsing.limits.Limits.{Limits};
-ghost use Rattle.amqp_json.specs.Buffers.{IsJsonWritten, IsNotWritten, IsSortedWritten, IsNotSorted, IsViewOfRead, WritesView, SortsView, SortsInMemory, IsTried};
+ghost use Rattle.amqp_json.specs.Buffers.{IsJsonWritten, IsNotWritten, IsSortedWritten, IsNotSorted, IsViewOfRead, WritesView, SortsView, IsTried, IsUnfit};
 
 mod counting;
 mod leaves;
@@ -49,17 +49,22 @@ fn write_value(buffer: &mut [u8], value: ValueRef<'_>) -> Result<usize, WriteErr
     ensures length { length buffer.new ≡ length buffer.old }
 {
     match put_value(buffer, Place::START, value) {
-        Some(end) => {
-            if end.count == usize::MAX {
-                return Err(WriteError::NeedsMemory);
-            }
-            if end.count > buffer.len() {
-                return Err(WriteError::BufferTooSmall(end.count));
-            }
-            Ok(end.count)
-        }
+        Some(end) => fitting(end.count, buffer.len()),
         None => Err(WriteError::NeedsMemory),
     }
+}
+
+// The count of a text, if it fits a buffer of that many bytes.
+fn fitting(count: usize, len: usize) -> Result<usize, WriteError>
+    ensures { MatchResult result (λ n. (n ≡ count) × (n ≤ len)) (IsUnfit count len) }
+{
+    if count == usize::MAX {
+        return Err(WriteError::NeedsMemory);
+    }
+    if count > len {
+        return Err(WriteError::BufferTooSmall(count));
+    }
+    Ok(count)
 }
 
 /// Writes the JSON text as `write_json` does, but leaves the buffer as it was after an error.
@@ -150,33 +155,36 @@ fn write_sorted_value(
         Ok(count) => Ok(count),
         Err(WriteError::Refused(refusal)) => Err(WriteError::Refused(refusal)),
         Err(WriteError::BufferTooSmall(count)) => Err(WriteError::BufferTooSmall(count)),
-        Err(WriteError::NeedsMemory) => sort_value(alloc, buffer, value, size),
+        Err(WriteError::NeedsMemory) => {
+            let len = buffer.len();
+            let count = sort_in_memory(alloc, buffer, value, size)?;
+            fitting(count, len)
+        }
     }
 }
 
 // The text in memory first. Four times the bytes of the encoding is enough for most, and a
 // map of each table is made again if it isn't.
-fn sort_value(
+fn sort_in_memory(
     alloc: Global,
     buffer: &mut [u8],
     value: ValueRef<'_>,
     size: usize,
-) -> Result<usize, WriteError>
-    ensures written { SortsInMemory value.entry buffer.old buffer.new result }
-    ensures kept { OnErr result (buffer.new ≡ buffer.old) }
+) -> Result<usize, AllocError>
+    ensures tried { IfOk result (IsTried (length buffer.old) value.entry buffer.old buffer.new) }
+    ensures kept { MatchResult result
+        (λ n. (n ≤ length buffer.old → ⊥) → buffer.new ≡ buffer.old)
+        (λ _. buffer.new ≡ buffer.old) }
 {
     let capacity = size.saturating_mul(4).min(buffer.len());
     let count = sort_within(alloc, buffer, value, capacity)?;
-    if count == usize::MAX {
-        return Err(WriteError::NeedsMemory);
-    }
-    if count > buffer.len() {
-        return Err(WriteError::BufferTooSmall(count));
-    }
     if count <= capacity {
         return Ok(count);
     }
-    Ok(sort_within(alloc, buffer, value, count)?)
+    if count > buffer.len() {
+        return Ok(count);
+    }
+    sort_within(alloc, buffer, value, count)
 }
 
 #[inline(never)]
