@@ -2,6 +2,8 @@
 use Rattle.std.specs.Prelude.{ℕ, ◌≡◌, ◌≢◌, ◌≤◌, Option, Some, None}
 use Rattle.serde_json.specs.Data.{Data}
 use Rattle.amqp_value_core.specs.Values.{Tree}
+use Rattle.amqp_json.specs.declared.conversion_error.EncodeError.{EncodeError}
+use Rattle.amqp_json.specs.declared.conversion_error.EncodeError.TheVariants.{Json}
 use Rattle.amqp_json.specs.declared.error.JsonError.{JsonError}
 use Rattle.amqp_json.specs.declared.error.JsonError.TheVariants.{OutOfMemory, Syntax, NotAValue}
 use Rattle.amqp_json.specs.Json.{json}
@@ -26,3 +28,8 @@ abbrev pub IsWithin : JsonError → ℕ → Type 0
 IsWithin OutOfMemory len = Unit {0}
 IsWithin (Syntax at) len = at ≤ len
 IsWithin (NotAValue at) len = at ≤ len
+
+-- so is the byte of an error that says why a text of that many bytes isn't read
+abbrev pub IsErrorWithin : EncodeError → ℕ → Type 0
+IsErrorWithin (Json e) len = IsWithin e len
+IsErrorWithin e len = Unit {0}

@@ -1,11 +1,12 @@
 //! From a JSON text to the canonical encoding.
 
-ghost use Rattle.std.specs.Prelude.{◌≡◌, IfOk, IfErr};
+ghost use Rattle.std.specs.Prelude.{◌≡◌, IfOk, IfErr, length};
 ghost use Rattle.amqp_value_core.specs.Values.{Tree};
 ghost use Rattle.amqp_value_core.specs.Texts.{text};
 ghost use Rattle.amqp_value_core.specs.View.{view};
 ghost use Rattle.amqp_json.specs.InMemory.{IsStored};
 ghost use Rattle.amqp_json.specs.Converts.{JsonTextMeans, IsEncodingOf, IsReadAs, HasNoEncoding, IsRefused};
+ghost use Rattle.amqp_json.specs.Refusals.{IsErrorWithin};
 
 use crate::canonical::canonical_of;
 use crate::conversion_error::EncodeError;
@@ -33,6 +34,7 @@ pub fn encoding_of_json(alloc: Global, json: &str) -> Result<Vec<u8>, EncodeErro
     ensures read_back { IfOk result (λ bytes. (v : Tree) → IsStored v → JsonTextMeans json.now v
         → IsReadAs bytes.items v) }
     ensures refused { IfErr result (IsRefused json.now) }
+    ensures within { IfErr result (λ e. IsErrorWithin e (length json.now)) }
 {
     match direct_encoding(alloc, json) {
         Ok(bytes) => return Ok(bytes),
