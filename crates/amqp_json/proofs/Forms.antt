@@ -1,6 +1,6 @@
 -- What JSON under the name of a type is.
 use Rattle.std.proofs.Common.{◌≡◌, ℕ, zero, suc, List, [], ◌∷◌, length, Option, Some, None, Result, Ok, Err, IfOk, IfErr, refl, sym, ap, ◌∙◌, subst}
-use Rattle.std.specs.Option.{option_map, option_and_then}
+use Rattle.std.specs.Option.{option_map}
 use Rattle.serde_json.specs.Data.{Num, Data, null, boolean, number, string, array, object, Items, item, Members, no_members, member}
 use Rattle.serde_json.specs.Find.{as_str}
 use Rattle.amqp_value_core.specs.declared.types.amqp_type.AMQPType.{AMQPType}
@@ -16,6 +16,7 @@ use Rattle.amqp_json.specs.Json.{json, members_json, sole_type, table_json}
 use Rattle.amqp_json.specs.Names.{type_named}
 use Rattle.amqp_json.specs.Reading.{decimal_in, value_under, value_named, ambiguous_table, entries_of, values_of, value_of}
 use Rattle.amqp_json.proofs.Back.{read_back}
+use Rattle.amqp_json.proofs.ReadWalks.{nothing_after}
 use Rattle.amqp_json.proofs.Walks.{shown}
 use Rattle.amqp_json.specs.Tokens.{IsOtherThanTable, IsOther, IsForm, IsReadError, IsValueRead, IsAfterItem, IsStop, IsObjectError}
 use Rattle.amqp_json.specs.declared.error.JsonError.{JsonError}
@@ -160,13 +161,9 @@ named_read ms k type d r typed same is = subst (IsForm r) (sym (ap value_of (ap 
 
 -- ---- an item that is no value, among others
 
-after_none : (o : Option Tree) (os : Option Trees) → os ≡ None → option_and_then (λ v. option_map (tree v) os) o ≡ None
-after_none None os none = refl
-after_none (Some v) os none = rw none
-
 unread_item : (vs : List AMQPValue) (d : Data) (ds : Items) → value_of d ≡ None → values_of (items_before vs (item d ds)) ≡ None
 unread_item [] d ds none = rw none refl
-unread_item (v ∷ vs) d ds none = after_none (value_of (json (view v))) _ (unread_item vs d ds none)
+unread_item (v ∷ vs) d ds none = nothing_after (value_of (json (view v))) _ (unread_item vs d ds none)
 
 pub item_error : (e : JsonError) (vs : List AMQPValue) (d : Data) (all left : Option (Items × List Token)) (rest : List Token) → value_of d ≡ None
     → all ≡ parse_map (items_before vs) (parse_map (item d) left) → IsAfterItem e left rest → IsReadError e (parse_map array all) rest

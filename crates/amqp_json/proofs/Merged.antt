@@ -12,7 +12,9 @@ use Rattle.amqp_json.specs.Reading.{value_of, with_entry, entries_of}
 use Rattle.amqp_json.specs.InMemory.{EntriesStored}
 use Rattle.amqp_json.specs.Json.{members_json}
 use Rattle.amqp_json.specs.Names.{type_named}
+use Rattle.amqp_json.specs.Sorted.{by_key, at_key}
 use Rattle.amqp_json.specs.Tokens.{IsTableObject, IsNoEntry, BecomesTable}
+use Rattle.amqp_json.proofs.ReadWalks.{no_more}
 
 abbrev by : List ℕ → List ℕ → Ordering
 by k l = slice_cmp nat_cmp k l
@@ -210,11 +212,6 @@ no_entries_without k (member l e bs) all = so (is_eq (by k l)) (no_entries_witho
     so false inner = (all.0, inner)
 
 -- with one of them there are no entries
-nothing_with : (k : List ℕ) (b : Bool) (o : Option Tree) (es : Option Entries) → nat_le (length k) 255 ≡ b → es ≡ None → with_entry k o es ≡ None
-nothing_with k true None es s none = rw s
-nothing_with k true (Some x) es s none = rw (s, none)
-nothing_with k false o es s none = rw s
-
 pub no_entry : (k : List ℕ) (d : Data) (ms : Members) → IsNoEntry k d → entries_of (put k d ms) ≡ None
 no_entry k d no_members none = none (Some _)
 no_entry k d (member l e ms) none = so (by k l) refl (no_entry k d ms none)
@@ -222,7 +219,7 @@ no_entry k d (member l e ms) none = so (by k l) refl (no_entry k d ms none)
     so : (o : Ordering) → by k l ≡ o → entries_of (put k d ms) ≡ None → entries_of (match_ordering o (member k d (member l e ms)) (member l d ms) (member l e (put k d ms))) ≡ None
     so Less is later = none (entries_of (member l e ms))
     so Equal is later = subst (λ (j : List ℕ). with_entry j (value_of d) (entries_of ms) ≡ None) (equal_keys k l is) (none (entries_of ms))
-    so Greater is later = nothing_with l _ (value_of e) (entries_of (put k d ms)) refl later
+    so Greater is later = no_more l _ (value_of e) (entries_of (put k d ms)) refl later
 
 -- ---- the map that has their keys
 
@@ -231,25 +228,19 @@ AreKeysOf [] no_members = Unit {0}
 AreKeysOf (e ∷ es) (member k d bs) = (e.0.now ≡ k) × AreKeysOf es bs
 AreKeysOf _ _ = ⊥
 
-abbrev pub by_bytes : Bor (List ℕ) → Bor (List ℕ) → Ordering
-by_bytes x y = slice_cmp nat_cmp x.now y.now
-
-pub keys_put : (es : List (Bor (List ℕ) × ℕ)) (bs : Members) (x : Bor (List ℕ)) (at : ℕ) (d : Data) → AreKeysOf es bs → AreKeysOf (insert_entry by_bytes es x at) (put x.now d bs)
+pub keys_put : (es : List (Bor (List ℕ) × ℕ)) (bs : Members) (x : Bor (List ℕ)) (at : ℕ) (d : Data) → AreKeysOf es bs → AreKeysOf (insert_entry by_key es x at) (put x.now d bs)
 keys_put [] no_members x at d are = (refl, tt)
 keys_put [] (member k e bs) x at d are = absurd are
 keys_put (e ∷ es) no_members x at d are = absurd are
 keys_put (e ∷ es) (member k f bs) x at d are =
-    subst (λ (o : Ordering). AreKeysOf (match_ordering (by_bytes x e.0) ((x, at) ∷ e ∷ es) ((e.0, at) ∷ es) (e ∷ insert_entry by_bytes es x at)) (match_ordering o (member x.now d (member k f bs)) (member k d bs) (member k f (put x.now d bs))))
-    (ap (slice_cmp nat_cmp x.now) are.0) (so (by_bytes x e.0) (keys_put es bs x at d are.1))
+    subst (λ (o : Ordering). AreKeysOf (match_ordering (by_key x e.0) ((x, at) ∷ e ∷ es) ((e.0, at) ∷ es) (e ∷ insert_entry by_key es x at)) (match_ordering o (member x.now d (member k f bs)) (member k d bs) (member k f (put x.now d bs))))
+    (ap (slice_cmp nat_cmp x.now) are.0) (so (by_key x e.0) (keys_put es bs x at d are.1))
   where
-    so : (o : Ordering) → AreKeysOf (insert_entry by_bytes es x at) (put x.now d bs)
-        → AreKeysOf (match_ordering o ((x, at) ∷ e ∷ es) ((e.0, at) ∷ es) (e ∷ insert_entry by_bytes es x at)) (match_ordering o (member x.now d (member k f bs)) (member k d bs) (member k f (put x.now d bs)))
+    so : (o : Ordering) → AreKeysOf (insert_entry by_key es x at) (put x.now d bs)
+        → AreKeysOf (match_ordering o ((x, at) ∷ e ∷ es) ((e.0, at) ∷ es) (e ∷ insert_entry by_key es x at)) (match_ordering o (member x.now d (member k f bs)) (member k d bs) (member k f (put x.now d bs)))
     so Less later = (refl, are)
     so Equal later = are
     so Greater later = (are.0, later)
-
-abbrev pub at_key : List ℕ → Bor (List ℕ) → Bool
-at_key k x = is_eq (slice_cmp nat_cmp k x.now)
 
 pub keys_without : (k : List ℕ) (es : List (Bor (List ℕ) × ℕ)) (bs : Members) → AreKeysOf es bs → AreKeysOf (remove_entry (at_key k) es) (without k bs)
 keys_without k [] no_members are = tt
@@ -327,7 +318,7 @@ no_value_entry k d none es = ap (λ (o : Option Tree). with_entry k o es) none �
 
 pub rest_step : (S : Type 0) (o : Option ℕ) (k : Bor (List ℕ)) (d : Data) (es fs : List (Bor (List ℕ) × ℕ)) (bs : Members) (old new : Entries)
     → MatchOption o ((members_json new ≡ put k.now d (members_json old)) × S) (λ _. IsNoEntry k.now d × (new ≡ old))
-    → MatchOption o (fs ≡ remove_entry (at_key k.now) es) (λ at. fs ≡ insert_entry by_bytes es k at) → AreKeysOf es bs → AreNoEntries bs → AreMembersRising bs
+    → MatchOption o (fs ≡ remove_entry (at_key k.now) es) (λ at. fs ≡ insert_entry by_key es k at) → AreKeysOf es bs → AreNoEntries bs → AreMembersRising bs
     → (cs : Members) × AreKeysOf fs cs × AreNoEntries cs × AreMembersRising cs × (merge cs (members_json new) ≡ put k.now d (merge bs (members_json old)))
 rest_step S None k d es fs bs old new is map keys all rises = (
   without k.now bs,

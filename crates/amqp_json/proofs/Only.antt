@@ -11,6 +11,7 @@ use Rattle.std.proofs.lemmas.Slice.Eq.{bytes_eq-Decides}
 use mir.Val.{hbits}
 use Rattle.std.proofs.lemmas.Int.{to_z_pos}
 use Rattle.amqp_json.proofs.Signed.{from_its_bits}
+use Rattle.amqp_json.proofs.Turns.{mapped}
 use Rattle.std.proofs.lemmas.Nat.{be_bytes_4, be_bytes_8}
 use Rattle.hex.specs.Hex.{lower_digits, encode_with, encode_lower, decode_of, decode_sized, decode_pairs, pair_value, value_at, digit_or_error, hex_digit_value, ◌>>=◌, IsBytes}
 use Rattle.hex.specs.declared.error.FromHexError.{FromHexError}
@@ -29,10 +30,6 @@ use Rattle.amqp_json.specs.Json.{under, natural, integer, hexadecimal, sole_type
 use Rattle.amqp_json.specs.Reading.{is_capital, text_without_capitals, long_long, is_natural_as_negative, plain_in, decimal_in, bytes_in, sized_in, long_of, value_under, value_named, value_in, ambiguous_in, ambiguous_table, first_ambiguous, value_of, values_of, entries_of}
 
 -- ---- what a `Some` means
-
-some_map : {A B : Type 0} (f : A → B) (o : Option A) (y : B) → option_map f o ≡ Some y → (x : A) × (o ≡ Some x) × (f x ≡ y)
-some_map f None y h = absurd (cc h)
-some_map f (Some x) y h = let e : f x ≡ y = cc in (x, refl, e)
 
 some_then : {A B : Type 0} (f : A → Option B) (o : Option A) (y : B) → option_and_then f o ≡ Some y → (x : A) × (o ≡ Some x) × (f x ≡ Some y)
 some_then f None y h = absurd (cc h)
@@ -106,7 +103,7 @@ signed_under : (type : AMQPType) (w : Width) (d : Data) (t : Tree) → core.json
     → ((n : ℕ) → json (scalar (values.number type n)) ≡ under type (integer w n)) → plain_in type d ≡ Some t → json t ≡ under type d
 signed_under type w d t how written h =
     let a = unless_some (is_natural_as_negative d) (core.json d type) t h in
-    let c = some_map (λ z. scalar (values.number type (cast_unsigned w z))) (signed_within (2 ^ hbits w) d) t (sym how ∙ a.1) in
+    let c = mapped (λ z. scalar (values.number type (cast_unsigned w z))) (signed_within (2 ^ hbits w) d) t (sym how ∙ a.1) in
     let e = signed_is (2 ^ hbits w) d c.0 a.0 c.1 in
     ap json (sym c.2) ∙ written (cast_unsigned w c.0) ∙ ap (λ z. under type (number (of_integer z))) (from_its_bits w c.0 e.1) ∙ ap (under type) e.0
 
@@ -114,13 +111,13 @@ unsigned_under : (type : AMQPType) (read : Data → Option ℕ) (d : Data) (t : 
     → ((n : ℕ) → json (scalar (values.number type n)) ≡ under type (natural n)) → plain_in type d ≡ Some t → json t ≡ under type d
 unsigned_under type read d t is how written h =
     let a = unless_some (is_natural_as_negative d) (core.json d type) t h in
-    let c = some_map (λ n. scalar (values.number type n)) (read d) t (sym how ∙ a.1) in
+    let c = mapped (λ n. scalar (values.number type n)) (read d) t (sym how ∙ a.1) in
     ap json (sym c.2) ∙ written c.0 ∙ ap (under type) (is c.0 c.1)
 
 is_ShortString : (d : Data) (t : Tree) → plain_in amqp.ShortString d ≡ Some t → json t ≡ under amqp.ShortString d
 is_ShortString d t h =
     let a = unless_some (is_natural_as_negative d) (core.json d amqp.ShortString) t h in
-    let c = some_map short (short_text d) t a.1 in
+    let c = mapped short (short_text d) t a.1 in
     let e = some_then (λ s. if nat_le (length s) 255 then Some s else None) (as_str d) c.0 c.1 in
     let f = if_some (nat_le (length e.0) 255) (Some e.0) c.0 e.2 in
     ap json (sym c.2) ∙ ap (λ s. under amqp.ShortString (string s)) (sym (inside e.0 c.0 f.1)) ∙ ap (under amqp.ShortString) (text_is d e.0 e.1)
@@ -226,19 +223,19 @@ sized_are n d b h =
 
 is_Float : (d : Data) (t : Tree) → value_under amqp.Float d ≡ Some t → json t ≡ under amqp.Float d
 is_Float d t h =
-    let c = some_map (λ b. scalar (values.number amqp.Float (from_be_bytes w32 b))) (sized_in 4 d) t h in
+    let c = mapped (λ b. scalar (values.number amqp.Float (from_be_bytes w32 b))) (sized_in 4 d) t h in
     let e = sized_are 4 d c.0 c.1 in
     ap json (sym c.2) ∙ ap (λ b. under amqp.Float (hexadecimal b)) (be_bytes_4 c.0 (from_be_bytes w32 c.0) e.1 e.2 refl) ∙ ap (under amqp.Float) e.0
 
 is_Double : (d : Data) (t : Tree) → value_under amqp.Double d ≡ Some t → json t ≡ under amqp.Double d
 is_Double d t h =
-    let c = some_map (λ b. scalar (values.number amqp.Double (from_be_bytes w64 b))) (sized_in 8 d) t h in
+    let c = mapped (λ b. scalar (values.number amqp.Double (from_be_bytes w64 b))) (sized_in 8 d) t h in
     let e = sized_are 8 d c.0 c.1 in
     ap json (sym c.2) ∙ ap (λ b. under amqp.Double (hexadecimal b)) (be_bytes_8 c.0 (from_be_bytes w64 c.0) e.1 e.2 refl) ∙ ap (under amqp.Double) e.0
 
 is_ByteArray : (d : Data) (t : Tree) → value_under amqp.ByteArray d ≡ Some t → json t ≡ under amqp.ByteArray d
 is_ByteArray d t h =
-    let c = some_map octets (bytes_in d) t h in
+    let c = mapped octets (bytes_in d) t h in
     ap json (sym c.2) ∙ ap (under amqp.ByteArray) (bytes_are d c.0 c.1)
 
 is_LongString : (d : Data) (t : Tree) → value_under amqp.LongString d ≡ Some t → json t ≡ under amqp.LongString d
@@ -255,7 +252,7 @@ is_decimal (object (member a x (member b y no_members))) t h =
     let k = (bytes_eq-Decides a (codes "scale")).0 each.0 in
     let j = (bytes_eq-Decides b (codes "value")).0 each.1 in
     let m = some_then _ (unsigned_below (2 ^ 8) x) t names.1 in
-    let n = some_map (λ n. scalar (decimal m.0 n)) (unsigned_below (2 ^ 32) y) t m.2 in
+    let n = mapped (λ n. scalar (decimal m.0 n)) (unsigned_below (2 ^ 32) y) t m.2 in
     ap json (sym n.2)
     ∙ ap (λ u. under amqp.DecimalValue (object (member (codes "scale") u (member (codes "value") (natural n.0) no_members)))) (below_is (2 ^ 8) x m.0 m.1)
     ∙ ap (λ u. under amqp.DecimalValue (object (member (codes "scale") x (member (codes "value") u no_members)))) (below_is (2 ^ 32) y n.0 n.1)
@@ -279,7 +276,7 @@ decimal_read (object (member a x (member b y no_members))) t h none =
     let k = (bytes_eq-Decides a (codes "scale")).0 each.0 in
     let j = (bytes_eq-Decides b (codes "value")).0 each.1 in
     let m = some_then _ (unsigned_below (2 ^ 8) x) t names.1 in
-    let n = some_map (λ n. scalar (decimal m.0 n)) (unsigned_below (2 ^ 32) y) t m.2 in
+    let n = mapped (λ n. scalar (decimal m.0 n)) (unsigned_below (2 ^ 32) y) t m.2 in
     let less = below_less (2 ^ 8) x m.0 m.1 in
     let low : nat_lt m.0 (2 ^ 63) ≡ true = grind (arith) in
     let lesser = below_less (2 ^ 32) y n.0 n.1 in
@@ -323,13 +320,13 @@ is_under_name type d t inner h = is_under type d t h
 -- a table that no type's name is taken for, and one that is
 plain_table : (ms : Members) (es : Option Entries) (t : Tree) → sole_type ms ≡ None → ((fs : Entries) → es ≡ Some fs → members_json fs ≡ ms) → option_map table es ≡ Some t → json t ≡ object ms
 plain_table ms es t o later h =
-    let c = some_map table es t h in
+    let c = mapped table es t h in
     ap json (sym c.2) ∙ ap table_json (later c.0 c.1) ∙ rw o refl
 
 named_table : (ms : Members) (es : Option Entries) (t : Tree) (o : Option AMQPType) → sole_type ms ≡ o → ((fs : Entries) → es ≡ Some fs → members_json fs ≡ ms) → ambiguous_in o es ≡ Some t → json t ≡ under amqp.FieldTable (object ms)
 named_table ms es t None o later h = absurd (cc h)
 named_table ms es t (Some type) o later h =
-    let c = some_map table es t h in
+    let c = mapped table es t h in
     ap json (sym c.2) ∙ ap table_json (later c.0 c.1) ∙ rw o refl
 
 in_object : (ms : Members) (o : Option AMQPType) (t : Tree) → sole_type ms ≡ o → ((fs : Entries) → entries_of ms ≡ Some fs → members_json fs ≡ ms)
@@ -350,7 +347,7 @@ mutual
       let plain : long_json s ≡ string s = rw (c.0) refl in
       ap json (sym (inside (long s) t c.1)) ∙ plain
   only_json (array ds) t h =
-      let c = some_map values.array (values_of ds) t h in
+      let c = mapped values.array (values_of ds) t h in
       ap json (sym c.2) ∙ ap array (only_items ds c.0 c.1)
   only_json (object ms) t h = in_object ms _ t refl (only_members ms) (only_inner ms) h
 
@@ -366,7 +363,7 @@ mutual
   only_items no_items ts h = ap items_json (sym (inside no_trees ts h))
   only_items (item d ds) ts h =
       let a = some_then _ (value_of d) ts h in
-      let c = some_map (tree a.0) (values_of ds) ts a.2 in
+      let c = mapped (tree a.0) (values_of ds) ts a.2 in
       ap items_json (sym c.2) ∙ ap (λ x. item x (items_json c.0)) (only_json d a.0 a.1) ∙ ap (item d) (only_items ds c.0 c.1)
 
   only_members : (ms : Members) (es : Entries) → entries_of ms ≡ Some es → members_json es ≡ ms
@@ -374,5 +371,5 @@ mutual
   only_members (member k d ms) es h =
       let a = if_some (nat_le (length k) 255) _ es h in
       let b = some_then _ (value_of d) es a.1 in
-      let c = some_map (entry k b.0) (entries_of ms) es b.2 in
+      let c = mapped (entry k b.0) (entries_of ms) es b.2 in
       ap members_json (sym c.2) ∙ ap (λ x. member k x (members_json c.0)) (only_json d b.0 b.1) ∙ ap (member k d) (only_members ms c.0 c.1)

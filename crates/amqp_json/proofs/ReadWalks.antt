@@ -58,7 +58,8 @@ unfolding both
 items_next vs k v ts us t h e is p q =
     ap (λ ws. values_of (items_view ws)) (sym (taken_more vs k v h e)) ∙ values_snoc (take k vs) v ∙ rw (p, q) (ap Some (sym (ap trees is ∙ trees_snoc ts t)))
 
-nothing_after : (q : Option Tree) (os : Option Trees) → os ≡ None → option_and_then (λ x. option_map (tree x) os) q ≡ None
+-- an item is missing
+pub nothing_after : (q : Option Tree) (os : Option Trees) → os ≡ None → option_and_then (λ x. option_map (tree x) os) q ≡ None
 nothing_after None os e = refl
 nothing_after (Some x) os e = rw e
 
@@ -126,7 +127,8 @@ member_next (first ∷ done) e more es x rising p q short =
     ∙ with_short j (Some f.first) (Some (insert k x f.rest)) f.short
     ∙ ap Some (sym (ap (insert k x) f.whole ∙ after))
 
-no_more : (k : List ℕ) (b : Bool) (o : Option Tree) (os : Option Entries) → nat_le (length k) 255 ≡ b → os ≡ None → with_entry k o os ≡ None
+-- a member is missing
+pub no_more : (k : List ℕ) (b : Bool) (o : Option Tree) (os : Option Entries) → nat_le (length k) 255 ≡ b → os ≡ None → with_entry k o os ≡ None
 no_more k true None os s e = rw s
 no_more k true (Some x) os s e = rw (s, e)
 no_more k false o os s e = rw s

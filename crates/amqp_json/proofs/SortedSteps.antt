@@ -14,41 +14,37 @@ use Rattle.amqp_in_place.specs.Walks.{PairStep}
 use Rattle.amqp_in_place.specs.declared.refs.ValueRef.{ValueRef}
 use Rattle.amqp_json.specs.Json.{json, members_json}
 use Rattle.amqp_json.specs.Adds.{Adds}
-use Rattle.amqp_json.specs.Sorted.{AreAt, body_len, above_bodies}
+use Rattle.amqp_json.specs.Sorted.{by_key, AreAt, body_len, above_bodies}
 
 abbrev pub AtStep : Type 0
 AtStep = Bor (List ℕ) × ValueRef
 
--- the order of the map's keys
-abbrev pub by_bytes : Bor (List ℕ) → Bor (List ℕ) → Ordering
-by_bytes x y = slice_cmp nat_cmp x.now y.now
-
 -- a pair is put in its place
-placed : (es : List AtStep) (fs : Entries) (x e : AtStep) (k j : List ℕ) (v u : Tree) (o : Ordering) → x.0.now ≡ k → Denotes x.1 v → AreAt (e ∷ es) (entry j u fs) → AreAt (insert_entry by_bytes es x.0 x.1) (insert k v fs)
-    → AreAt (match_ordering o ((x.0, x.1) ∷ e ∷ es) ((e.0, x.1) ∷ es) (e ∷ insert_entry by_bytes es x.0 x.1)) (match_ordering o (entry k v (entry j u fs)) (entry j v fs) (entry j u (insert k v fs)))
+placed : (es : List AtStep) (fs : Entries) (x e : AtStep) (k j : List ℕ) (v u : Tree) (o : Ordering) → x.0.now ≡ k → Denotes x.1 v → AreAt (e ∷ es) (entry j u fs) → AreAt (insert_entry by_key es x.0 x.1) (insert k v fs)
+    → AreAt (match_ordering o ((x.0, x.1) ∷ e ∷ es) ((e.0, x.1) ∷ es) (e ∷ insert_entry by_key es x.0 x.1)) (match_ordering o (entry k v (entry j u fs)) (entry j v fs) (entry j u (insert k v fs)))
 placed es fs x e k j v u Less same denotes are later = (same, denotes, are)
 placed es fs x e k j v u Equal same denotes are later = (are.0, denotes, are.2)
 placed es fs x e k j v u Greater same denotes are later = (are.0, are.1, later)
 
-pub at_insert : (es : List AtStep) (fs : Entries) (x : AtStep) (k : List ℕ) (v : Tree) → x.0.now ≡ k → Denotes x.1 v → AreAt es fs → AreAt (insert_entry by_bytes es x.0 x.1) (insert k v fs)
+pub at_insert : (es : List AtStep) (fs : Entries) (x : AtStep) (k : List ℕ) (v : Tree) → x.0.now ≡ k → Denotes x.1 v → AreAt es fs → AreAt (insert_entry by_key es x.0 x.1) (insert k v fs)
 at_insert [] no_entries x k v same denotes are = (same, denotes, tt)
 at_insert [] (entry j u fs) x k v same denotes are = absurd are
 at_insert (e ∷ es) no_entries x k v same denotes are = absurd are
 at_insert (e ∷ es) (entry j u fs) x k v same denotes are =
-    let alike : by_bytes x.0 e.0 ≡ slice_cmp nat_cmp k j = ap (λ (t : List ℕ). slice_cmp nat_cmp t e.0.now) same ∙ ap (slice_cmp nat_cmp k) are.0 in
-    subst (λ (o : Ordering). AreAt (match_ordering (by_bytes x.0 e.0) ((x.0, x.1) ∷ e ∷ es) ((e.0, x.1) ∷ es) (e ∷ insert_entry by_bytes es x.0 x.1)) (match_ordering o (entry k v (entry j u fs)) (entry j v fs) (entry j u (insert k v fs))))
-    alike (placed es fs x e k j v u (by_bytes x.0 e.0) same denotes are (at_insert es fs x k v same denotes are.2))
+    let alike : by_key x.0 e.0 ≡ slice_cmp nat_cmp k j = ap (λ (t : List ℕ). slice_cmp nat_cmp t e.0.now) same ∙ ap (slice_cmp nat_cmp k) are.0 in
+    subst (λ (o : Ordering). AreAt (match_ordering (by_key x.0 e.0) ((x.0, x.1) ∷ e ∷ es) ((e.0, x.1) ∷ es) (e ∷ insert_entry by_key es x.0 x.1)) (match_ordering o (entry k v (entry j u fs)) (entry j v fs) (entry j u (insert k v fs))))
+    alike (placed es fs x e k j v u (by_key x.0 e.0) same denotes are (at_insert es fs x k v same denotes are.2))
 
 -- no value in the map has a longer body
-placed_above : (es : List AtStep) (x e : AtStep) (n : ℕ) (o : Ordering) → body_len x.1 < n → above_bodies (e ∷ es) ≤ n → above_bodies (insert_entry by_bytes es x.0 x.1) ≤ n
-    → above_bodies (match_ordering o ((x.0, x.1) ∷ e ∷ es) ((e.0, x.1) ∷ es) (e ∷ insert_entry by_bytes es x.0 x.1)) ≤ n
+placed_above : (es : List AtStep) (x e : AtStep) (n : ℕ) (o : Ordering) → body_len x.1 < n → above_bodies (e ∷ es) ≤ n → above_bodies (insert_entry by_key es x.0 x.1) ≤ n
+    → above_bodies (match_ordering o ((x.0, x.1) ∷ e ∷ es) ((e.0, x.1) ∷ es) (e ∷ insert_entry by_key es x.0 x.1)) ≤ n
 placed_above es x e n Less short few later = omega (arith, short, few)
 placed_above es x e n Equal short few later = omega (arith, short, few)
 placed_above es x e n Greater short few later = omega (arith, few, later)
 
-pub insert_above : (es : List AtStep) (x : AtStep) (n : ℕ) → body_len x.1 < n → above_bodies es ≤ n → above_bodies (insert_entry by_bytes es x.0 x.1) ≤ n
+pub insert_above : (es : List AtStep) (x : AtStep) (n : ℕ) → body_len x.1 < n → above_bodies es ≤ n → above_bodies (insert_entry by_key es x.0 x.1) ≤ n
 insert_above [] x n short few = omega (arith, short)
-insert_above (e ∷ es) x n short few = placed_above es x e n (by_bytes x.0 e.0) short few (insert_above es x n short (omega (arith, few)))
+insert_above (e ∷ es) x n short few = placed_above es x e n (by_key x.0 e.0) short few (insert_above es x n short (omega (arith, few)))
 
 -- the map has the pairs so far
 abbrev pub Mapped : List ℕ → List ℕ → List AtStep → Type 0
@@ -57,7 +53,7 @@ Mapped all left es = (ps : Entries) → TableBody all ps → (done : Entries) ×
 pub mapped_first : (all : List ℕ) (es : List AtStep) → es ≡ [] → Mapped all all es
 mapped_first all es none = λ ps p. (no_entries, ps, p, subst (λ (t : List AtStep). AreAt t no_entries) (sym none) tt, refl)
 
-pub mapped_next : (all left less : List ℕ) (es fs : List AtStep) (x : AtStep) → Mapped all left es → ((qs : Entries) → TableBody left qs → PairStep qs (Some x) less) → fs ≡ insert_entry by_bytes es x.0 x.1 → Mapped all less fs
+pub mapped_next : (all left less : List ℕ) (es fs : List AtStep) (x : AtStep) → Mapped all left es → ((qs : Entries) → TableBody left qs → PairStep qs (Some x) less) → fs ≡ insert_entry by_key es x.0 x.1 → Mapped all less fs
 mapped_next all left less es fs x so step is = λ ps p. let at = so ps p in by ps at.0 at.1 (step at.1 at.2) at.3 at.4
   where
     by : (ps done qs : Entries) → PairStep qs (Some x) less → AreAt es done → insert_all done qs ≡ insert_all no_entries ps

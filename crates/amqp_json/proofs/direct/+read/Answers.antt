@@ -14,13 +14,14 @@ use Rattle.amqp_json.specs.declared.error.JsonError.{JsonError}
 use Rattle.amqp_json.specs.declared.error.JsonError.TheVariants as error
 use Rattle.amqp_json.specs.Json.{json, items_json, members_json}
 use Rattle.amqp_json.specs.InMemory.{AreStoredTrees, EntriesStored}
+use Rattle.amqp_json.specs.Sorted.{by_key}
 use Rattle.amqp_json.specs.Tokens.{IsObjectOf, IsReadError, IsValueRead, IsFormsRead, IsObjectError, IsTableRead, IsTableError, IsForm, IsStop, IsTableObject, BecomesTable, MembersLeadTo, EndsNowhere, next_token, members_of}
 use Rattle.amqp_json.proofs.Walks.{trees_stored}
 use Rattle.amqp_json.proofs.Turns.{insert_put, closed}
 use Rattle.amqp_json.proofs.Turns.{converted-array, converted-object, item_read, item_refused, items_over, items_before, items_before-no_items, one_more_item, key_refused, members_over}
 use Rattle.amqp_json.proofs.Forms.{object_error, text_read, item_error, stops_value, IsOtherToken, other_token}
 use Rattle.amqp_json.proofs.Leading.{table_object, taken, next_is, leads, leads_as, past_member, over, no_member, no_key, table_on, stops, stops_table, stops_object, was_put, was_bad}
-use Rattle.amqp_json.proofs.Merged.{merge, AreKeysOf, by_bytes, becomes, first_of_table, second_of_table, put_over, no_value_entry, rest_step, stored_step, no_keys, some_keys}
+use Rattle.amqp_json.proofs.Merged.{merge, AreKeysOf, becomes, first_of_table, second_of_table, put_over, no_value_entry, rest_step, stored_step, no_keys, some_keys}
 use Rattle.std.specs.BTreeMap.{insert_entry}
 use Rattle.amqp_json.proofs.direct.+read.Goals as goal
 
@@ -505,7 +506,7 @@ read_named-returns-in_err-key_after t c typed n enough =
 pub read_rest-members-init : goal.read_rest-members-init
 read_rest-members-init t c =
     let k = c.args.first.0 in
-    let map = c.in_ok-note.ensures ∙ ap (λ (es : List (Bor (List ℕ) × ℕ)). insert_entry by_bytes es k c.args.first.1) c.new-bad.ensures.empty in (
+    let map = c.in_ok-note.ensures ∙ ap (λ (es : List (Bor (List ℕ) × ℕ)). insert_entry by_key es k c.args.first.1) c.new-bad.ensures.empty in (
       λ d none many. (
         member k.now d no_members,
         subst (λ (es : List (Bor (List ℕ) × ℕ)). AreKeysOf es (member k.now d no_members)) (sym map) (refl, tt),
