@@ -19,7 +19,7 @@ LEFT_OUT = "test_"
 # The lines that are otherwise, each once in its file.
 LISTED = {
     # the keys that are put have at most 255 bytes, so copying one fails only for want of memory
-    ("amqp_json/src/direct.rt", "Err(ValueError::OutOfMemory | ValueError::NotAValue) => Err(JsonError::OutOfMemory),"),
+    ("amqp_json/src/direct/entry.rt", "Err(ValueError::OutOfMemory | ValueError::NotAValue) => Err(JsonError::OutOfMemory),"),
     # nothing is allocated there: a clause states that keys don't ascend
     ("amqp_json/src/buffer.rt", "None => Err(WriteError::NeedsMemory),"),
     # a clause states that the text has 2^64 - 1 bytes or more

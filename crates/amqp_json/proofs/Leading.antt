@@ -11,8 +11,8 @@ use Rattle.amqp_json.specs.declared.error.JsonError.{JsonError}
 use Rattle.amqp_json.specs.declared.error.JsonError.TheVariants.{OutOfMemory, Syntax, NotAValue}
 use Rattle.amqp_json.specs.Tokens.{MembersLeadTo, IsObjectOfMembers, EndsNowhere, members_of, next_token, IsStop, IsTableObject, IsTableRead, IsTableError, IsObjectError, IsObjectOf, IsObjectRead}
 use Rattle.amqp_json.specs.Json.{members_json, sole_type}
-use Rattle.amqp_json.specs.declared.direct.Object.{Object}
-use Rattle.amqp_json.specs.declared.direct.Object.TheVariants.{Table}
+use Rattle.amqp_json.specs.declared.direct.forms.Object.{Object}
+use Rattle.amqp_json.specs.declared.direct.forms.Object.TheVariants.{Table}
 use Rattle.amqp_value_core.specs.Containers.{table_view}
 use Rattle.amqp_json.proofs.Turns.{converted_some, member_read, member_refused, key_refused, members_over}
 

@@ -20,9 +20,9 @@ use Rattle.amqp_json.specs.InMemory.{IsStored, EntriesStored}
 use Rattle.amqp_json.specs.Reading.{value_of, value_named, ambiguous_table, with_entry, entries_of}
 use Rattle.amqp_json.specs.declared.error.JsonError.{JsonError}
 use Rattle.amqp_json.specs.declared.error.JsonError.TheVariants.{OutOfMemory, Syntax, NotAValue}
-use Rattle.amqp_json.specs.declared.direct.Forms.{Forms}
-use Rattle.amqp_json.specs.declared.direct.Object.{Object}
-use Rattle.amqp_json.specs.declared.direct.Object.TheVariants.{Table, Named}
+use Rattle.amqp_json.specs.declared.direct.forms.Forms.{Forms}
+use Rattle.amqp_json.specs.declared.direct.forms.Object.{Object}
+use Rattle.amqp_json.specs.declared.direct.forms.Object.TheVariants.{Table, Named}
 
 -- what is read at the start of some tokens is passed, and `rest` follows; or nothing is read
 abbrev pub Passes : {A : Type 0} → {E : Type 0} → Result (Unit {0}) E → Option (A × List Token) → List Token → Type 0

@@ -1,71 +1,44 @@
 //! From the tokens of a text to a value, without a `serde_json::Value` of the text.
 
-ghost use Rattle.std.specs.Prelude.{ℕ, ◌≡◌, ◌≢◌, ◌≤◌, ◌∷◌, [], length, List, Option, Some, None, IfOk, IfErr, OnOk, IfSome, MatchOption, MatchResult, option_map, true, false};
-ghost use Rattle.std.specs.BTreeMap.{insert_entry};
-ghost use Rattle.std.specs.Map.{remove_entry};
-ghost use Rattle.std.specs.Ordering.{nat_cmp, is_eq};
-ghost use Rattle.std.specs.Cmp.Lexicographic.{slice_cmp};
+ghost use Rattle.std.specs.Prelude.{ℕ, ◌≡◌, ◌≢◌, ◌≤◌, ◌∷◌, [], length, List, Some, None, IfOk, IfErr, MatchOption, MatchResult, option_map, true, false};
 ghost use Rattle.json.specs.Token.{Token as SpecToken};
 ghost use Rattle.json.specs.Token as token;
 ghost use Rattle.json.specs.Reads.{token_of};
 ghost use Rattle.json.specs.Json.{value, items, parse_map, read_key};
-ghost use Rattle.serde_json.specs.Data.{Data, Members, array, object, string, number, member, no_members, put};
+ghost use Rattle.serde_json.specs.Data.{Data, array, string, number, member, no_members, put};
 ghost use Rattle.serde_json.specs.Read.{of_json, of_items, converted, number_of, read};
-ghost use Rattle.amqp_value_core.specs.Values.{Tree, insert};
 ghost use Rattle.amqp_value_core.specs.View.{view};
 ghost use Rattle.amqp_value_core.specs.Containers.{array_view, table_view};
 ghost use Rattle.amqp_json.specs.Json.{json, items_json, members_json};
 ghost use Rattle.amqp_json.specs.Names.{type_named};
-ghost use Rattle.amqp_json.specs.Reading.{value_of, value_under, ambiguous_table};
+ghost use Rattle.amqp_json.specs.Reading.{value_of};
 ghost use Rattle.amqp_json.specs.Refusals.{IsJsonError};
-ghost use Rattle.amqp_json.specs.Tokens.{IsReadError, IsAfterItem, members_of, IsNoEntry, IsForm, IsFormsRead, IsValueRead, IsOther, IsObjectRead, next_token, BecomesTable, is_long_long, IsObjectOf, AreForms, IsPlaced, IsTableRead, IsMembersRead, IsMemberRead};
+ghost use Rattle.amqp_json.specs.Tokens.{IsReadError, IsAfterItem, members_of, IsNoEntry, IsForm, IsFormsRead, IsValueRead, IsObjectRead, next_token, BecomesTable, IsTableRead, IsMembersRead, IsMemberRead};
 ghost use Rattle.amqp_json.specs.declared.error.JsonError.TheVariants as json_error;
-ghost use Rattle.amqp_value_core.specs.declared.types.amqp_type.AMQPType.TheVariants as amqp;
-ghost use Rattle.amqp_json.specs.declared.direct.Object.TheVariants as object_is;
 ghost use Rattle.amqp_json.specs.InMemory.{IsStored, AreStoredTrees, EntriesStored};
+
+mod entry;
+mod faults;
+mod forms;
 
 use crate::error::{JsonError, ValueError};
 use crate::names::type_of_name;
 use crate::numerals::number;
 use crate::pass::{next_key, pass_items};
-use crate::reading::{long_long_int, long_text, short, under_type};
-use crate::writing::to_value;
+use crate::reading::{long_long_int, long_text};
 use amqp_value_core::types::{AMQPType, FieldArray, FieldTable};
 use amqp_value_core::value::AMQPValue;
+use entry::place;
+use faults::{least, mark, note};
+use forms::{
+    Object, Slots, clear_forms, no_forms, number_forms, object_forms, place_plain, plain_forms,
+    set_empty, set_named, set_table, value_in,
+};
 use json::{Reader, Scratch, Token};
-use serde_json::Value;
-use std::alloc::{AllocError, Global};
+use std::alloc::Global;
 use std::collections::BTreeMap;
-use std::mem;
 
 const MAX_DEPTH: usize = 127;
-
-// A value, or where the JSON begins that is that of none.
-type Form = Result<AMQPValue, usize>;
-
-// What JSON under the name of a type is: a value of its own, and one of that type.
-#[derive(Drop)]
-struct Forms {
-    plain: Form,
-    named: Form,
-}
-
-// What an object is.
-#[derive(Drop)]
-enum Object<'a> {
-    // A table, whose JSON isn't taken for a value of another type.
-    Table(FieldTable),
-    // The name of a type is the only key.
-    Named(&'a str, Forms),
-}
-
-// What was read last: an object, and what is under the name of a type. There is one for all levels, as
-// results are copied in each frame that they pass through.
-#[derive(Drop)]
-struct Slots<'a> {
-    object: Object<'a>,
-    forms: Forms,
-}
 
 /// The value whose JSON the text is.
 #[inline(never)]
@@ -179,22 +152,6 @@ fn read_token<'a>(
         Token::EndObject | Token::EndArray | Token::Key(_) | Token::Bad => Err(JsonError::Syntax(
             at,
         )),
-    }
-}
-
-// The value that an object is, which is no more there.
-#[inline(never)]
-fn value_in(slots: &mut Slots<'_>) -> Result<AMQPValue, JsonError>
-    ensures { (read : Option (Members × List SpecToken)) (rest : List SpecToken)
-        → IsObjectRead (Ok tt) slots.old.object read rest
-        → IsValueRead result (parse_map object read) rest }
-{
-    match taken(&mut slots.object) {
-        Object::Table(table) => Ok(AMQPValue::FieldTable(table)),
-        Object::Named(_, forms) => match named_of(forms) {
-            Ok(v) => Ok(v),
-            Err(at) => Err(JsonError::NotAValue(at)),
-        },
     }
 }
 
@@ -338,77 +295,6 @@ fn is_same(key: &str, name: &str) -> bool
     key == name
 }
 
-// Forms before they are read.
-#[inline(always)]
-fn no_forms() -> Forms {
-    Forms {
-        plain: Err(0),
-        named: Err(0),
-    }
-}
-
-// Drops what is under a key that occurs again.
-#[inline(never)]
-fn clear_forms(slots: &mut Slots<'_>) {
-    slots.forms = no_forms();
-}
-
-// The name of a type is the only key, and what is under it was read last.
-#[inline(never)]
-fn set_named<'a>(slots: &mut Slots<'a>, name: &'a str)
-    ensures { slots.new.object ≡ object_is.Named name.entry slots.old.forms }
-{
-    let forms = mem::replace(&mut slots.forms, no_forms());
-    slots.object = Object::Named(name, forms);
-}
-
-// The object has no members.
-#[inline(never)]
-fn set_empty(alloc: Global, slots: &mut Slots<'_>)
-    ensures { IsObjectOf slots.new.object no_members }
-{
-    set_table(slots, FieldTable::new_in(alloc));
-}
-
-// The object is a table. What was read before an error is dropped with the slots.
-#[inline(never)]
-fn set_table(slots: &mut Slots<'_>, table: FieldTable)
-    ensures { slots.new.object ≡ object_is.Table table }
-{
-    slots.object = Object::Table(table);
-}
-
-#[inline(never)]
-fn named_of(forms: Forms) -> Form
-    ensures { result ≡ forms.named }
-{
-    let Forms { plain, named } = forms;
-    drop(plain);
-    named
-}
-
-// Puts the value under the first key into a table, or returns where it begins if it is that of no entry.
-#[inline(never)]
-fn place_plain(
-    alloc: Global,
-    table: &mut FieldTable,
-    name: &str,
-    slots: &mut Slots<'_>,
-) -> Result<Option<usize>, JsonError>
-    ensures ok { (d : Data) → IsForm slots.old.forms.plain (value_of d) → IfOk result (λ o. IsPlaced o name.now d (table_view table.old) (table_view table.new)) }
-    ensures err { IfErr result (λ e. e ≡ json_error.OutOfMemory) }
-{
-    let Forms { plain, named } = mem::replace(&mut slots.forms, no_forms());
-    drop(named);
-    match plain {
-        Ok(v) => {
-            place(alloc, table, name, v)?;
-            Ok(None)
-        }
-        Err(at) => Ok(Some(at)),
-    }
-}
-
 // A table whose first key is the name of a type, of which this is the value, and another follows.
 #[cycle(read)]
 #[inline(always)]
@@ -467,194 +353,6 @@ fn token_after<'a>(reader: &mut Reader<'a>) -> Option<Token<'a>>
     ensures { MatchOption result ((reader.old ≡ []) × (reader.new ≡ [])) (λ t. reader.old ≡ token_of t ∷ reader.new) }
 {
     reader.next()
-}
-
-// What a number under the name of a type is: a Timestamp isn't always a LongLongInt.
-#[inline(never)]
-fn number_forms(
-    alloc: Global,
-    amqp_type: AMQPType,
-    text: &str,
-    at: usize,
-    forms: &mut Forms,
-) -> Result<(), JsonError>
-    ensures { (rest : List SpecToken) → IsFormsRead amqp_type result forms.new
-        (option_map (λ d. (d, rest)) (option_map number (number_of text.now))) rest }
-{
-    let n = number(text).ok_or(JsonError::Syntax(at))?;
-    *forms = Forms {
-        plain: optional(long_long_int(&n), at),
-        named: form(under_type(alloc, amqp_type, &Value::Number(n)), at)?,
-    };
-    Ok(())
-}
-
-// What an object under the name of a table is, as it was read.
-#[inline(never)]
-fn object_forms(
-    alloc: Global,
-    read: Result<(), JsonError>,
-    at: usize,
-    slots: &mut Slots<'_>,
-) -> Result<(), JsonError>
-    ensures { (members : Option (Members × List SpecToken)) (rest : List SpecToken)
-        → IsObjectRead read slots.old.object members rest
-        → IsFormsRead amqp.FieldTable result slots.new.forms (parse_map object members) rest }
-{
-    match read {
-        Ok(()) => {
-            slots.forms = forms_of(alloc, taken(&mut slots.object), at)?;
-            Ok(())
-        }
-        Err(JsonError::NotAValue(at)) => {
-            slots.forms = Forms {
-                plain: Err(at),
-                named: Err(at),
-            };
-            Ok(())
-        }
-        Err(e) => Err(e),
-    }
-}
-
-// What an object was, which is no more there.
-fn taken<'a>(found: &mut Object<'a>) -> Object<'a>
-    ensures { result ≡ found.old }
-{
-    mem::replace(found, Object::Named("", no_forms()))
-}
-
-// What an object under the name of a table is.
-fn forms_of(alloc: Global, found: Object<'_>, at: usize) -> Result<Forms, JsonError>
-    ensures ok { (ms : Members) → IsObjectOf found.entry ms → IfOk result (λ f. AreForms amqp.FieldTable f (object ms)) }
-    ensures err { IfErr result (λ e. e ≡ json_error.OutOfMemory) }
-{
-    match found {
-        Object::Table(table) => Ok(Forms {
-            plain: Ok(AMQPValue::FieldTable(table)),
-            named: Err(at),
-        }),
-        Object::Named(name, Forms { plain, named }) => Ok(Forms {
-            plain: named,
-            named: only_entry(alloc, name, plain)?,
-        }),
-    }
-}
-
-// The table whose only entry this is.
-fn only_entry(alloc: Global, name: &str, value: Form) -> Result<Form, JsonError>
-    ensures ok { (type : AMQPType) (d : Data) → type_named name.now ≡ Some type → IsForm value (value_of d)
-        → IfOk result (λ f. IsForm f (ambiguous_table (object (member name.now d no_members)))) }
-    ensures err { IfErr result (λ e. e ≡ json_error.OutOfMemory) }
-{
-    match value {
-        Ok(v) => {
-            let mut table = FieldTable::new_in(alloc);
-            place(alloc, &mut table, name, v)?;
-            Ok(Ok(AMQPValue::FieldTable(table)))
-        }
-        Err(at) => Ok(Err(at)),
-    }
-}
-
-// What other JSON under the name of a type is, as it was read.
-#[inline(never)]
-fn plain_forms(
-    alloc: Global,
-    amqp_type: AMQPType,
-    plain: Result<AMQPValue, JsonError>,
-    at: usize,
-    forms: &mut Forms,
-) -> Result<(), JsonError>
-    ensures { (read : Option (Data × List SpecToken)) (rest : List SpecToken)
-        → IsValueRead plain read rest → ((d : Data) → read ≡ Some (d, rest) → IsOther amqp_type d)
-        → IsFormsRead amqp_type result forms.new read rest }
-{
-    match plain {
-        Ok(v) => {
-            let named = named(alloc, amqp_type, &v, at)?;
-            *forms = Forms {
-                plain: Ok(v),
-                named,
-            };
-            Ok(())
-        }
-        Err(JsonError::NotAValue(at)) => {
-            *forms = Forms {
-                plain: Err(at),
-                named: Err(at),
-            };
-            Ok(())
-        }
-        Err(e) => Err(e),
-    }
-}
-
-// The value of a type whose JSON, under the type's name, is that of `inner`.
-fn named(
-    alloc: Global,
-    amqp_type: AMQPType,
-    inner: &AMQPValue,
-    at: usize,
-) -> Result<Form, JsonError>
-    ensures ok { IfOk result (λ f. IsForm f (value_under amqp_type (json (view inner.now)))) }
-    ensures err { IfErr result (λ e. e ≡ json_error.OutOfMemory) }
-{
-    if !may_be_named(inner) {
-        return Ok(Err(at));
-    }
-    form(under_type(alloc, amqp_type, &to_value(alloc, inner)?), at)
-}
-
-// Whether the value isn't a container, or one whose JSON may be that of a decimal number.
-fn may_be_named(value: &AMQPValue) -> bool
-    ensures { result ≡ false → (type : AMQPType) → value_under type (json (view value.now)) ≡ None }
-{
-    match value {
-        AMQPValue::FieldArray(_) => false,
-        AMQPValue::FieldTable(table) => {
-            let mut walk = table.inner().iter();
-            match (walk.next(), walk.next(), walk.next()) {
-                (Some((_, scale)), Some((_, number)), None) => is_number(scale)
-                    && is_number(number),
-                _ => false,
-            }
-        }
-        _ => true,
-    }
-}
-
-fn is_number(value: &AMQPValue) -> bool
-    ensures { result ≡ is_long_long (view value.now) }
-{
-    match value {
-        AMQPValue::LongLongInt(_) => true,
-        _ => false,
-    }
-}
-
-// What was read, if it is a value.
-fn optional(read: Option<AMQPValue>, at: usize) -> Form
-    ensures { (o : Option Tree) → option_map view read ≡ o → IfSome read (λ v. IsStored (view v))
-        → IsForm result o }
-{
-    match read {
-        Some(v) => Ok(v),
-        None => Err(at),
-    }
-}
-
-// What was read, unless memory ran out.
-fn form(read: Result<AMQPValue, ValueError>, at: usize) -> Result<Form, JsonError>
-    ensures ok { (o : Option Tree) → IfOk read (λ v. (o ≡ Some (view v)) × IsStored (view v))
-        → IfErr read (λ e. e ≡ ValueError.NotAValue → o ≡ None) → IfOk result (λ f. IsForm f o) }
-    ensures err { IfErr result (λ e. e ≡ json_error.OutOfMemory) }
-{
-    match read {
-        Ok(v) => Ok(Ok(v)),
-        Err(ValueError::NotAValue) => Ok(Err(at)),
-        Err(ValueError::OutOfMemory) => Err(JsonError::OutOfMemory),
-    }
 }
 
 // A table of some members, of one with this key, and of those that are left.
@@ -762,68 +460,5 @@ fn read_member<'a>(
         Ok(_) => Ok(Some(at)),
         Err(JsonError::NotAValue(at)) => Ok(Some(at)),
         Err(e) => Err(e),
-    }
-}
-
-#[inline(never)]
-fn note<'a>(bad: &mut BTreeMap<&'a str, usize>, name: &'a str, at: usize) -> Result<(), AllocError>
-    ensures { OnOk result (bad.new.entries ≡ insert_entry (λ x y. slice_cmp nat_cmp x.now y.now) bad.old.entries name.entry at) }
-{
-    drop(bad.insert(name, at)?);
-    Ok(())
-}
-
-#[inline(never)]
-fn forget(bad: &mut BTreeMap<&str, usize>, name: &str)
-    ensures { bad.new.entries ≡ remove_entry (λ x. is_eq (slice_cmp nat_cmp name.now x.now)) bad.old.entries }
-{
-    drop(bad.remove(name));
-}
-
-// Notes where the value of a key begins that isn't that of an entry, or that the key has one that is.
-#[inline(never)]
-fn mark<'a>(
-    bad: &mut BTreeMap<&'a str, usize>,
-    name: &'a str,
-    found: Option<usize>,
-) -> Result<(), AllocError>
-    ensures { OnOk result (MatchOption found
-        (bad.new.entries ≡ remove_entry (λ x. is_eq (slice_cmp nat_cmp name.entry.now x.now)) bad.old.entries)
-        (λ at. bad.new.entries ≡ insert_entry (λ x y. slice_cmp nat_cmp x.now y.now) bad.old.entries name.entry at)) }
-{
-    match found {
-        None => {
-            forget(bad, name);
-            Ok(())
-        }
-        Some(at) => note(bad, name, at),
-    }
-}
-
-// The first of the places, if there is one.
-#[inline(never)]
-fn least(bad: &BTreeMap<&str, usize>) -> Option<usize>
-    ensures none { result ≡ None → bad.now.entries ≡ [] }
-    ensures some { IfSome result (λ _. bad.now.entries ≢ []) }
-{
-    let (_, first) = bad.first_key_value()?;
-    let mut found = *first;
-    for (_, at) in bad.iter() {
-        found = found.min(*at);
-    }
-    Some(found)
-}
-
-// Puts an entry into a table. A key that is longer than 255 bytes isn't passed here.
-#[inline(never)]
-fn place(alloc: Global, table: &mut FieldTable, name: &str, v: AMQPValue) -> Result<(), JsonError>
-    ensures ok { OnOk result (table_view table.new ≡ insert name.now (view v) (table_view table.old)) }
-    ensures stored { EntriesStored (table_view table.old) → IsStored (view v)
-        → OnOk result (EntriesStored (table_view table.new)) }
-    ensures err { IfErr result (λ e. e ≡ json_error.OutOfMemory) }
-{
-    match short(alloc, name) {
-        Ok(key) => Ok(table.place(key, v)?),
-        Err(ValueError::OutOfMemory | ValueError::NotAValue) => Err(JsonError::OutOfMemory),
     }
 }

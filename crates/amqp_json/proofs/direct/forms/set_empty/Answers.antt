@@ -5,7 +5,7 @@ use Rattle.amqp_value_core.specs.declared.value.AMQPValue.{AMQPValue}
 use Rattle.amqp_json.specs.Json.{members_json}
 use Rattle.amqp_json.specs.InMemory.{EntriesStored}
 use Rattle.amqp_json.specs.Tokens.{IsObjectOf}
-use Rattle.amqp_json.proofs.direct.set_empty.Goals as goal
+use Rattle.amqp_json.proofs.direct.forms.set_empty.Goals as goal
 
 pub returns : goal.returns
 returns c =

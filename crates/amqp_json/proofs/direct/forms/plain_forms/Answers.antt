@@ -7,7 +7,7 @@ use Rattle.amqp_json.specs.Json.{json}
 use Rattle.amqp_json.specs.Tokens.{IsForm, IsValueRead}
 use Rattle.amqp_json.proofs.Back.{read_back}
 use Rattle.amqp_json.proofs.Forms.{other_named, unread_named}
-use Rattle.amqp_json.proofs.direct.plain_forms.Goals as goal
+use Rattle.amqp_json.proofs.direct.forms.plain_forms.Goals as goal
 
 pub returns-in_ok-named-in-Ok : goal.returns-in_ok-named-in-Ok
 returns-in_ok-named-in-Ok c read rest is other =

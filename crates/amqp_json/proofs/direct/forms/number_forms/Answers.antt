@@ -7,7 +7,7 @@ use Rattle.amqp_json.specs.Reading.{value_under, long_long}
 use Rattle.amqp_json.specs.Tokens.{IsForm}
 use Rattle.amqp_json.specs.declared.error.ValueError.TheVariants.{NotAValue}
 use Rattle.amqp_json.proofs.Forms.{number_named, both_read, refused}
-use Rattle.amqp_json.proofs.direct.number_forms.Goals as goal
+use Rattle.amqp_json.proofs.direct.forms.number_forms.Goals as goal
 
 pub returns : goal.returns
 returns c rest =

@@ -3,7 +3,7 @@ use Rattle.serde_json.specs.Data.{object}
 use Rattle.amqp_json.specs.Reading.{value_of, ambiguous_table}
 use Rattle.amqp_json.specs.Tokens.{IsForm, IsObjectOf}
 use Rattle.amqp_json.proofs.Forms.{table_forms, named_object}
-use Rattle.amqp_json.proofs.direct.forms_of.Goals as goal
+use Rattle.amqp_json.proofs.direct.forms.forms_of.Goals as goal
 
 pub returns-in-Table-clause-ok : goal.returns-in-Table-clause-ok
 returns-in-Table-clause-ok c ms is =

@@ -6,7 +6,7 @@ use Rattle.amqp_json.specs.Reading.{value_of}
 use Rattle.amqp_json.specs.Tokens.{IsForm, IsObjectOf}
 use Rattle.amqp_json.proofs.Only.{only_json}
 use Rattle.amqp_json.proofs.Forms.{named_read}
-use Rattle.amqp_json.proofs.direct.value_in.Goals as goal
+use Rattle.amqp_json.proofs.direct.forms.value_in.Goals as goal
 
 pub returns-in-Ok : goal.returns-in-Ok
 returns-in-Ok c read rest is =

@@ -5,7 +5,7 @@ use Rattle.amqp_json.specs.declared.error.JsonError.{JsonError}
 use Rattle.amqp_json.specs.declared.error.JsonError.TheVariants.{NotAValue}
 use Rattle.amqp_json.specs.Tokens.{IsObjectOf, IsObjectRead}
 use Rattle.amqp_json.proofs.Forms.{no_table_forms}
-use Rattle.amqp_json.proofs.direct.object_forms.Goals as goal
+use Rattle.amqp_json.proofs.direct.forms.object_forms.Goals as goal
 
 pub returns-in_ok-slots-in-Ok : goal.returns-in_ok-slots-in-Ok
 returns-in_ok-slots-in-Ok c members rest is =

@@ -8,7 +8,7 @@ use Rattle.amqp_json.specs.Reading.{value_of}
 use Rattle.amqp_json.specs.Tokens.{IsForm}
 use Rattle.amqp_json.proofs.Only.{only_json}
 use Rattle.amqp_json.proofs.Turns.{insert_put}
-use Rattle.amqp_json.proofs.direct.place_plain.Goals as goal
+use Rattle.amqp_json.proofs.direct.forms.place_plain.Goals as goal
 
 pub returns-in_ok-place-in-Ok-clause-ok : goal.returns-in_ok-place-in-Ok-clause-ok
 returns-in_ok-place-in-Ok-clause-ok c d form =
