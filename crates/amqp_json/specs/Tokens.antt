@@ -1,6 +1,8 @@
 -- For private clauses: what is read of a text's tokens.
 use Rattle.std.specs.Prelude.{ℕ, ◌≡◌, ◌≤◌, List, length, Option, Some, None, option_map, MatchOption, Bool, true, false, Result, MatchResult}
 use Rattle.std.specs.Borrow.{Bor}
+use Rattle.std.specs.BTreeMap.{insert_entry}
+use Rattle.std.specs.Map.{remove_entry}
 use Rattle.json.specs.Token.{Token, key, end_object}
 use Rattle.json.specs.Json.{Json, Parse, members}
 use Rattle.serde_json.specs.Data.{Data, Members, number, object, member, no_members, put}
@@ -18,6 +20,7 @@ use Rattle.amqp_json.specs.Json.{json, members_json, sole_type}
 use Rattle.amqp_json.specs.Names.{type_named}
 use Rattle.amqp_json.specs.InMemory.{IsStored, EntriesStored}
 use Rattle.amqp_json.specs.Reading.{value_of, value_named, ambiguous_table, with_entry, entries_of}
+use Rattle.amqp_json.specs.Sorted.{by_key, at_key}
 use Rattle.amqp_json.specs.declared.error.JsonError.{JsonError}
 use Rattle.amqp_json.specs.declared.error.JsonError.TheVariants.{OutOfMemory, Syntax, NotAValue}
 use Rattle.amqp_json.specs.declared.direct.forms.Forms.{Forms}
@@ -172,3 +175,13 @@ IsMemberRead r read rest k old new = MatchResult r
 -- a value with the JSON d is put into the table, or d is that of no value
 abbrev pub IsPlaced : Option ℕ → List ℕ → Data → Entries → Entries → Type 0
 IsPlaced o k d old new = MatchOption o ((members_json new ≡ put k d (members_json old)) × (EntriesStored old → EntriesStored new)) (λ _. (value_of d ≡ None) × (new ≡ old))
+
+-- ---- a map of the places at which members begin that aren't those of entries
+
+-- a place is at that key now
+abbrev pub IsNoted : List (Bor (List ℕ) × ℕ) → Bor (List ℕ) → ℕ → List (Bor (List ℕ) × ℕ) → Type 0
+IsNoted old k at new = new ≡ insert_entry by_key old k at
+
+-- none is at that key any more
+abbrev pub IsForgotten : List (Bor (List ℕ) × ℕ) → List ℕ → List (Bor (List ℕ) × ℕ) → Type 0
+IsForgotten old k new = new ≡ remove_entry (at_key k) old

@@ -128,7 +128,8 @@ fn read_token<'a>(
     slots: &mut Slots<'a>,
     depth: usize,
 ) -> Result<AMQPValue, JsonError>
-    ensures { IsValueRead result (converted of_json (value depth (token_of token.entry ∷ reader.old))) reader.new }
+    ensures { IsValueRead result
+        (converted of_json (value depth (token_of token.entry ∷ reader.old))) reader.new }
 {
     match token {
         Token::Null => Ok(AMQPValue::Void),
@@ -168,7 +169,8 @@ fn read_items<'a>(
         ≡ Some (items_json (array_view a), reader.new)) }
     ensures stored { IfOk result (λ a. AreStoredTrees (array_view a)) }
     ensures refused { IfErr result (λ e. IsReadError e
-        (parse_map array (converted of_items (items (value depth) (length reader.old) reader.old))) reader.new) }
+        (parse_map array (converted of_items (items (value depth) (length reader.old) reader.old)))
+        reader.new) }
 {
     let mut found = FieldArray::new_in(alloc);
     'items: while !reader.take_end_array() {
@@ -193,7 +195,7 @@ fn after_item(reader: &mut Reader<'_>, at: usize, depth: usize) -> JsonError
     }
 }
 
-// What is behind an opening brace.
+// What is after an opening brace.
 #[cycle(read)]
 #[inline(never)]
 fn read_object<'a>(
@@ -215,7 +217,7 @@ fn read_object<'a>(
     }
 }
 
-// What is behind a first key that is the name of no type.
+// What is after a first key that is the name of no type.
 #[cycle(read)]
 #[inline(never)]
 fn read_plain<'a>(
@@ -225,7 +227,8 @@ fn read_plain<'a>(
     slots: &mut Slots<'a>,
     depth: usize,
 ) -> Result<(), JsonError>
-    ensures { type_named name.now ≡ None → (n : ℕ) → length (token.key name.now ∷ reader.old) ≤ n → IsObjectRead result slots.new.object
+    ensures { type_named name.now ≡ None → (n : ℕ) → length (token.key name.now ∷ reader.old) ≤ n
+        → IsObjectRead result slots.new.object
         (members_of (value depth) n no_members (token.key name.now ∷ reader.old)) reader.new }
 {
     let mut table = FieldTable::new_in(alloc);
@@ -239,7 +242,8 @@ fn read_plain<'a>(
 fn key_after<'a>(reader: &mut Reader<'a>) -> Result<Option<&'a str>, JsonError>
     ensures ok { IfOk result
         (λ k. read_key reader.old ≡ Some (option_map (λ s. s.now) k, reader.new)) }
-    ensures err { IfErr result (λ e. (at : ℕ) × (e ≡ json_error.Syntax at) × (read_key reader.old ≡ None)) }
+    ensures err { IfErr result
+        (λ e. (at : ℕ) × (e ≡ json_error.Syntax at) × (read_key reader.old ≡ None)) }
 {
     later_key(reader)
 }
@@ -249,12 +253,13 @@ fn key_after<'a>(reader: &mut Reader<'a>) -> Result<Option<&'a str>, JsonError>
 fn later_key<'a>(reader: &mut Reader<'a>) -> Result<Option<&'a str>, JsonError>
     ensures ok { IfOk result
         (λ k. read_key reader.old ≡ Some (option_map (λ s. s.now) k, reader.new)) }
-    ensures err { IfErr result (λ e. (at : ℕ) × (e ≡ json_error.Syntax at) × (read_key reader.old ≡ None)) }
+    ensures err { IfErr result
+        (λ e. (at : ℕ) × (e ≡ json_error.Syntax at) × (read_key reader.old ≡ None)) }
 {
     next_key(reader).map_err(JsonError::Syntax)
 }
 
-// What is behind a first key that is the name of a type.
+// What is after a first key that is the name of a type.
 #[cycle(read)]
 #[inline(never)]
 fn read_named<'a>(
@@ -265,7 +270,9 @@ fn read_named<'a>(
     slots: &mut Slots<'a>,
     depth: usize,
 ) -> Result<(), JsonError>
-    ensures { type_named name.now ≡ Some amqp_type → (n : ℕ) → length (token.key name.now ∷ reader.old) ≤ n → IsObjectRead result slots.new.object
+    ensures { type_named name.now ≡ Some amqp_type
+        → (n : ℕ) → length (token.key name.now ∷ reader.old) ≤ n
+        → IsObjectRead result slots.new.object
         (members_of (value depth) n no_members (token.key name.now ∷ reader.old)) reader.new }
 {
     'turns: loop {
@@ -307,7 +314,8 @@ fn after_named<'a>(
     slots: &mut Slots<'a>,
     depth: usize,
 ) -> Result<(), JsonError>
-    ensures { members_json (table_view table.old) ≡ no_members → EntriesStored (table_view table.old) → key.now ≢ name.now → (d : Data) → IsForm slots.old.forms.plain (value_of d)
+    ensures { members_json (table_view table.old) ≡ no_members
+        → EntriesStored (table_view table.old) → key.now ≢ name.now → (d : Data) → IsForm slots.old.forms.plain (value_of d)
         → IsTableRead result table.new (value depth)
         (member name.now d no_members) (token.key key.now ∷ reader.old) reader.new }
 {
@@ -317,7 +325,7 @@ fn after_named<'a>(
     }
 }
 
-// What is behind a key that is the name of a type.
+// What is after a key that is the name of a type.
 #[cycle(read)]
 #[inline(never)]
 fn read_forms<'a>(
@@ -327,7 +335,8 @@ fn read_forms<'a>(
     slots: &mut Slots<'a>,
     depth: usize,
 ) -> Result<(), JsonError>
-    ensures { IsFormsRead amqp_type result slots.new.forms (converted of_json (value depth reader.old)) reader.new }
+    ensures { IsFormsRead amqp_type result slots.new.forms
+        (converted of_json (value depth reader.old)) reader.new }
 {
     let at = reader.offset();
     let token = token_after(reader).ok_or(JsonError::Syntax(at))?;
@@ -350,7 +359,8 @@ fn read_forms<'a>(
 // The next token.
 #[inline(never)]
 fn token_after<'a>(reader: &mut Reader<'a>) -> Option<Token<'a>>
-    ensures { MatchOption result ((reader.old ≡ []) × (reader.new ≡ [])) (λ t. reader.old ≡ token_of t ∷ reader.new) }
+    ensures { MatchOption result ((reader.old ≡ []) × (reader.new ≡ []))
+        (λ t. reader.old ≡ token_of t ∷ reader.new) }
 {
     reader.next()
 }
@@ -366,7 +376,8 @@ fn read_table<'a>(
     slots: &mut Slots<'a>,
     depth: usize,
 ) -> Result<(), JsonError>
-    ensures { EntriesStored (table_view table.old) → BecomesTable (Some key.now) (members_json (table_view table.old))
+    ensures { EntriesStored (table_view table.old)
+        → BecomesTable (Some key.now) (members_json (table_view table.old))
         → IsTableRead result table.new (value depth) (members_json (table_view table.old))
         (token.key key.now ∷ reader.old) reader.new }
 {
@@ -379,8 +390,8 @@ fn read_table<'a>(
     }
 }
 
-// Adds members, from a key that was read on, until the last or one that isn't that of an entry: its key,
-// and where its value begins.
+// Adds members, from a key that was read on, until the last or one that isn't that of an entry: its
+// key, and where its value begins.
 #[cycle(read)]
 #[inline(never)]
 fn read_members<'a>(
@@ -391,7 +402,8 @@ fn read_members<'a>(
     slots: &mut Slots<'a>,
     depth: usize,
 ) -> Result<Option<(&'a str, usize)>, JsonError>
-    ensures { EntriesStored (table_view table.old) → BecomesTable (Some key.now) (members_json (table_view table.old))
+    ensures { EntriesStored (table_view table.old)
+        → BecomesTable (Some key.now) (members_json (table_view table.old))
         → IsMembersRead result table.new (value depth) (members_json (table_view table.old))
         (token.key key.now ∷ reader.old) reader.new }
 {
@@ -418,8 +430,10 @@ fn read_rest<'a>(
     depth: usize,
 ) -> Result<(), JsonError>
     ensures { EntriesStored (table_view table.old) → (d : Data) → IsNoEntry first.entry.0.now d
-        → BecomesTable (option_map (λ s. s.now) key.entry) (put first.entry.0.now d (members_json (table_view table.old)))
-        → IsTableRead result table.new (value depth) (put first.entry.0.now d (members_json (table_view table.old)))
+        → BecomesTable (option_map (λ s. s.now) key.entry)
+        (put first.entry.0.now d (members_json (table_view table.old)))
+        → IsTableRead result table.new (value depth)
+        (put first.entry.0.now d (members_json (table_view table.old)))
         (next_token (option_map (λ s. s.now) key.entry) ∷ reader.old) reader.new }
 {
     let mut bad = BTreeMap::new(alloc);
@@ -436,8 +450,8 @@ fn read_rest<'a>(
     }
 }
 
-// Adds the member with a key that was read, or returns where its value begins if it isn't that of an
-// entry.
+// Adds the member with a key that was read, or returns where its value begins if it isn't that of
+// an entry.
 #[cycle(read)]
 #[inline(always)]
 fn read_member<'a>(

@@ -13,7 +13,7 @@ use amqp_value_core::types::FieldTable;
 use amqp_value_core::value::AMQPValue;
 use std::alloc::Global;
 
-// Puts an entry into a table. A key that is longer than 255 bytes isn't passed here.
+/// Puts an entry into a table. A key that is longer than 255 bytes isn't passed here.
 #[inline(never)]
 pub(crate) fn place(
     alloc: Global,
@@ -21,7 +21,8 @@ pub(crate) fn place(
     name: &str,
     v: AMQPValue,
 ) -> Result<(), JsonError>
-    ensures ok { OnOk result (table_view table.new ≡ insert name.now (view v) (table_view table.old)) }
+    ensures ok { OnOk result
+        (table_view table.new ≡ insert name.now (view v) (table_view table.old)) }
     ensures stored { EntriesStored (table_view table.old) → IsStored (view v)
         → OnOk result (EntriesStored (table_view table.new)) }
     ensures err { IfErr result (λ e. e ≡ json_error.OutOfMemory) }

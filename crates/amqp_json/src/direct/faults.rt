@@ -1,34 +1,34 @@
 //! Where the members of a table begin that aren't those of entries.
 
 ghost use Rattle.std.specs.Prelude.{◌≡◌, ◌≢◌, [], None, OnOk, IfSome, MatchOption};
-ghost use Rattle.std.specs.BTreeMap.{insert_entry};
-ghost use Rattle.std.specs.Map.{remove_entry};
-ghost use Rattle.std.specs.Ordering.{nat_cmp, is_eq};
-ghost use Rattle.std.specs.Cmp.Lexicographic.{slice_cmp};
+ghost use Rattle.amqp_json.specs.Tokens.{IsNoted, IsForgotten};
 
 use std::alloc::AllocError;
 use std::collections::BTreeMap;
 
+/// Notes where the value of a key begins.
 #[inline(never)]
 pub(crate) fn note<'a>(
     bad: &mut BTreeMap<&'a str, usize>,
     name: &'a str,
     at: usize,
 ) -> Result<(), AllocError>
-    ensures { OnOk result (bad.new.entries ≡ insert_entry (λ x y. slice_cmp nat_cmp x.now y.now) bad.old.entries name.entry at) }
+    ensures { OnOk result (IsNoted bad.old.entries name.entry at bad.new.entries) }
 {
     drop(bad.insert(name, at)?);
     Ok(())
 }
 
+// Notes that the key has a value.
 #[inline(never)]
 fn forget(bad: &mut BTreeMap<&str, usize>, name: &str)
-    ensures { bad.new.entries ≡ remove_entry (λ x. is_eq (slice_cmp nat_cmp name.now x.now)) bad.old.entries }
+    ensures { IsForgotten bad.old.entries name.now bad.new.entries }
 {
     drop(bad.remove(name));
 }
 
-// Notes where the value of a key begins that isn't that of an entry, or that the key has one that is.
+/// Notes where the value of a key begins that isn't that of an entry, or that the key has one that
+/// is.
 #[inline(never)]
 pub(crate) fn mark<'a>(
     bad: &mut BTreeMap<&'a str, usize>,
@@ -36,8 +36,8 @@ pub(crate) fn mark<'a>(
     found: Option<usize>,
 ) -> Result<(), AllocError>
     ensures { OnOk result (MatchOption found
-        (bad.new.entries ≡ remove_entry (λ x. is_eq (slice_cmp nat_cmp name.entry.now x.now)) bad.old.entries)
-        (λ at. bad.new.entries ≡ insert_entry (λ x y. slice_cmp nat_cmp x.now y.now) bad.old.entries name.entry at)) }
+        (IsForgotten bad.old.entries name.entry.now bad.new.entries)
+        (λ at. IsNoted bad.old.entries name.entry at bad.new.entries)) }
 {
     match found {
         None => {
@@ -48,7 +48,7 @@ pub(crate) fn mark<'a>(
     }
 }
 
-// The first of the places, if there is one.
+/// The first of the places, if there is one.
 #[inline(never)]
 pub(crate) fn least(bad: &BTreeMap<&str, usize>) -> Option<usize>
     ensures none { result ≡ None → bad.now.entries ≡ [] }

@@ -31,14 +31,14 @@ use std::mem;
 // A value, or where the JSON begins that is that of none.
 type Form = Result<AMQPValue, usize>;
 
-// What JSON under the name of a type is: a value of its own, and one of that type.
+/// What JSON under the name of a type is: a value of its own, and one of that type.
 #[derive(Drop)]
 pub(crate) struct Forms {
     pub(crate) plain: Form,
     pub(crate) named: Form,
 }
 
-// What an object is.
+/// What an object is.
 #[derive(Drop)]
 pub(crate) enum Object<'a> {
     // A table, whose JSON isn't taken for a value of another type.
@@ -47,15 +47,15 @@ pub(crate) enum Object<'a> {
     Named(&'a str, Forms),
 }
 
-// What was read last: an object, and what is under the name of a type. There is one for all levels, as
-// results are copied in each frame that they pass through.
+/// What was read last: an object, and what is under the name of a type. There is one for all
+/// levels, as results are copied in each frame that they pass through.
 #[derive(Drop)]
 pub(crate) struct Slots<'a> {
     pub(crate) object: Object<'a>,
     pub(crate) forms: Forms,
 }
 
-// The value that an object is, which is no more there.
+/// The value that an object is, which is no more there.
 #[inline(never)]
 pub(crate) fn value_in(slots: &mut Slots<'_>) -> Result<AMQPValue, JsonError>
     ensures { (read : Option (Members × List SpecToken)) (rest : List SpecToken)
@@ -71,7 +71,7 @@ pub(crate) fn value_in(slots: &mut Slots<'_>) -> Result<AMQPValue, JsonError>
     }
 }
 
-// Forms before they are read.
+/// Forms before they are read.
 #[inline(always)]
 pub(crate) fn no_forms() -> Forms {
     Forms {
@@ -80,13 +80,13 @@ pub(crate) fn no_forms() -> Forms {
     }
 }
 
-// Drops what is under a key that occurs again.
+/// Drops what is under a key that occurs again.
 #[inline(never)]
 pub(crate) fn clear_forms(slots: &mut Slots<'_>) {
     slots.forms = no_forms();
 }
 
-// The name of a type is the only key, and what is under it was read last.
+/// The name of a type is the only key, and what is under it was read last.
 #[inline(never)]
 pub(crate) fn set_named<'a>(slots: &mut Slots<'a>, name: &'a str)
     ensures { slots.new.object ≡ object_is.Named name.entry slots.old.forms }
@@ -95,7 +95,7 @@ pub(crate) fn set_named<'a>(slots: &mut Slots<'a>, name: &'a str)
     slots.object = Object::Named(name, forms);
 }
 
-// The object has no members.
+/// The object has no members.
 #[inline(never)]
 pub(crate) fn set_empty(alloc: Global, slots: &mut Slots<'_>)
     ensures { IsObjectOf slots.new.object no_members }
@@ -103,7 +103,7 @@ pub(crate) fn set_empty(alloc: Global, slots: &mut Slots<'_>)
     set_table(slots, FieldTable::new_in(alloc));
 }
 
-// The object is a table. What was read before an error is dropped with the slots.
+/// The object is a table. What was read before an error is dropped with the slots.
 #[inline(never)]
 pub(crate) fn set_table(slots: &mut Slots<'_>, table: FieldTable)
     ensures { slots.new.object ≡ object_is.Table table }
@@ -120,7 +120,8 @@ fn named_of(forms: Forms) -> Form
     named
 }
 
-// Puts the value under the first key into a table, or returns where it begins if it is that of no entry.
+/// Puts the value under the first key into a table, or returns where it begins if it is that of no
+/// entry.
 #[inline(never)]
 pub(crate) fn place_plain(
     alloc: Global,
@@ -128,7 +129,8 @@ pub(crate) fn place_plain(
     name: &str,
     slots: &mut Slots<'_>,
 ) -> Result<Option<usize>, JsonError>
-    ensures ok { (d : Data) → IsForm slots.old.forms.plain (value_of d) → IfOk result (λ o. IsPlaced o name.now d (table_view table.old) (table_view table.new)) }
+    ensures ok { (d : Data) → IsForm slots.old.forms.plain (value_of d)
+        → IfOk result (λ o. IsPlaced o name.now d (table_view table.old) (table_view table.new)) }
     ensures err { IfErr result (λ e. e ≡ json_error.OutOfMemory) }
 {
     let Forms { plain, named } = mem::replace(&mut slots.forms, no_forms());
@@ -142,7 +144,7 @@ pub(crate) fn place_plain(
     }
 }
 
-// What a number under the name of a type is: a Timestamp isn't always a LongLongInt.
+/// What a number under the name of a type is: a Timestamp isn't always a LongLongInt.
 #[inline(never)]
 pub(crate) fn number_forms(
     alloc: Global,
@@ -162,7 +164,7 @@ pub(crate) fn number_forms(
     Ok(())
 }
 
-// What an object under the name of a table is, as it was read.
+/// What an object under the name of a table is, as it was read.
 #[inline(never)]
 pub(crate) fn object_forms(
     alloc: Global,
@@ -199,7 +201,8 @@ fn taken<'a>(found: &mut Object<'a>) -> Object<'a>
 
 // What an object under the name of a table is.
 fn forms_of(alloc: Global, found: Object<'_>, at: usize) -> Result<Forms, JsonError>
-    ensures ok { (ms : Members) → IsObjectOf found.entry ms → IfOk result (λ f. AreForms amqp.FieldTable f (object ms)) }
+    ensures ok { (ms : Members) → IsObjectOf found.entry ms
+        → IfOk result (λ f. AreForms amqp.FieldTable f (object ms)) }
     ensures err { IfErr result (λ e. e ≡ json_error.OutOfMemory) }
 {
     match found {
@@ -216,7 +219,8 @@ fn forms_of(alloc: Global, found: Object<'_>, at: usize) -> Result<Forms, JsonEr
 
 // The table whose only entry this is.
 fn only_entry(alloc: Global, name: &str, value: Form) -> Result<Form, JsonError>
-    ensures ok { (type : AMQPType) (d : Data) → type_named name.now ≡ Some type → IsForm value (value_of d)
+    ensures ok { (type : AMQPType) (d : Data) → type_named name.now ≡ Some type
+        → IsForm value (value_of d)
         → IfOk result (λ f. IsForm f (ambiguous_table (object (member name.now d no_members)))) }
     ensures err { IfErr result (λ e. e ≡ json_error.OutOfMemory) }
 {
@@ -230,7 +234,7 @@ fn only_entry(alloc: Global, name: &str, value: Form) -> Result<Form, JsonError>
     }
 }
 
-// What other JSON under the name of a type is, as it was read.
+/// What other JSON under the name of a type is, as it was read.
 #[inline(never)]
 pub(crate) fn plain_forms(
     alloc: Global,
