@@ -1,5 +1,7 @@
 //! From an encoding to its JSON text.
 
+// The tactic at the function names the lemma that the bytes of a value that is read are all there.
+
 ghost use Rattle.std.specs.Prelude.{IfOk, IfErr, string_bytes};
 ghost use Rattle.amqp_json.specs.Converts.{IsJsonOf, IsNotRead};
 

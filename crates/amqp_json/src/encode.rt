@@ -1,5 +1,7 @@
 //! From a JSON text to the canonical encoding.
 
+// The tactic at the function names the lemma that the value is read, whatever follows its encoding.
+
 ghost use Rattle.std.specs.Prelude.{◌≡◌, IfOk, IfErr, length};
 ghost use Rattle.amqp_value_core.specs.Values.{Tree};
 ghost use Rattle.amqp_value_core.specs.Texts.{text};

@@ -2,6 +2,8 @@
 //!
 //! The function is a law. It does nothing, and its contract states what holds.
 
+// The tactic at the function names the lemma that is the law.
+
 ghost use Rattle.std.specs.Prelude.{◌≡◌};
 ghost use Rattle.amqp_value_core.specs.Values.{Tree};
 ghost use Rattle.amqp_json.specs.Json.{json};

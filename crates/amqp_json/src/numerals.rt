@@ -1,5 +1,7 @@
 //! Numbers of their texts.
 
+// Tactics at functions: each names the lemma that the text of a number is read as its numeral.
+
 ghost use Rattle.std.specs.Prelude.{◌≡◌, ◌<◌, ◌==◌, IsTrue, slice_index, length, Some, IfSome, true, false, option_map, FitsSigned};
 ghost use Rattle.std.specs.Int.{w64};
 ghost use Rattle.serde_json.specs.Data.{unsigned};

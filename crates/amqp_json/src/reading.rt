@@ -1,5 +1,7 @@
 //! From JSON back to a value.
 
+// Tactics at functions: each names the lemmas on JSON or UTF-8 that its clauses are proved by.
+
 ghost use Rattle.std.specs.Prelude.{◌≡◌, ◌<◌, Some, None, IfOk, IfErr, IfSome, option_map, length, ◌≤◌};
 ghost use Rattle.std.specs.List.{list_any};
 ghost use Rattle.hex.specs.Hex.{IsBytes};

@@ -1,5 +1,7 @@
 //! The JSON text of a value, and back.
 
+// The tactic at the function names the lemma that no other value has the JSON of the text.
+
 ghost use Rattle.std.specs.Prelude.{◌≡◌, ◌≤◌, Some, IfOk, IfErr, Option, length, string_bytes};
 ghost use Rattle.serde_json.specs.Data.{Data, depth};
 ghost use Rattle.serde_json.specs.Read.{read, max_depth};

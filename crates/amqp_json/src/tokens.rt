@@ -1,5 +1,7 @@
 //! What is written of a value that isn't a container.
 
+// Tactics at functions: each names the lemma that joins the tokens of its calls, or those on UTF-8.
+
 ghost use Rattle.std.specs.Prelude.{◌≡◌, ◌∷◌, [], ◌++◌, OnOk, decimal};
 ghost use Rattle.json.specs.Token.{begin_object, end_object, key, number, string};
 ghost use Rattle.std.specs.Fmt.{signed_decimal};

@@ -1,5 +1,7 @@
 //! From a value to its JSON.
 
+// The tactic at the function names the lemmas on bytes that are UTF-8, and on others.
+
 ghost use Rattle.std.specs.Prelude.{◌≡◌, IfOk, OnOk, IsOk, is_some};
 ghost use Rattle.hex.specs.Hex.{IsBytes};
 ghost use Rattle.serde_json.specs.View.{view as document, items_view, members_view};
