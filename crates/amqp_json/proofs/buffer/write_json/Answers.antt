@@ -1,4 +1,4 @@
-use Rattle.std.proofs.Common.{◌≡◌, ℕ, List, length, Result, Err, MatchResult, OnErr, sym, subst, rules}
+use Rattle.std.proofs.Common.{◌≡◌, ℕ, List, length, Result, Err, MatchResult, sym, subst, rules}
 use Rattle.std.specs.Borrow.{Bor}
 use Rattle.amqp_json.specs.Buffers.{IsJsonWritten, IsNotWritten}
 use Rattle.amqp_json.specs.declared.conversion_error.WriteError.{WriteError}

@@ -15,7 +15,7 @@ use Rattle.amqp_json.specs.declared.error.JsonError.TheVariants as error
 use Rattle.amqp_json.specs.Json.{json, items_json, members_json}
 use Rattle.amqp_json.specs.InMemory.{AreStoredTrees, EntriesStored}
 use Rattle.amqp_json.specs.Sorted.{by_key}
-use Rattle.amqp_json.specs.Tokens.{IsObjectOf, IsReadError, IsValueRead, IsFormsRead, IsObjectError, IsTableRead, IsTableError, IsForm, IsStop, IsTableObject, BecomesTable, MembersLeadTo, EndsNowhere, next_token, members_of}
+use Rattle.amqp_json.specs.Tokens.{IsObjectOf, IsReadError, IsValueRead, IsFormsRead, IsObjectError, IsTableRead, IsTableError, IsStop, IsTableObject, BecomesTable, MembersLeadTo, EndsNowhere, next_token, members_of}
 use Rattle.amqp_json.proofs.Walks.{trees_stored}
 use Rattle.amqp_json.proofs.Turns.{insert_put, closed}
 use Rattle.amqp_json.proofs.Turns.{converted-array, converted-object, item_read, item_refused, items_over, items_before, items_before-no_items, one_more_item, key_refused, members_over}

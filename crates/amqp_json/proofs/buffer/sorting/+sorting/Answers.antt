@@ -1,4 +1,4 @@
-use Rattle.std.proofs.Common.{◌≡◌, ◌≤◌, ◌∷◌, [], List, ℕ, length, true, sym, ap, ◌∙◌, subst, refl, rules, arith}
+use Rattle.std.proofs.Common.{◌≡◌, ◌∷◌, [], List, ℕ, length, true, sym, ap, ◌∙◌, subst, refl, rules, arith}
 use Rattle.std.specs.Borrow.{Bor}
 use Rattle.json.specs.Token.{begin_array, begin_object}
 use Rattle.amqp_value_core.specs.Values.{Entries}
