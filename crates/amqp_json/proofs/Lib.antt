@@ -28,3 +28,5 @@ mod Forms
 mod Digits
 mod Encodes
 mod CanonicalSteps
+pub mod Lanes
+mod Lexing

@@ -19,3 +19,4 @@ pub mod Sorted
 pub mod Puts
 pub mod Buffers
 pub mod Ascending
+pub mod Lexing

@@ -12,6 +12,7 @@ ghost use Rattle.amqp_json.specs.Encodes.{IsObject, IsEncodedMeaning, PutsEncodi
 ghost use Rattle.amqp_json.specs.Json.{json, items_json, under, decimal_json};
 ghost use Rattle.amqp_json.specs.Names.{type_named};
 
+mod lexer;
 mod named;
 pub(crate) mod put;
 
@@ -19,7 +20,8 @@ use crate::error::ValueError;
 use crate::names::type_of_name;
 use crate::numerals::{integer, natural_number};
 use amqp_value_core::types::{AMQPType, DecimalValue};
-use json::{Reader, Scratch, Token};
+use json::Token;
+use lexer::Lexer;
 use named::{put_named_number, put_named_text};
 use put::{
     fill_length, put_boolean, put_decimal, put_head, put_key, put_long_long_int, put_text, put_void,
@@ -64,14 +66,12 @@ const MAX_DEPTH: usize = 127;
 pub(crate) fn encoding_of_text(alloc: Global, text: &str) -> Result<Vec<u8>, Stop>
     ensures { IfOk result (λ bytes. IsEncodedMeaning text.now bytes.items) }
 {
-    let mut scratch = Scratch::new(alloc);
-    let mut reader = Reader::new(text, &mut scratch)?;
+    let mut scratch = None;
+    let mut reader = Lexer::new(alloc, text, &mut scratch);
     // An encoding has at most 4.5 bytes for each byte of the text, and 4.5 more: two doublings suffice.
     let mut out = Vec::with_capacity(alloc, text.len() / 8 + text.len() + 2)?;
     put_value(alloc, &mut reader, &mut out, MAX_DEPTH)?;
-    if reader.next().is_some() {
-        return Err(Stop::NotHere);
-    }
+    reader.end()?;
     Ok(out)
 }
 
@@ -79,7 +79,7 @@ pub(crate) fn encoding_of_text(alloc: Global, text: &str) -> Result<Vec<u8>, Sto
 #[inline(always)]
 fn put_value(
     alloc: Global,
-    reader: &mut Reader<'_>,
+    reader: &mut Lexer<'_>,
     out: &mut Vec<u8>,
     depth: usize,
 ) -> Result<(), Stop>
@@ -87,7 +87,7 @@ fn put_value(
         ≡ Some (json v, reader.new)) out.old.items out.new.items) }
     ensures shorter { OnOk result (length reader.new < length reader.old) }
 {
-    let token = reader.next().ok_or(Stop::NotHere)?;
+    let token = reader.next()?;
     put_token(alloc, reader, token, out, depth)
 }
 
@@ -96,7 +96,7 @@ fn put_value(
 #[inline(always)]
 fn put_token<'a>(
     alloc: Global,
-    reader: &mut Reader<'a>,
+    reader: &mut Lexer<'a>,
     token: Token<'a>,
     out: &mut Vec<u8>,
     depth: usize,
@@ -143,7 +143,7 @@ fn put_integer(out: &mut Vec<u8>, text: &str) -> Result<(), Stop>
 #[inline(never)]
 fn put_array(
     alloc: Global,
-    reader: &mut Reader<'_>,
+    reader: &mut Lexer<'_>,
     out: &mut Vec<u8>,
     depth: usize,
 ) -> Result<(), Stop>
@@ -162,7 +162,7 @@ fn put_array(
 #[inline(always)]
 fn put_items(
     alloc: Global,
-    reader: &mut Reader<'_>,
+    reader: &mut Lexer<'_>,
     out: &mut Vec<u8>,
     depth: usize,
 ) -> Result<(), Stop>
@@ -171,18 +171,10 @@ fn put_items(
         ≡ Some (items_json vs, reader.new)) out.old.items out.new.items) }
     ensures shorter { OnOk result (length reader.new < length reader.old) }
 {
-    'items: while !reader.take_end_array() {
-        put_value(alloc, reader, out, depth)?;
+    'items: while let Some(token) = reader.next_item()? {
+        put_token(alloc, reader, token, out, depth)?;
     }
     Ok(())
-}
-
-// The next key, or nothing at the closing brace.
-#[inline(always)]
-fn next_key<'a>(reader: &mut Reader<'a>) -> Result<Option<&'a str>, Stop>
-    ensures { IfOk result (λ k. read_key reader.old ≡ Some (option_map (λ s. s.now) k, reader.new)) }
-{
-    reader.next_key().or(Err(Stop::NotHere))
 }
 
 // What is after an opening brace.
@@ -190,7 +182,7 @@ fn next_key<'a>(reader: &mut Reader<'a>) -> Result<Option<&'a str>, Stop>
 #[inline(never)]
 fn put_object(
     alloc: Global,
-    reader: &mut Reader<'_>,
+    reader: &mut Lexer<'_>,
     out: &mut Vec<u8>,
     depth: usize,
 ) -> Result<(), Stop>
@@ -198,7 +190,7 @@ fn put_object(
         out.old.items out.new.items) }
     ensures shorter { OnOk result (length reader.new < length reader.old) }
 {
-    let first = next_key(reader)?;
+    let first = reader.next_key()?;
     if let Some(name) = first
         && let Some(amqp_type) = type_of_name(name)
     {
@@ -215,7 +207,7 @@ fn put_object(
 #[inline(always)]
 fn put_members<'a>(
     alloc: Global,
-    reader: &mut Reader<'a>,
+    reader: &mut Lexer<'a>,
     out: &mut Vec<u8>,
     first: Option<&'a str>,
     depth: usize,
@@ -229,7 +221,7 @@ fn put_members<'a>(
     'members: while let Some(key) = next {
         put_key(out, key)?;
         put_value(alloc, reader, out, depth)?;
-        next = next_key(reader)?;
+        next = reader.next_key()?;
     }
     Ok(())
 }
@@ -238,7 +230,7 @@ fn put_members<'a>(
 #[inline(never)]
 fn put_named(
     alloc: Global,
-    reader: &mut Reader<'_>,
+    reader: &mut Lexer<'_>,
     out: &mut Vec<u8>,
     amqp_type: AMQPType,
     depth: usize,
@@ -249,7 +241,7 @@ fn put_named(
     ensures shorter { OnOk result (length reader.new < length reader.old) }
 {
     put_leaf(alloc, reader, out, amqp_type, depth)?;
-    let next = next_key(reader)?;
+    let next = reader.next_key()?;
     if next.is_none() {
         return Ok(());
     }
@@ -260,7 +252,7 @@ fn put_named(
 #[inline(always)]
 fn put_leaf(
     alloc: Global,
-    reader: &mut Reader<'_>,
+    reader: &mut Lexer<'_>,
     out: &mut Vec<u8>,
     amqp_type: AMQPType,
     depth: usize,
@@ -269,7 +261,7 @@ fn put_leaf(
         × (converted of_json (value depth reader.old) ≡ Some (inner, reader.new))) out.old.items out.new.items) }
     ensures shorter { OnOk result (length reader.new < length reader.old) }
 {
-    let token = reader.next().ok_or(Stop::NotHere)?;
+    let token = reader.next()?;
     match (amqp_type, token) {
         (_, Token::Number(text)) => put_named_number(out, amqp_type, text),
         (_, Token::String(text)) => put_named_text(alloc, out, amqp_type, text),
@@ -283,7 +275,7 @@ fn put_leaf(
 
 // What is after an opening brace: the scale of a decimal and its number, in this order.
 #[inline(never)]
-fn decimal(reader: &mut Reader<'_>, depth: usize) -> Result<DecimalValue, Stop>
+fn decimal(reader: &mut Lexer<'_>, depth: usize) -> Result<DecimalValue, Stop>
     ensures json { IfOk result (λ d. converted of_json (value depth (token.begin_object ∷ reader.old))
         ≡ Some (decimal_json d.scale d.value, reader.new)) }
     ensures shorter { OnOk result (length reader.new < length reader.old) }
@@ -297,7 +289,7 @@ fn decimal(reader: &mut Reader<'_>, depth: usize) -> Result<DecimalValue, Stop>
     let Ok(value) = u32::try_from(field(reader, "value")?) else {
         return Err(Stop::NotHere);
     };
-    let next = next_key(reader)?;
+    let next = reader.next_key()?;
     if next.is_none() {
         return Ok(DecimalValue { scale, value });
     }
@@ -305,17 +297,17 @@ fn decimal(reader: &mut Reader<'_>, depth: usize) -> Result<DecimalValue, Stop>
 }
 
 // A natural number after its key.
-fn field(reader: &mut Reader<'_>, name: &str) -> Result<u64, Stop>
+fn field(reader: &mut Lexer<'_>, name: &str) -> Result<u64, Stop>
     ensures json { IfOk result (λ n. IsFieldRead n name.now reader.old reader.new) }
     ensures shorter { OnOk result (length reader.new < length reader.old) }
 {
-    let Some(key) = next_key(reader)? else {
+    let Some(key) = reader.next_key()? else {
         return Err(Stop::NotHere);
     };
     if key != name {
         return Err(Stop::NotHere);
     }
-    let token = reader.next().ok_or(Stop::NotHere)?;
+    let token = reader.next()?;
     let Token::Number(text) = token else {
         return Err(Stop::NotHere);
     };

@@ -11,7 +11,7 @@ use Rattle.serde_json.specs.Data.{Data, number, array, object}
 use Rattle.serde_json.specs.Read.{of_json, of_items, converted, number_of}
 use Rattle.amqp_value_core.specs.Values as values
 use Rattle.amqp_value_core.specs.Values.{Tree, Trees, Entries, scalar, boolean, void, long}
-use Rattle.amqp_json.specs.Encodes.{AreEntriesRead}
+use Rattle.amqp_json.specs.Encodes.{AreEntriesRead, PutsEncodingOf}
 use Rattle.amqp_json.specs.Json.{json, items_json, members_json}
 use Rattle.amqp_json.specs.Encodes.{IsObject}
 use Rattle.amqp_json.proofs.Turns.{converted-array, converted-object}
@@ -68,19 +68,22 @@ put_token-returns-else-depth-eq0-2-clause-ok t c =
 
 pub put_items-items-preserved : goal.put_items-items-preserved
 put_items-items-preserved t c =
+    let p = value c.args.depth in
     let l = c.items in
-    let going : (after_end_array l.reader ≡ None) × (c.take_end_array.new.self ≡ l.reader) = grind arith in
-    let done = c.in_ok-put_value.ensures in
-    let r = c.put_value.new.reader in
-    let less : length r < length l.reader = rw (← going.1) done.shorter in (
-      items_next (value c.args.depth) c.args.reader.now c.args.out.now.items l.reader r l.out.items c.put_value.new.out.items l.invariant.0 going.0 less (rw (← going.1) done.ok),
-      omega (arith, less, l.invariant.1),
-    )
+    let out = c.put_token.new.out.items in
+    let first : (l.reader ≡ token_of c.in-Some.token ∷ c.next_item.new.self) × (after_end_array l.reader ≡ None) = search rules in
+    let r = c.put_token.new.reader in
+    let done = c.in_ok-put_token.ensures in
+    let count = ap length first.0 in
+    let less : length r < length l.reader = omega (arith, count, done.shorter) in
+    let put = subst (λ ts. PutsEncodingOf (λ v. converted of_json (p ts) ≡ Some (json v, r)) l.out.items out) (sym first.0) done.ok in
+    (items_next p c.args.reader.now c.args.out.now.items l.reader r l.out.items out l.invariant.0 first.1 less put, omega (arith, less, l.invariant.1))
 
 pub put_items-returns-clause-ok : goal.put_items-returns-clause-ok
 put_items-returns-clause-ok t c =
     let l = c.items in
-    items_done (value c.args.depth) c.args.reader.now c.args.out.now.items l.reader c.take_end_array.new.self l.out.items l.invariant.0 (grind arith)
+    let end : after_end_array l.reader ≡ Some c.next_item.new.self = search rules in
+    items_done (value c.args.depth) c.args.reader.now c.args.out.now.items l.reader c.next_item.new.self l.out.items l.invariant.0 end
 
 pub put_array-returns-clause-ok : goal.put_array-returns-clause-ok
 put_array-returns-clause-ok t c =
@@ -107,9 +110,9 @@ put_members-members-preserved t c =
     let r = c.put_value.new.reader in
     let done = c.in_ok-put_value.ensures in
     let after = c.in_ok-next.ensures in
-    let less = read_key-shorter r _ c.next_key.new.reader after in
+    let less = read_key-shorter r _ c.next_key.new.self after in
     let left = subst (λ (next : Option (Bor (List ℕ))). PairsLeft p o c.args.reader.now (option_map (λ b. b.now) next) l.reader c.args.out.now.items l.out.items) c.in-Some.is l.invariant.0 in (
-      pairs_next p o c.args.reader.now c.args.out.now.items k _ l.reader r c.next_key.new.reader l.out.items c.put_key.new.out.items c.put_value.new.out.items left c.in_ok-put_key.ensures.short c.in_ok-put_key.ensures.ok done.ok done.shorter after,
+      pairs_next p o c.args.reader.now c.args.out.now.items k _ l.reader r c.next_key.new.self l.out.items c.put_key.new.out.items c.put_value.new.out.items left c.in_ok-put_key.ensures.short c.in_ok-put_key.ensures.ok done.ok done.shorter after,
       omega (arith, less, done.shorter, l.invariant.1),
     )
 
@@ -127,7 +130,7 @@ put_object-returns-2-clause-ok t c =
     let p = value c.args.depth in
     let s = c.args.reader.now in
     let r = c.put_members.new.reader in
-    let a = c.next_key.new.reader in
+    let a = c.next_key.new.self in
     let o = option_map (λ (b : Bor (List ℕ)). b.now) c.in_ok-first.first in
     let place : c.len-at.result + 1 ≡ length c.args.out.now.items + 1 = grind arith in
     on_ok_weaker c.fill_length.result (λ done.

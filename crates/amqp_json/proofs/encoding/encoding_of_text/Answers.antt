@@ -11,4 +11,4 @@ returns c =
     let empty : c.in_ok-out.out.items ≡ [] = search rules in
     let (w, v, same, is, stored, read) = c.in_ok-put_value.ensures.ok in
     let all : c.put_value.new.out.items ≡ w = same ∙ ap (λ b. b ++ w) empty in
-    (v, (stored, whole_read (value 127 (tokens c.args.text.now)) _ (rw (c.in_ok-reader.ensures.ok, none) at read)), subst (λ (b : List ℕ). Wire b v) (sym all) is)
+    (v, (stored, whole_read (value 127 (tokens c.args.text.now)) _ (rw (c.new-reader.ensures, none) at read)), subst (λ (b : List ℕ). Wire b v) (sym all) is)

@@ -9,7 +9,7 @@ use Rattle.amqp_json.proofs.encoding.field.Goals as goal
 
 pub returns-clause-json : goal.returns-clause-json
 returns-clause-json c =
-    let us = c.next_key.new.reader in
+    let us = c.next_key.new.self in
     let r = c.next.new.self in
     let x = c.in-Number.text.now in
     let n = natural c.in-Some-natural_number.n in

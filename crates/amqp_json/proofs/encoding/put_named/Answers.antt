@@ -17,7 +17,7 @@ returns-then-is_none-clause-ok c =
     let type = c.args.amqp_type in
     let s = c.args.reader.now in
     let r = c.put_leaf.new.reader in
-    let end = c.next_key.new.reader in
+    let end = c.next_key.new.self in
     let none : c.in_ok-next.next ≡ None = search rules in
     let done = c.in_ok-put_leaf.ensures in
     puts_weaker (λ v. (inner : Data) × (json v ≡ under type inner) × (converted of_json (value c.args.depth s) ≡ Some (inner, r))) (λ t. (ts : List Token) (k : List ℕ) → type_named k ≡ Some type → read_key ts ≡ Some (Some k, s) → IsObject (json t) p ts end) _ _

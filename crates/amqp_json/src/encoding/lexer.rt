@@ -1,0 +1,425 @@
+//! The tokens of a text: from its bytes up to the first string with an escape, and from there by
+//! `json::Reader`. What isn't JSON, or no integer, is left to those who read the text again.
+
+ghost use Rattle.std.specs.Prelude.{◌≡◌, ◌≤◌, ◌<◌, ◌+◌, ◌-◌, ◌||◌, ◌∷◌, [], length, take, drop, get_or, map, true, Some, None, IfOk, OnOk, IfSome, MatchOption, option_map};
+ghost use Rattle.std.specs.Bool.{OnTrue};
+ghost use Rattle.std.specs.List.{prefix_len};
+ghost use Rattle.std.specs.Char.{is_ascii_digit};
+ghost use Rattle.std.specs.Simd.Lanes.{mask_l};
+ghost use Rattle.json.specs.Token.{end_array};
+ghost use Rattle.json.specs.Word.{head, is_operator, is_space, ends_word};
+ghost use Rattle.json.specs.Lex.{between, lex, after_value, punctuate, tokens};
+ghost use Rattle.json.specs.Run.{is_stop, is_plain};
+ghost use Rattle.json.specs.Json.{read_key, after_end_array};
+ghost use Rattle.json.specs.Print.{IsNumber};
+ghost use Rattle.json.specs.Reads.{token_of};
+ghost use Rattle.amqp_json.specs.Lexing.{tokens_left, IsVisible, BeginsWith, IsClosing, IsOpening, IsNamed};
+
+use super::Stop;
+use json::{Reader, Scratch, Token};
+use std::alloc::Global;
+use std::marker::Model;
+use std::simd::prelude::*;
+
+// What may be next.
+#[derive(Clone, Copy, Drop)]
+enum Place {
+    // A value, a key, or the end of what was opened.
+    Fresh,
+    // The end of what was opened.
+    AfterValue,
+    // A value or a key.
+    AfterComma,
+}
+
+// Where the text goes on after a token.
+#[derive(Clone, Copy, Drop)]
+struct Next {
+    at: usize,
+    place: Place,
+}
+
+/// The tokens of a text. A clause sees those that are still to come.
+#[derive(Drop)]
+pub(crate) struct Lexer<'a> {
+    text: &'a str,
+    next: Next,
+    // It goes on from the first string with an escape.
+    reader: Option<Reader<'a>>,
+    // What that needs, until it is there.
+    scratch: Option<&'a mut Option<Scratch>>,
+    alloc: Global,
+}
+
+impl<'a> Model for Lexer<'a> {
+    ghost use Rattle.std.specs.Prelude.{List};
+    ghost use Rattle.json.specs.Token.{Token as SpecToken, tokens_code};
+    ghost use Rattle.amqp_json.specs.Lexing.{lexer_view};
+
+    ghost Value = { List SpecToken };
+
+    ghost coded = { tokens_code };
+
+    ghost view = { lexer_view };
+}
+
+// The byte at a place, or a space after the end.
+#[inline(always)]
+fn byte_at(bytes: &[u8], at: usize) -> u8
+    ensures { result ≡ head (drop at bytes.now) }
+{
+    match bytes.get(at) {
+        Some(byte) => *byte,
+        None => b' ',
+    }
+}
+
+#[inline(always)]
+fn is_blank(byte: u8) -> bool
+    ensures { result ≡ is_space byte }
+{
+    (byte == b' ') | (byte == b'\t') | (byte == b'\n') | (byte == b'\r')
+}
+
+// Whether a number or a name may end before this byte.
+#[inline(always)]
+fn is_delimiter(byte: u8) -> bool
+    ensures { result ≡ (is_operator byte || is_space byte) }
+{
+    matches!(byte, b'{' | b'}' | b'[' | b']' | b':' | b',') | is_blank(byte)
+}
+
+// The first place from this one on that has no space.
+#[inline(always)]
+fn after_spaces(bytes: &[u8], from: usize) -> usize
+    ensures same { lex between (drop result bytes.now) ≡ lex between (drop from bytes.now) }
+    ensures visible { IsVisible (drop result bytes.now) }
+{
+    let mut at = from;
+    while at < bytes.len() && is_blank(bytes[at]) {
+        at += 1;
+    }
+    at
+}
+
+// Passes the comma that may follow a value.
+#[inline(always)]
+fn after_value(bytes: &[u8], from: usize) -> Next
+    ensures { tokens_left result.place (drop result.at bytes.now)
+        ≡ punctuate after_value (lex between (drop from bytes.now)) }
+{
+    let at = after_spaces(bytes, from);
+    if byte_at(bytes, at) == b',' {
+        Next {
+            at: after_spaces(bytes, at + 1),
+            place: Place::AfterComma,
+        }
+    } else {
+        Next {
+            at,
+            place: Place::AfterValue,
+        }
+    }
+}
+
+#[inline(always)]
+fn stops_of(bytes: u8x16) -> u64
+    ensures { result ≡ mask_l (map is_stop bytes) }
+{
+    (bytes.simd_eq(u8x16::splat(b'"'))
+        | bytes.simd_eq(u8x16::splat(b'\\'))
+        | bytes.simd_lt(u8x16::splat(0x20))).to_bitmask()
+}
+
+// The first place from this one on that has a quote, a backslash or a control character.
+#[inline(always)]
+fn plain_end(bytes: &[u8], from: usize) -> usize
+    requires { from ≤ length bytes.now }
+    ensures { result ≡ from + prefix_len is_plain (drop from bytes.now) }
+{
+    let mut at = from;
+    while bytes.len() - at >= 16 {
+        let stops = stops_of(u8x16::from_slice(&bytes[at..]));
+        if stops != 0 {
+            return at + stops.trailing_zeros() as usize;
+        }
+        at += 16;
+    }
+    plain_end_of_few(bytes, at)
+}
+
+#[inline(never)]
+fn plain_end_of_few(bytes: &[u8], from: usize) -> usize
+    requires { from ≤ length bytes.now }
+    ensures { result ≡ from + prefix_len is_plain (drop from bytes.now) }
+{
+    let mut at = from;
+    while at < bytes.len() && bytes[at] != b'"' && bytes[at] != b'\\' && bytes[at] >= 0x20 {
+        at += 1;
+    }
+    at
+}
+
+// A string or a key, if it has no escape.
+#[inline(always)]
+fn string<'a>(text: &'a str, at: usize) -> Option<(Token<'a>, Next)>
+    requires { head (drop at text.now) ≡ 34 }
+    ensures { IfSome result (λ r. BeginsWith (drop at text.now) (token_of r.0) r.1.place (drop r.1.at text.now)) }
+{
+    let bytes = text.as_bytes();
+    let end = plain_end(bytes, at + 1);
+    if byte_at(bytes, end) != b'"' {
+        return None;
+    }
+    let content = text.get(at + 1..end)?;
+    let after = after_spaces(bytes, end + 1);
+    if byte_at(bytes, after) == b':' {
+        let next = Next {
+            at: after_spaces(bytes, after + 1),
+            place: Place::Fresh,
+        };
+        Some((Token::Key(content), next))
+    } else {
+        Some((Token::String(content), after_value(bytes, after)))
+    }
+}
+
+// The first place from this one on that has no digit.
+#[inline(always)]
+fn digits_end(bytes: &[u8], from: usize) -> usize
+    requires { from ≤ length bytes.now }
+    ensures { result ≡ from + prefix_len is_ascii_digit (drop from bytes.now) }
+{
+    let mut at = from;
+    while at < bytes.len() && bytes[at].is_ascii_digit() {
+        at += 1;
+    }
+    at
+}
+
+// Whether there are digits, and the first of several isn't 0.
+#[inline(always)]
+fn are_whole(bytes: &[u8], first: usize, end: usize) -> bool
+    ensures some { OnTrue result (first < end) }
+    ensures zero { OnTrue result (head (drop first bytes.now) ≡ 48 → end ≡ first + 1) }
+{
+    first < end && (byte_at(bytes, first) != b'0' || end == first + 1)
+}
+
+// A number without fraction and exponent.
+#[inline(always)]
+fn number<'a>(text: &'a str, at: usize) -> Option<(Token<'a>, Next)>
+    requires { at < length text.now }
+    ensures { IfSome result (λ r. BeginsWith (drop at text.now) (token_of r.0) r.1.place (drop r.1.at text.now)) }
+{
+    let bytes = text.as_bytes();
+    let first = if byte_at(bytes, at) == b'-' {
+        at + 1
+    } else {
+        at
+    };
+    let end = digits_end(bytes, first);
+    if !are_whole(bytes, first, end) || !is_delimiter(byte_at(bytes, end)) {
+        return None;
+    }
+    Some((Token::Number(text.get(at..end)?), after_value(bytes, end)))
+}
+
+// Whether the text has a name here, and nothing of a longer one.
+#[inline(always)]
+fn has_name(bytes: &[u8], at: usize, name: &[u8]) -> bool
+    ensures { OnTrue result (IsNamed bytes.now at name.now) }
+{
+    if at > bytes.len() || !bytes[at..].starts_with(name) {
+        return false;
+    }
+    is_delimiter(byte_at(bytes, at + name.len()))
+}
+
+// One of the three names.
+#[inline(never)]
+fn name<'a>(text: &'a str, at: usize) -> Option<(Token<'a>, Next)>
+    ensures { IfSome result (λ r. BeginsWith (drop at text.now) (token_of r.0) r.1.place (drop r.1.at text.now)) }
+{
+    let bytes = text.as_bytes();
+    if has_name(bytes, at, b"true") {
+        return Some((Token::Bool(true), after_value(bytes, at + 4)));
+    }
+    if has_name(bytes, at, b"false") {
+        return Some((Token::Bool(false), after_value(bytes, at + 5)));
+    }
+    if has_name(bytes, at, b"null") {
+        return Some((Token::Null, after_value(bytes, at + 4)));
+    }
+    None
+}
+
+// What was opened ends.
+#[inline(always)]
+fn close<'a>(text: &'a str, from: Next, token: Token<'a>) -> Option<(Token<'a>, Next)>
+    requires { IsClosing (head (drop from.at text.now)) (token_of token) }
+    ensures { IfSome result (λ r. tokens_left from.place (drop from.at text.now)
+        ≡ token_of r.0 ∷ tokens_left r.1.place (drop r.1.at text.now)) }
+{
+    if let Place::AfterComma = from.place {
+        return None;
+    }
+    Some((token, after_value(text.as_bytes(), from.at + 1)))
+}
+
+// An array or an object is opened.
+#[inline(always)]
+fn open<'a>(text: &'a str, at: usize, token: Token<'a>) -> Option<(Token<'a>, Next)>
+    requires { IsOpening (head (drop at text.now)) (token_of token) }
+    ensures { IfSome result (λ r. BeginsWith (drop at text.now) (token_of r.0) r.1.place (drop r.1.at text.now)) }
+{
+    let next = Next {
+        at: after_spaces(text.as_bytes(), at + 1),
+        place: Place::Fresh,
+    };
+    Some((token, next))
+}
+
+// The token at a place, if it is read from the bytes, and where the text goes on.
+#[inline(always)]
+fn token_at<'a>(text: &'a str, from: Next) -> Option<(Token<'a>, Next)>
+    ensures { IfSome result (λ r. tokens_left from.place (drop from.at text.now)
+        ≡ token_of r.0 ∷ tokens_left r.1.place (drop r.1.at text.now)) }
+{
+    let byte = byte_at(text.as_bytes(), from.at);
+    match byte {
+        b'}' => return close(text, from, Token::EndObject),
+        b']' => return close(text, from, Token::EndArray),
+        _ => {}
+    }
+    if let Place::AfterValue = from.place {
+        return None;
+    }
+    match byte {
+        b'"' => string(text, from.at),
+        b'{' => open(text, from.at, Token::BeginObject),
+        b'[' => open(text, from.at, Token::BeginArray),
+        b'-' | b'0'..=b'9' => number(text, from.at),
+        _ => name(text, from.at),
+    }
+}
+
+// The reader of the text from a string on.
+#[inline(always)]
+fn reader_from<'a>(
+    alloc: Global,
+    text: &'a str,
+    from: Next,
+    scratch: &'a mut Option<Scratch>,
+) -> Result<Reader<'a>, Stop>
+    ensures { IfOk result (λ reader. reader ≡ tokens_left from.place (drop from.at text.now)) }
+{
+    if let Place::AfterValue = from.place {
+        return Err(Stop::NotHere);
+    }
+    if byte_at(text.as_bytes(), from.at) != b'"' {
+        return Err(Stop::NotHere);
+    }
+    let left = text.get(from.at..text.len()).ok_or(Stop::NotHere)?;
+    Ok(Reader::new(left, scratch.insert(Scratch::new(alloc)))?)
+}
+
+// Whether the text ends here.
+fn is_end(text: &str, from: Next) -> bool
+    ensures { result ≡ true → tokens_left from.place (drop from.at text.now) ≡ [] }
+{
+    if let Place::AfterComma = from.place {
+        return false;
+    }
+    from.at >= text.len()
+}
+
+impl<'a> Lexer<'a> {
+    /// The text's tokens. Nothing is put into `scratch` unless a string has an escape.
+    #[inline(always)]
+    pub(crate) fn new(alloc: Global, text: &'a str, scratch: &'a mut Option<Scratch>) -> Lexer<'a>
+        ensures { result ≡ tokens text.now }
+    {
+        Lexer {
+            text,
+            next: Next {
+                at: after_spaces(text.as_bytes(), 0),
+                place: Place::Fresh,
+            },
+            reader: None,
+            scratch: Some(scratch),
+            alloc,
+        }
+    }
+
+    /// The next token.
+    #[inline(always)]
+    pub(crate) fn next(&mut self) -> Result<Token<'a>, Stop>
+        ensures { IfOk result (λ t. self.old ≡ token_of t ∷ self.new) }
+    {
+        if self.reader.is_none()
+            && let Some((token, next)) = token_at(self.text, self.next)
+        {
+            self.next = next;
+            return Ok(token);
+        }
+        self.next_by_reader()
+    }
+
+    // The next token by the reader, which goes on from here if it is a string.
+    #[inline(never)]
+    fn next_by_reader(&mut self) -> Result<Token<'a>, Stop>
+        ensures { IfOk result (λ t. self.old ≡ token_of t ∷ self.new) }
+    {
+        if self.reader.is_none() {
+            let scratch = self.scratch.take().ok_or(Stop::NotHere)?;
+            self.reader = Some(reader_from(self.alloc, self.text, self.next, scratch)?);
+        }
+        let Some(reader) = &mut self.reader else {
+            return Err(Stop::NotHere);
+        };
+        reader.next().ok_or(Stop::NotHere)
+    }
+
+    /// The next token of an array's items, or none at its end.
+    #[inline(always)]
+    pub(crate) fn next_item(&mut self) -> Result<Option<Token<'a>>, Stop>
+        ensures { IfOk result (λ item. MatchOption item
+            (after_end_array self.old ≡ Some self.new)
+            (λ t. (self.old ≡ token_of t ∷ self.new) × (after_end_array self.old ≡ None))) }
+    {
+        let token = self.next()?;
+        match token {
+            Token::EndArray => Ok(None),
+            _ => Ok(Some(token)),
+        }
+    }
+
+    /// The next key, or none at the object's end.
+    #[inline(always)]
+    pub(crate) fn next_key(&mut self) -> Result<Option<&'a str>, Stop>
+        ensures { IfOk result (λ k. read_key self.old ≡ Some (option_map (λ s. s.now) k, self.new)) }
+    {
+        match self.next()? {
+            Token::Key(key) => Ok(Some(key)),
+            Token::EndObject => Ok(None),
+            _ => Err(Stop::NotHere),
+        }
+    }
+
+    /// Whether no token is left.
+    #[inline(never)]
+    pub(crate) fn end(&mut self) -> Result<(), Stop>
+        ensures { OnOk result (self.old ≡ []) }
+    {
+        let is_at_end = match &mut self.reader {
+            Some(reader) => reader.next().is_none(),
+            None => is_end(self.text, self.next),
+        };
+        if is_at_end {
+            Ok(())
+        } else {
+            Err(Stop::NotHere)
+        }
+    }
+}
