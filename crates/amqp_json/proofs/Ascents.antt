@@ -12,6 +12,7 @@ use Rattle.amqp_in_place.specs.declared.refs.ValueRef.TheVariants as at
 use Rattle.amqp_in_place.specs.declared.refs.ArrayRef.{ArrayRef}
 use Rattle.amqp_in_place.specs.declared.refs.TableRef.{TableRef}
 use Rattle.amqp_in_place.specs.Refs.{array_body, table_body, Denotes}
+use Rattle.amqp_in_place.specs.Heads.{IsPlainRef}
 use Rattle.amqp_in_place.specs.Places.{IsFramed, IsViewIn, IsPairViewIn}
 use Rattle.amqp_in_place.specs.Walks.{ValueStep, PairStep}
 use Rattle.amqp_in_place.specs.Written.{written, values_written, pairs_written}
@@ -169,10 +170,10 @@ table_in_order (Some r) s body rest (c, k, few, e) (ps, p, a) =
     let v = table (insert_all no_entries ps) in
     (c ∷ long_field body, v, wire c amqp.FieldTable (long_field body) v k (raw_table body ps few p), e, a)
 
-abbrev pub IsNoContainerRef : ValueRef → Type 0
-IsNoContainerRef (at.FieldArray a) = ⊥
-IsNoContainerRef (at.FieldTable t) = ⊥
-IsNoContainerRef _ = Unit {0}
+pub no_container : (r : ValueRef) → ((a : ArrayRef) → r ≡ at.FieldArray a → ⊥) → ((t : TableRef) → r ≡ at.FieldTable t → ⊥) → IsPlainRef r
+no_container (at.FieldArray a) n m = n a refl
+no_container (at.FieldTable t) n m = m t refl
+no_container _ n m = tt
 
 -- an encoding that means no container is written without one
 leaf_raw : (w : List ℕ) (v : Tree) (p : Wire w v) → ((vs : Trees) → v ≡ array vs → ⊥) → ((es : Entries) → v ≡ table es → ⊥) → Ascends (written w v p)
@@ -183,7 +184,7 @@ leaf_raw _ _ (wire c type b v k (raw_octets s few)) n m = tt
 leaf_raw _ _ (wire c type b v k (raw_array body vs few all)) n m = absurd (n vs refl)
 leaf_raw _ _ (wire c type b v k (raw_table body ps few all)) n m = absurd (m (insert_all no_entries ps) refl)
 
-pub leaf_order : (r : ValueRef) (s rest : List ℕ) → IsNoContainerRef r → IsViewIn s r rest → InOrder s rest
+pub leaf_order : (r : ValueRef) (s rest : List ℕ) → IsPlainRef r → IsViewIn s r rest → InOrder s rest
 leaf_order (at.FieldArray a) s rest leaf x = absurd leaf
 leaf_order (at.FieldTable t) s rest leaf x = absurd leaf
 leaf_order (at.LongString b) s rest leaf x =
@@ -191,9 +192,6 @@ leaf_order (at.LongString b) s rest leaf x =
 leaf_order (at.ByteArray b) s rest leaf x =
     (x.0 ∷ long_field b.now, values.octets b.now, wire x.0 amqp.ByteArray (long_field b.now) (values.octets b.now) x.1 (raw_octets b.now x.2), x.3, tt)
 leaf_order _ s rest leaf x = (x.0, _, x.1, x.2, leaf_raw x.0 _ x.1 (λ vs e. absurd cc) (λ es e. absurd cc))
-
-pub leaf_at : (r q : ValueRef) (s rest : List ℕ) → r ≡ q → IsNoContainerRef q → IsViewIn s r rest → InOrder s rest
-leaf_at r q s rest is leaf x = leaf_order r s rest (subst IsNoContainerRef (sym is) leaf) x
 
 pub array_at : {T : Type 0} (result : Option T) (r : ValueRef) (a : ArrayRef) (s rest : List ℕ) (v : Tree) → r ≡ at.FieldArray a → IsViewIn s r rest → Denotes r v
     → ((vs : Trees) → ArrayBody (array_body a) vs → IfValuesAscend result (array_body a)) → IfInOrder result s rest

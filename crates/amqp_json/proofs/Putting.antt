@@ -1,9 +1,11 @@
 -- Bytes and tokens after others in a buffer.
-use Rattle.std.proofs.Common.{◌≡◌, Bool, ℕ, zero, suc, min, ◌+◌, ◌-◌, ◌<◌, ◌≤◌, ◌/◌, ◌%◌, List, [], ◌∷◌, ◌*◌, ◌^◌, ◌++◌, length, take, drop, length-append, get_or, refl, sym, ap, ◌∙◌, subst, false, true, cond, get_or-drop, append_assoc, append-nil, arith, ap₂}
+use Rattle.std.proofs.Common.{◌≡◌, Bool, ℕ, zero, suc, min, ◌+◌, ◌-◌, ◌<◌, ◌≤◌, ◌/◌, ◌%◌, List, [], ◌∷◌, ◌*◌, ◌^◌, ◌++◌, length, take, drop, length-append, get_or, refl, sym, ap, ◌∙◌, subst, false, true, cond, get_or-drop, append_assoc, append-nil, arith, ap₂, take-take, take_all}
 use Rattle.std.specs.List.{slice_index, prefix_len}
 use Rattle.hex.proofs.HexLemmas.{length-encode_with}
 use Rattle.std.proofs.lemmas.List.{length-drop, drop-drop, take_at, take-append-drop, length-take-le}
-use Rattle.std.proofs.Math.Seq.{drop-append-add}
+use Rattle.std.proofs.lemmas.Slice.{take-put_mid, drop-put_mid}
+use borrow.Rule.Slice.PartMut.{put_mid}
+use Rattle.std.proofs.Math.Seq.{drop-append-add, take-append-add}
 use Rattle.json.specs.Run.{is_plain}
 use Rattle.json.proofs.Printed.Strings.{escape_to_stop, escape_at, escape_end}
 use Rattle.hex.specs.Hex.{lower_digits, encode_with, encode_lower, IsBytes}
@@ -85,18 +87,31 @@ unfolding print_from
 opening_text true type = ap (λ (l : List ℕ). 44 ∷ 123 ∷ l) (sym (append-nil (token_text (key (name_of type)))))
 opening_text false type = ap (λ (l : List ℕ). 123 ∷ l) (sym (append-nil (token_text (key (name_of type)))))
 
-pub opening_length : (c : Bool) (type : AMQPType) (text : List ℕ) → text ≡ 44 ∷ 123 ∷ token_text (key (name_of type)) → length text ≡ length (print_from c (begin_object ∷ key (name_of type) ∷ [])) + cond c 0 1
-opening_length true type text is = omega (arith, ap length is, ap length (opening_text true type))
-opening_length false type text is = omega (arith, ap length is, ap length (opening_text false type))
+minus_or_not : (u : List ℕ) (d : Bool) (k : ℕ) → k + cond d 0 1 ≡ length u + 1 → take k (u ++ 45 ∷ []) ≡ u ++ cond d (45 ∷ []) []
+minus_or_not u true k is = take_all k (u ++ 45 ∷ []) (omega (arith, is, length-append u (45 ∷ [])))
+minus_or_not u false k is = take_at u (45 ∷ []) k (omega (arith, is)) ∙ sym (append-nil u)
 
-pub opening_put : (a b : List ℕ) (p r : Place) (type : AMQPType) → Puts a p.count b r.count (drop (cond p.after_value 0 1) (44 ∷ 123 ∷ token_text (key (name_of type)))) → r.after_value ≡ false
+-- the text with a comma before it and a minus after it, without either
+pub opening_cut : (c d : Bool) (type : AMQPType) (text : List ℕ) (from k : ℕ) → text ≡ 44 ∷ 123 ∷ (token_text (key (name_of type)) ++ 45 ∷ []) → from ≡ cond c 0 1 → k + from + cond d 0 1 ≡ length text
+    → take k (drop from text) ≡ print_from c (begin_object ∷ key (name_of type) ∷ []) ++ cond d (45 ∷ []) []
+opening_cut true d type text from k is starts size =
+    let named = 44 ∷ 123 ∷ token_text (key (name_of type)) in
+    ap₂ (λ (n : ℕ) (l : List ℕ). take k (drop n l)) starts is
+    ∙ minus_or_not named d k (omega (arith, starts, size, ap length is, length-append named (45 ∷ [])))
+    ∙ ap (λ (l : List ℕ). l ++ cond d (45 ∷ []) []) (opening_text true type)
+opening_cut false d type text from k is starts size =
+    let named = 123 ∷ token_text (key (name_of type)) in
+    ap₂ (λ (n : ℕ) (l : List ℕ). take k (drop n l)) starts is
+    ∙ minus_or_not named d k (omega (arith, starts, size, ap length is, length-append named (45 ∷ [])))
+    ∙ ap (λ (l : List ℕ). l ++ cond d (45 ∷ []) []) (opening_text false type)
+
+pub opening_put : (a b : List ℕ) (p r : Place) (type : AMQPType) → Puts a p.count b r.count (print_from p.after_value (begin_object ∷ key (name_of type) ∷ [])) → r.after_value ≡ false
     → PutsTokens a p b r (begin_object ∷ key (name_of type) ∷ [])
 opening_put a b p r type puts e = λ start ts h.
     let named = key (name_of type) in
-    let bytes = drop (cond p.after_value 0 1) (44 ∷ 123 ∷ token_text named) in
     let us = begin_object ∷ named ∷ [] in
-    let same : print ts ++ bytes ≡ print (ts ++ us) =
-    ap (λ (l : List ℕ). print ts ++ l) (opening_text p.after_value type ∙ ap (λ c. print_from c us) h.after) ∙ sym (print_from-append false ts us) in
+    let same : print ts ++ print_from p.after_value us ≡ print (ts ++ us) =
+    ap (λ c. print ts ++ print_from c us) h.after ∙ sym (print_from-append false ts us) in
     record {
       text = subst (λ (u : List ℕ). Begins start b r.count u) same (puts start (print ts) h.text);
       after = e ∙ sym (ap ends_value (sym (append_assoc ts (begin_object ∷ []) (named ∷ []))) ∙ ends_push false (ts ++ begin_object ∷ []) named);
@@ -115,51 +130,103 @@ plain_through d i n few plain =
     first_plain (drop i d) n (λ k less. ap is_plain (get_or-drop i d k 0) ∙ plain (i + k) (omega arith) (omega (arith, less))) (omega (arith, few, length-drop i d))
     ∙ ap (λ (xs : List ℕ). n + prefix_len is_plain xs) (drop-drop n i d)
 
--- ---- digits that a buffer hasn't bytes for
+-- ---- bytes that a buffer isn't large enough for
 
-pub digits_counted : (a : List ℕ) (at end : ℕ) (bytes : List ℕ) → end ≡ min (at + 2 * length bytes) (2 ^ 64 - 1) → length a < end → Puts a at a end (encode_lower bytes)
-digits_counted a at end bytes is over = λ start t h.
-    let size = length-encode_with lower_digits bytes in
-    let long = length-append t (encode_lower bytes) in
+pub bytes_counted : (a : List ℕ) (at end : ℕ) (bytes : List ℕ) → end ≡ min (at + length bytes) (2 ^ 64 - 1) → length a < end → Puts a at a end bytes
+bytes_counted a at end bytes is over = λ start t h.
+    let long = length-append t bytes in
     record {
-      count = omega (arith, is, size, long, h.count);
+      count = omega (arith, is, long, h.count);
       same = h.same;
-      text = λ fits. absurd (omega (arith, is, over, size, long, fits, h.count, h.same));
+      text = λ fits. absurd (omega (arith, is, over, long, fits, h.count, h.same));
     }
 
--- ---- digits that end where they are to
+pub digits_counted : (a : List ℕ) (at end : ℕ) (bytes : List ℕ) → end ≡ min (at + 2 * length bytes) (2 ^ 64 - 1) → length a < end → Puts a at a end (encode_lower bytes)
+digits_counted a at end bytes is over =
+    bytes_counted a at end (encode_lower bytes) (omega (arith, is, length-encode_with lower_digits bytes)) over
 
-pub digits_written : (a b : List ℕ) (at end from : ℕ) (ds : List ℕ) → end ≡ min (at + length ds) (2 ^ 64 - 1) → end ≤ length a → 1 + length a < 2 ^ 64 → from + length ds ≡ end
-    → drop from b ≡ ds ++ drop end a → take from b ≡ take from a → Puts a at b end ds
-digits_written a b at end from ds is inside few starts tail head = λ start t h.
-    let same : from ≡ at = omega (arith, is, inside, few, starts) in
+-- ---- bytes that are written where they belong
+
+pub bytes_written : (a b : List ℕ) (at end : ℕ) (ds : List ℕ) → end ≡ at + length ds → end ≤ length a → 1 + length a < 2 ^ 64 → b ≡ take at a ++ (ds ++ drop end a) → Puts a at b end ds
+bytes_written a b at end ds is inside few whole = λ start t h.
     let long = length-append t ds in
     let size : at ≡ length t = omega (arith, is, inside, few, h.count) in
-    let whole : b ≡ take at a ++ (ds ++ drop end a) = sym (take-append-drop from b) ∙ ap₂ (λ (x y : List ℕ). x ++ y) (head ∙ ap (λ n. take n a) same) tail in
-    let front = length-take-le at a (omega (arith, is, inside, few)) in
-    let all : length b ≡ length a = ap length whole ∙ (length-append (take at a) (ds ++ drop end a) ∙ omega (arith, front, length-append ds (drop end a), length-drop end a, starts, same, inside)) in
+    let front = length-take-le at a (omega (arith, is, inside)) in
+    let all : length b ≡ length a = ap length whole ∙ (length-append (take at a) (ds ++ drop end a) ∙ omega (arith, front, length-append ds (drop end a), length-drop end a, is, inside)) in
     record {
       count = omega (arith, is, inside, few, long, size);
       same = all ∙ h.same;
       text = λ fits.
           let was : a ≡ t ++ drop (length t) start = h.text (omega (arith, fits, long)) in
           let first : take at a ≡ t = ap (take at) was ∙ take_at t (drop (length t) start) at (sym size) in
-          let ends : end ≡ length t + length ds = omega (arith, starts, same, size) in
+          let ends : end ≡ length t + length ds = omega (arith, is, size) in
           let last : drop end a ≡ drop (length (t ++ ds)) start =
           ap₂ (λ (n : ℕ) (l : List ℕ). drop n l) ends was ∙ (drop-append-add t (drop (length t) start) (length ds) ∙ (drop-drop (length ds) (length t) start ∙ ap (λ n. drop n start) (sym long))) in
           whole ∙ ap₂ (λ (x y : List ℕ). x ++ (ds ++ y)) first last ∙ sym (append_assoc t ds (drop (length (t ++ ds)) start));
     }
 
+-- as `write_digits` has it
+pub digits_written : (a b : List ℕ) (at end from : ℕ) (ds : List ℕ) → end ≡ at + length ds → end ≤ length a → 1 + length a < 2 ^ 64 → from + length ds ≡ end
+    → drop from b ≡ ds ++ drop end a → take from b ≡ take from a → Puts a at b end ds
+digits_written a b at end from ds is inside few starts tail head =
+    let same : from ≡ at = omega (arith, is, starts) in
+    bytes_written a b at end ds is inside few (sym (take-append-drop from b) ∙ ap₂ (λ (x y : List ℕ). x ++ y) (head ∙ ap (λ n. take n a) same) tail)
+
+-- a part of the buffer is overwritten
+pub part_written : (a bytes ds : List ℕ) (at k : ℕ) → bytes ≡ ds → k ≡ length ds → at + k ≤ length a → 1 + length a < 2 ^ 64 → Puts a at (put_mid at k a bytes) (at + k) ds
+part_written a bytes ds at k is size inside few =
+    bytes_written a (put_mid at k a bytes) at (at + k) ds (omega (arith, size)) inside few (ap₂ (λ (x y : List ℕ). take at a ++ (x ++ y)) is (drop-drop k at a))
+
+-- the first and the last k bytes, over each other
+pub ends_written : (a first last ds : List ℕ) (at from end k i j : ℕ) → k ≤ length ds → length ds ≤ 2 * k → end ≡ at + length ds → end ≤ length a → 1 + length a < 2 ^ 64 → from + k ≡ end → i ≡ k → j ≡ k
+    → first ≡ take k ds → last ≡ drop (length ds - k) ds → Puts a at (put_mid from j (put_mid at i a first) last) end ds
+ends_written a first last ds at from end k i j least most is inside few starts size_i size_j head tail =
+    let n = length ds in
+    let b = put_mid at i a first in
+    let c = put_mid from j b last in
+    let first_len : length first ≡ k = ap length head ∙ length-take-le k ds least in
+    let last_len : length last ≡ k = ap length tail ∙ (length-drop (n - k) ds ∙ omega (arith, least)) in
+    let b_start : take (at + k) b ≡ take at a ++ first = take-put_mid at i a first (at + k) (omega (arith, first_len)) (omega (arith, is, inside)) in
+    let b_end : drop (at + k) b ≡ drop (at + k) a = drop-put_mid at i a first (at + k) (omega (arith, size_i)) (omega (arith, is, inside)) (first_len ∙ sym size_i) in
+    let front = length-take-le at a (omega (arith, is, inside)) in
+    let b_len : length b ≡ length a = ap length (sym (take-append-drop (at + k) b)) ∙ (length-append (take (at + k) b) (drop (at + k) b) ∙ omega (arith, ap length b_start, ap length b_end, length-append (take at a) first, first_len, front, length-drop (at + k) a, least, is, inside)) in
+    let c_start : take end c ≡ take from b ++ last = take-put_mid from j b last end (omega (arith, last_len, starts)) (omega (arith, b_len, starts, inside)) in
+    let c_end : drop end c ≡ drop end b = drop-put_mid from j b last end (omega (arith, starts, size_j)) (omega (arith, b_len, starts, inside)) (last_len ∙ sym size_j) in
+    let b_last : drop end b ≡ drop end a = drop-put_mid at i a first end (omega (arith, size_i, is, least)) (omega (arith, is, inside)) (first_len ∙ sym size_i) in
+    let kept : from ≡ at + (n - k) = omega (arith, starts, is, least) in
+    let b_first : take from b ≡ take at a ++ take (n - k) ds =
+    sym (take-take from (at + k) b (omega (arith, kept, most, least))) ∙ ap₂ (λ (m : ℕ) (l : List ℕ). take m l) (kept ∙ ap (λ m. m + (n - k)) (sym front)) b_start
+    ∙ take-append-add (take at a) first (n - k) ∙ ap (λ (l : List ℕ). take at a ++ l) (ap (take (n - k)) head ∙ take-take (n - k) k ds (omega (arith, most))) in
+    let joined : take end c ≡ take at a ++ ds =
+    c_start ∙ ap₂ (λ (x y : List ℕ). x ++ y) b_first tail ∙ append_assoc (take at a) (take (n - k) ds) (drop (n - k) ds) ∙ ap (λ (l : List ℕ). take at a ++ l) (take-append-drop (n - k) ds) in
+    bytes_written a c at end ds is inside few
+    (sym (take-append-drop end c) ∙ ap₂ (λ (x y : List ℕ). x ++ y) joined (c_end ∙ b_last) ∙ append_assoc (take at a) ds (drop end a))
+
 -- ---- a number under the name of its type
 
-pub number_put : (a b c d : List ℕ) (p o : Place) (at end : ℕ) (type : AMQPType) (s : List ℕ) → PutsTokens a p b o (begin_object ∷ key (name_of type) ∷ []) → o.after_value ≡ false
-    → Puts b o.count c at s → Puts c at d end (125 ∷ []) → PutsTokens a p d (record { count = end; after_value = true }) (begin_object ∷ key (name_of type) ∷ number s ∷ end_object ∷ [])
-number_put a b c d p o at end type s opened first digits put =
-    let after : Place = record { count = at; after_value = true } in
-    let whole : Place = record { count = end; after_value = true } in
-    let none = subst (λ (e : Bool). Puts b o.count b o.count (separator e (number s))) (sym first) (puts_none b o.count) in
-    tokens_more a b d p o whole (begin_object ∷ key (name_of type) ∷ []) _ opened
-    (tokens_more b c d o after whole (number s ∷ []) (end_object ∷ []) (token_put b b c o after o.count (number s) none digits refl) (token_put c c d after whole at end_object (puts_none c at) put refl))
+after_name : (s : List ℕ) → print_from false (number s ∷ end_object ∷ []) ≡ s ++ 125 ∷ []
+unfolding print_from
+after_name s = refl
+
+pub number_put : (a b : List ℕ) (p r : Place) (type : AMQPType) (s : List ℕ) → Puts a p.count b r.count (print_from p.after_value (begin_object ∷ key (name_of type) ∷ []) ++ (s ++ 125 ∷ [])) → r.after_value ≡ true
+    → PutsTokens a p b r (begin_object ∷ key (name_of type) ∷ number s ∷ end_object ∷ [])
+number_put a b p r type s puts ends = λ start ts h.
+    let us = begin_object ∷ key (name_of type) ∷ [] in
+    let vs = number s ∷ end_object ∷ [] in
+    let all : print (ts ++ (us ++ vs)) ≡ print ts ++ (print_from p.after_value us ++ (s ++ 125 ∷ [])) =
+    print_from-append false ts (us ++ vs) ∙ ap (λ (l : List ℕ). print ts ++ l) (ap (λ c. print_from c (us ++ vs)) (sym h.after) ∙ print_from-append p.after_value us vs ∙ ap (λ (l : List ℕ). print_from p.after_value us ++ l) (after_name s)) in
+    record {
+      text = subst (λ (u : List ℕ). Begins start b r.count u) (sym all) (puts start (print ts) h.text);
+      after = ends ∙ sym (ap ends_value (sym (append_assoc ts (begin_object ∷ key (name_of type) ∷ number s ∷ []) (end_object ∷ []))) ∙ ends_push false (ts ++ begin_object ∷ key (name_of type) ∷ number s ∷ []) end_object);
+    }
+
+-- the same bytes, of which a minus is put with those before it
+pub with_minus : (opening minus digits : List ℕ) → (opening ++ minus) ++ (digits ++ 125 ∷ []) ≡ opening ++ ((minus ++ digits) ++ 125 ∷ [])
+with_minus opening minus digits =
+    append_assoc opening minus (digits ++ 125 ∷ []) ∙ ap (λ (l : List ℕ). opening ++ l) (sym (append_assoc minus digits (125 ∷ [])))
 
 pub puts_as : (a : List ℕ) (i : ℕ) (b : List ℕ) (j : ℕ) (xs ys : List ℕ) → xs ≡ ys → Puts a i b j xs → Puts a i b j ys
 puts_as a i b j xs ys e p = subst (λ (l : List ℕ). Puts a i b j l) e p
+
+pub puts_to : (a : List ℕ) (i : ℕ) (b : List ℕ) (j k : ℕ) (xs : List ℕ) → j ≡ k → Puts a i b j xs → Puts a i b k xs
+puts_to a i b j k xs e p = subst (λ (n : ℕ). Puts a i b n xs) e p

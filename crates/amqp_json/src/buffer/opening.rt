@@ -1,6 +1,6 @@
 //! How the JSON of a value under its type's name begins, in a buffer.
 
-ghost use Rattle.std.specs.Prelude.{◌≡◌, ◌≤◌, ◌∷◌, [], false, length};
+ghost use Rattle.std.specs.Prelude.{◌≡◌, ◌≤◌, ◌∷◌, ◌++◌, [], false, length, cond};
 ghost use Rattle.json.specs.Token.{begin_object, key};
 ghost use Rattle.json.specs.Print.{print_from, token_text};
 ghost use Rattle.amqp_value_core.specs.Names.{name_of};
@@ -17,48 +17,61 @@ pub(crate) fn begin(buffer: &mut [u8], place: Place, amqp_type: AMQPType) -> Pla
         (begin_object ∷ key (name_of amqp_type) ∷ []) }
     ensures after { result.after_value ≡ false }
 {
-    let after_comma = if place.after_value { 0 } else { 1 };
+    let bytes = opening(amqp_type, place.after_value, false);
     Place {
-        count: put(buffer, place.count, &opening(amqp_type)[after_comma..]),
+        count: put(buffer, place.count, bytes),
         after_value: false,
     }
 }
 
-/// How many bytes that is, after a value with a comma.
+/// The bytes of that, after a value with a comma, and before a negative number with a minus.
 #[inline(always)]
-pub(crate) fn opening_len(amqp_type: AMQPType, after_value: bool) -> usize
-    ensures value { result ≡ length (print_from after_value (begin_object ∷ key (name_of amqp_type) ∷ [])) }
-    ensures bound { result ≤ 32 }
+pub(crate) fn opening(amqp_type: AMQPType, after_value: bool, is_negative: bool) -> &'static [u8]
+    ensures text { result.now
+        ≡ print_from after_value (begin_object ∷ key (name_of amqp_type) ∷ []) ++ cond is_negative (45 ∷ []) [] }
+    ensures least { 8 ≤ length result.now }
+    ensures most { length result.now ≤ 32 }
 {
-    let len = opening(amqp_type).len();
-    if after_value { len } else { len - 1 }
+    let text = text_of(amqp_type);
+    let from = one_unless(after_value);
+    let to = text.len() - one_unless(is_negative);
+    &text[from..to]
 }
 
-// With a comma before it. No name needs an escape.
+#[inline(always)]
+fn one_unless(is_so: bool) -> usize
+    ensures value { result ≡ cond is_so 0 1 }
+    ensures bound { result ≤ 1 }
+{
+    if is_so { 0 } else { 1 }
+}
+
+// With a comma before it, and a minus after it. No name needs an escape.
 #[tactic(auto, unfolding(json::specs::Print::escape_byte))]
-fn opening(amqp_type: AMQPType) -> &'static [u8]
-    ensures text { result.now ≡ 44 ∷ 123 ∷ token_text (key (name_of amqp_type)) }
-    ensures bound { length result.now ≤ 32 }
+fn text_of(amqp_type: AMQPType) -> &'static [u8]
+    ensures text { result.now ≡ 44 ∷ 123 ∷ (token_text (key (name_of amqp_type)) ++ 45 ∷ []) }
+    ensures least { 10 ≤ length result.now }
+    ensures most { length result.now ≤ 32 }
 {
     match amqp_type {
-        AMQPType::Boolean => b",{\"Boolean\":",
-        AMQPType::ShortShortInt => b",{\"ShortShortInt\":",
-        AMQPType::ShortShortUInt => b",{\"ShortShortUInt\":",
-        AMQPType::ShortInt => b",{\"ShortInt\":",
-        AMQPType::ShortUInt => b",{\"ShortUInt\":",
-        AMQPType::LongInt => b",{\"LongInt\":",
-        AMQPType::LongUInt => b",{\"LongUInt\":",
-        AMQPType::LongLongInt => b",{\"LongLongInt\":",
-        AMQPType::LongLongUInt => b",{\"LongLongUInt\":",
-        AMQPType::Float => b",{\"Float\":",
-        AMQPType::Double => b",{\"Double\":",
-        AMQPType::DecimalValue => b",{\"DecimalValue\":",
-        AMQPType::ShortString => b",{\"ShortString\":",
-        AMQPType::LongString => b",{\"LongString\":",
-        AMQPType::FieldArray => b",{\"FieldArray\":",
-        AMQPType::Timestamp => b",{\"Timestamp\":",
-        AMQPType::FieldTable => b",{\"FieldTable\":",
-        AMQPType::ByteArray => b",{\"ByteArray\":",
-        AMQPType::Void => b",{\"Void\":",
+        AMQPType::Boolean => b",{\"Boolean\":-",
+        AMQPType::ShortShortInt => b",{\"ShortShortInt\":-",
+        AMQPType::ShortShortUInt => b",{\"ShortShortUInt\":-",
+        AMQPType::ShortInt => b",{\"ShortInt\":-",
+        AMQPType::ShortUInt => b",{\"ShortUInt\":-",
+        AMQPType::LongInt => b",{\"LongInt\":-",
+        AMQPType::LongUInt => b",{\"LongUInt\":-",
+        AMQPType::LongLongInt => b",{\"LongLongInt\":-",
+        AMQPType::LongLongUInt => b",{\"LongLongUInt\":-",
+        AMQPType::Float => b",{\"Float\":-",
+        AMQPType::Double => b",{\"Double\":-",
+        AMQPType::DecimalValue => b",{\"DecimalValue\":-",
+        AMQPType::ShortString => b",{\"ShortString\":-",
+        AMQPType::LongString => b",{\"LongString\":-",
+        AMQPType::FieldArray => b",{\"FieldArray\":-",
+        AMQPType::Timestamp => b",{\"Timestamp\":-",
+        AMQPType::FieldTable => b",{\"FieldTable\":-",
+        AMQPType::ByteArray => b",{\"ByteArray\":-",
+        AMQPType::Void => b",{\"Void\":-",
     }
 }

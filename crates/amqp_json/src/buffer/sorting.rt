@@ -10,14 +10,14 @@ ghost use Rattle.amqp_json.specs.Json.{json, members_json};
 ghost use Rattle.amqp_json.specs.Puts.{PutsJson};
 ghost use Rattle.amqp_json.specs.Sorted.{AreAt};
 
-use super::leaves::{decimal, digits, integer, long_string, natural, plain_integer};
+use super::leaves::put_leaf;
 use super::opening::begin;
 use super::place::Place;
 use super::printing::put_token;
 use crate::keys::{keys_rise, needs_type_name};
 use crate::sorted::{map_needs_type_name, map_of};
 use amqp_in_place::{ArrayRef, TableRef, ValueRef};
-use amqp_value_core::types::{AMQPType, DecimalValue};
+use amqp_value_core::types::AMQPType;
 use json::Token;
 use std::alloc::{AllocError, Global};
 use std::collections::BTreeMap;
@@ -36,40 +36,9 @@ pub(crate) fn put_value(
         → PutsJson buffer.old place buffer.new end (json v)) }
 {
     match value {
-        ValueRef::Boolean(b) => Ok(put_token(buffer, place, Token::Bool(b))),
-        ValueRef::ShortShortInt(n) => Ok(integer(buffer, place, AMQPType::ShortShortInt, n as i64)),
-        ValueRef::ShortShortUInt(n) => Ok(natural(
-            buffer,
-            place,
-            AMQPType::ShortShortUInt,
-            n as u64,
-        )),
-        ValueRef::ShortInt(n) => Ok(integer(buffer, place, AMQPType::ShortInt, n as i64)),
-        ValueRef::ShortUInt(n) => Ok(natural(buffer, place, AMQPType::ShortUInt, n as u64)),
-        ValueRef::LongInt(n) => Ok(integer(buffer, place, AMQPType::LongInt, n as i64)),
-        ValueRef::LongUInt(n) => Ok(natural(buffer, place, AMQPType::LongUInt, n as u64)),
-        ValueRef::LongLongInt(n) => Ok(plain_integer(buffer, place, n)),
-        ValueRef::Float(f) => Ok(digits(
-            buffer,
-            place,
-            AMQPType::Float,
-            &f.to_bits().to_be_bytes(),
-        )),
-        ValueRef::Double(f) => Ok(digits(
-            buffer,
-            place,
-            AMQPType::Double,
-            &f.to_bits().to_be_bytes(),
-        )),
-        ValueRef::DecimalValue(DecimalValue { scale, value }) => Ok(decimal(
-            buffer, place, scale, value,
-        )),
-        ValueRef::LongString(bytes) => Ok(long_string(buffer, place, bytes)),
         ValueRef::FieldArray(array) => put_array(alloc, buffer, place, array),
-        ValueRef::Timestamp(n) => Ok(natural(buffer, place, AMQPType::Timestamp, n)),
         ValueRef::FieldTable(table) => put_table(alloc, buffer, place, table),
-        ValueRef::ByteArray(bytes) => Ok(digits(buffer, place, AMQPType::ByteArray, bytes)),
-        ValueRef::Void => Ok(put_token(buffer, place, Token::Null)),
+        _ => Ok(put_leaf(buffer, place, value)),
     }
 }
 

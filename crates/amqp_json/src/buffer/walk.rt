@@ -12,13 +12,13 @@ ghost use Rattle.amqp_in_place.specs.Places.{IsViewIn};
 ghost use Rattle.amqp_json.specs.Ascending.{IfInOrder, IfValuesAscend, IfTableAscends};
 ghost use Rattle.amqp_json.specs.Puts.{PutsJson};
 
-use super::leaves::{decimal, digits, integer, long_string, natural, plain_integer};
+use super::leaves::put_leaf;
 use super::opening::begin;
 use super::place::Place;
 use super::printing::put_token;
 use crate::keys::{is_above, needs_type_name};
 use amqp_in_place::{ArrayRef, TableRef, ValueRef};
-use amqp_value_core::types::{AMQPType, DecimalValue};
+use amqp_value_core::types::AMQPType;
 use json::Token;
 
 /// Puts the JSON text of a value after what is written, or some of it if the keys of a table don't
@@ -32,45 +32,9 @@ pub(crate) fn put_value(buffer: &mut [u8], place: Place, value: ValueRef<'_>) ->
         → IfInOrder result s rest }
 {
     match value {
-        ValueRef::Boolean(b) => Some(put_token(buffer, place, Token::Bool(b))),
-        ValueRef::ShortShortInt(n) => Some(integer(
-            buffer,
-            place,
-            AMQPType::ShortShortInt,
-            n as i64,
-        )),
-        ValueRef::ShortShortUInt(n) => Some(natural(
-            buffer,
-            place,
-            AMQPType::ShortShortUInt,
-            n as u64,
-        )),
-        ValueRef::ShortInt(n) => Some(integer(buffer, place, AMQPType::ShortInt, n as i64)),
-        ValueRef::ShortUInt(n) => Some(natural(buffer, place, AMQPType::ShortUInt, n as u64)),
-        ValueRef::LongInt(n) => Some(integer(buffer, place, AMQPType::LongInt, n as i64)),
-        ValueRef::LongUInt(n) => Some(natural(buffer, place, AMQPType::LongUInt, n as u64)),
-        ValueRef::LongLongInt(n) => Some(plain_integer(buffer, place, n)),
-        ValueRef::Float(f) => Some(digits(
-            buffer,
-            place,
-            AMQPType::Float,
-            &f.to_bits().to_be_bytes(),
-        )),
-        ValueRef::Double(f) => Some(digits(
-            buffer,
-            place,
-            AMQPType::Double,
-            &f.to_bits().to_be_bytes(),
-        )),
-        ValueRef::DecimalValue(DecimalValue { scale, value }) => Some(decimal(
-            buffer, place, scale, value,
-        )),
-        ValueRef::LongString(bytes) => Some(long_string(buffer, place, bytes)),
         ValueRef::FieldArray(array) => put_array(buffer, place, array),
-        ValueRef::Timestamp(n) => Some(natural(buffer, place, AMQPType::Timestamp, n)),
         ValueRef::FieldTable(table) => put_table(buffer, place, table),
-        ValueRef::ByteArray(bytes) => Some(digits(buffer, place, AMQPType::ByteArray, bytes)),
-        ValueRef::Void => Some(put_token(buffer, place, Token::Null)),
+        _ => Some(put_leaf(buffer, place, value)),
     }
 }
 

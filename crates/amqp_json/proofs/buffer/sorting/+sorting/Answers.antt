@@ -7,6 +7,7 @@ use Rattle.amqp_in_place.specs.declared.refs.ValueRef.{ValueRef}
 use Rattle.amqp_in_place.specs.Refs.{array_body, table_body}
 use Rattle.amqp_in_place.specs.Suffix.{values_left, pairs_left}
 use Rattle.amqp_json.specs.Sorted.{AreAt, above_bodies}
+use Rattle.amqp_json.proofs.Ascents.{no_container}
 use Rattle.amqp_json.proofs.Filling.{item_put, items_end, pair_put, pairs_end, named_put, plain_puts_ok, entry_put, entries_end, named_entries_put, plain_entries_put, array_put_ok, table_put_ok, left_of, left_of_pair}
 use Rattle.amqp_json.proofs.SortedSteps.{AtStep}
 use Rattle.amqp_json.proofs.buffer.sorting.+sorting.Goals as goal
@@ -104,6 +105,9 @@ put_table-returns t c =
     plain_puts_ok _ _ _ (table_body c.args.table) c.put_pairs-2.result (λ ps body. sym (c.needs_type_name.ensures ps body) ∙ c.if-needs_type_name.false) (c.keys_rise.ensures.rise rise) c.put_pairs-2.ensures
 
 -- ---- a value
+
+pub put_value-put_leaf-requires : goal.put_value-put_leaf-requires
+put_value-put_leaf-requires t c = no_container c.args.value c.in_default.not-FieldArray c.in_default.not-FieldTable
 
 pub put_value-returns-in-FieldArray : goal.put_value-returns-in-FieldArray
 put_value-returns-in-FieldArray t c = array_put_ok _ _ _ c.put_array.result c.args.value c.in-FieldArray.array c.in-FieldArray.is c.put_array.ensures

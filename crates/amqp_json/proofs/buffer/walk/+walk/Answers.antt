@@ -7,7 +7,7 @@ use Rattle.amqp_in_place.specs.Refs.{array_body, table_body}
 use Rattle.amqp_in_place.specs.Suffix.{values_left, pairs_left}
 use Rattle.amqp_json.specs.Ascending.{IfValuesAscend, IfTableAscends}
 use Rattle.amqp_json.specs.declared.buffer.place.Place.{Place}
-use Rattle.amqp_json.proofs.Ascents.{ValuesGoOn, PairsGoOn, values_all, values_step, values_fall, values_over, pairs_all, pairs_step, pairs_fall, pairs_over, table_order, table_falls, pairs_fall_in_table, rises_on, rises_no_more, all_rise, leaf_at, array_at, table_at}
+use Rattle.amqp_json.proofs.Ascents.{ValuesGoOn, PairsGoOn, values_all, values_step, values_fall, values_over, pairs_all, pairs_step, pairs_fall, pairs_over, table_order, table_falls, pairs_fall_in_table, rises_on, rises_no_more, all_rise, leaf_order, no_container, array_at, table_at}
 use Rattle.amqp_json.proofs.Filling.{item_put, items_end, pair_put, pairs_end, named_put, plain_puts, array_put, table_put, left_of, left_of_pair}
 use Rattle.amqp_json.proofs.buffer.walk.+walk.Goals as goal
 
@@ -153,47 +153,9 @@ put_value-returns-in-FieldTable-clause-json t c = table_put _ _ _ c.put_table.re
 pub put_value-returns-in-FieldTable-clause-order : goal.put_value-returns-in-FieldTable-clause-order
 put_value-returns-in-FieldTable-clause-order t c = λ s rest v x d. table_at c.put_table.result c.args.value c.in-FieldTable.table s rest v c.in-FieldTable.is x d c.put_table.ensures.order
 
-pub put_value-returns-in-Boolean-clause-order : goal.put_value-returns-in-Boolean-clause-order
-put_value-returns-in-Boolean-clause-order t c = λ s rest v x d. leaf_at c.args.value _ s rest c.in-Boolean.is tt x
+pub put_value-put_leaf-requires : goal.put_value-put_leaf-requires
+put_value-put_leaf-requires t c = no_container c.args.value c.in_default.not-FieldArray c.in_default.not-FieldTable
 
-pub put_value-returns-in-ShortShortInt-clause-order : goal.put_value-returns-in-ShortShortInt-clause-order
-put_value-returns-in-ShortShortInt-clause-order t c = λ s rest v x d. leaf_at c.args.value _ s rest c.in-ShortShortInt.is tt x
-
-pub put_value-returns-in-ShortShortUInt-clause-order : goal.put_value-returns-in-ShortShortUInt-clause-order
-put_value-returns-in-ShortShortUInt-clause-order t c = λ s rest v x d. leaf_at c.args.value _ s rest c.in-ShortShortUInt.is tt x
-
-pub put_value-returns-in-ShortInt-clause-order : goal.put_value-returns-in-ShortInt-clause-order
-put_value-returns-in-ShortInt-clause-order t c = λ s rest v x d. leaf_at c.args.value _ s rest c.in-ShortInt.is tt x
-
-pub put_value-returns-in-ShortUInt-clause-order : goal.put_value-returns-in-ShortUInt-clause-order
-put_value-returns-in-ShortUInt-clause-order t c = λ s rest v x d. leaf_at c.args.value _ s rest c.in-ShortUInt.is tt x
-
-pub put_value-returns-in-LongInt-clause-order : goal.put_value-returns-in-LongInt-clause-order
-put_value-returns-in-LongInt-clause-order t c = λ s rest v x d. leaf_at c.args.value _ s rest c.in-LongInt.is tt x
-
-pub put_value-returns-in-LongUInt-clause-order : goal.put_value-returns-in-LongUInt-clause-order
-put_value-returns-in-LongUInt-clause-order t c = λ s rest v x d. leaf_at c.args.value _ s rest c.in-LongUInt.is tt x
-
-pub put_value-returns-in-LongLongInt-clause-order : goal.put_value-returns-in-LongLongInt-clause-order
-put_value-returns-in-LongLongInt-clause-order t c = λ s rest v x d. leaf_at c.args.value _ s rest c.in-LongLongInt.is tt x
-
-pub put_value-returns-in-Float-clause-order : goal.put_value-returns-in-Float-clause-order
-put_value-returns-in-Float-clause-order t c = λ s rest v x d. leaf_at c.args.value _ s rest c.in-Float.is tt x
-
-pub put_value-returns-in-Double-clause-order : goal.put_value-returns-in-Double-clause-order
-put_value-returns-in-Double-clause-order t c = λ s rest v x d. leaf_at c.args.value _ s rest c.in-Double.is tt x
-
-pub put_value-returns-in-DecimalValue-clause-order : goal.put_value-returns-in-DecimalValue-clause-order
-put_value-returns-in-DecimalValue-clause-order t c = λ s rest v x d. leaf_at c.args.value _ s rest c.in-DecimalValue.is tt x
-
-pub put_value-returns-in-LongString-clause-order : goal.put_value-returns-in-LongString-clause-order
-put_value-returns-in-LongString-clause-order t c = λ s rest v x d. leaf_at c.args.value _ s rest c.in-LongString.is tt x
-
-pub put_value-returns-in-Timestamp-clause-order : goal.put_value-returns-in-Timestamp-clause-order
-put_value-returns-in-Timestamp-clause-order t c = λ s rest v x d. leaf_at c.args.value _ s rest c.in-Timestamp.is tt x
-
-pub put_value-returns-in-ByteArray-clause-order : goal.put_value-returns-in-ByteArray-clause-order
-put_value-returns-in-ByteArray-clause-order t c = λ s rest v x d. leaf_at c.args.value _ s rest c.in-ByteArray.is tt x
-
-pub put_value-returns-in-Void-clause-order : goal.put_value-returns-in-Void-clause-order
-put_value-returns-in-Void-clause-order t c = λ s rest v x d. leaf_at c.args.value _ s rest c.in-Void.is tt x
+pub put_value-returns-in_default-clause-order : goal.put_value-returns-in_default-clause-order
+put_value-returns-in_default-clause-order t c = λ s rest v x d.
+    leaf_order c.args.value s rest (no_container c.args.value c.in_default.not-FieldArray c.in_default.not-FieldTable) x
