@@ -1,10 +1,11 @@
 """The places at which the sources make up that memory ran out, may ask for more than there is, or pass on a call otherwise.
 
 No clause can state that an allocation failed. A body that returns OutOfMemory above a size keeps its contract, so its
-form is what is rejected: OutOfMemory and NeedsMemory, of whatever error, and AllocError are made by From<AllocError>,
-which `?` calls, or on the right of a match arm with no guard, each alternative of whose pattern names such an error.
-Failure and out_of_memory() are what parsers call it. A request that can't succeed makes it up too: whatever asks for
-memory by a number is a line of BY_NUMBER, whether it is called there or only named.
+form is what is rejected: OutOfMemory, of whatever error, and AllocError are made by From<AllocError>, which `?` calls,
+or on the right of a match arm with no guard, each alternative of whose pattern names such an error. Failure and
+out_of_memory() are what parsers call it. NeedsMemory is made so too, but its name in a pattern allows nothing, as it
+also says that keys don't ascend. A request that can't succeed makes it up too: whatever asks for memory by a number is a
+line of BY_NUMBER, whether it is called there or only named.
 
 Nor can a clause state with which error a reader or a writer of std failed: the bodies that call one for a trait of ours are PASSED_ON.
 """
@@ -19,11 +20,20 @@ LEFT_OUT = "test_"
 # The lines that are otherwise, each once in its file.
 LISTED = {
     # the keys that are put have at most 255 bytes, so copying one fails only for want of memory
-    ("amqp_json/src/direct/entry.rt", "Err(ValueError::OutOfMemory | ValueError::NotAValue) => Err(JsonError::OutOfMemory),"),
+    (
+        "amqp_json/src/direct/entry.rt",
+        "Err(ValueError::OutOfMemory | ValueError::NotAValue) => Err(JsonError::OutOfMemory),",
+    ),
     # nothing is allocated there: a clause states that keys don't ascend
     ("amqp_json/src/buffer.rt", "None => Err(WriteError::NeedsMemory),"),
+    # nor there: it is passed on
+    ("amqp_json/src/buffer.rt", "Err(WriteError::NeedsMemory) => Err(WriteError::NeedsMemory),"),
     # a clause states that the text has 2^64 - 1 bytes or more
     ("amqp_json/src/buffer.rt", "return Err(WriteError::NeedsMemory);"),
+    # the call never asks for memory, and a clause states when it would need some
+    ("amqp_c/src/json.rt", "Err(WriteError::NeedsMemory) => Err(Fault::OutOfMemory),"),
+    # a clause states that this takes keys that don't ascend, whose text and map are allocated
+    ("amqp_c_alloc/src/decode.rt", "Err(WriteError::NeedsMemory) => Err(Fault::OutOfMemory),"),
 }
 # The lines that ask for memory by a number, and what bounds that.
 BY_NUMBER = {
@@ -60,7 +70,7 @@ PASSED_ON = {
 }
 SILENT = r"""//[^\n]*|/\*.*?\*/|\bb?r(#*)".*?"\1|"(?:\\.|[^"\\])*"|'(?:\\.[^']*|[^'\\])'"""
 MADE = r"\bAlloc(?:Error|Failed)\b(?!\s*[<>])|\b(?:OutOf|Needs)Memory\b|\bFailure\s*\(|\bout_of_memory\s*\("
-NAMED = r"\bAllocError\b|::\s*(?:OutOf|Needs)Memory\b|::\s*Failure\s*\("
+NAMED = r"\bAllocError\b|::\s*OutOfMemory\b|::\s*Failure\s*\("
 RENAMED = r"\b(?:AllocError|AllocFailed|OutOfMemory|NeedsMemory|out_of_memory)\s+as\b"
 IMPORTED = r"\buse std::alloc::(?:AllocError;|\{[^}]*\bAllocError\b)"
 # What makes one of an AllocError.
