@@ -1,6 +1,6 @@
 -- The first token of a text, by the bytes at its start.
-use Rattle.std.proofs.Common.{◌≡◌, ℕ, zero, suc, ◌+◌, ◌-◌, ◌<◌, ◌≤◌, Bool, true, false, not, cond, ◌&&◌, ◌||◌, ◌==◌, nat_eq, List, [], ◌∷◌, ◌++◌, length, take, drop, get_or, Option, Some, None, option_and_then, ◌≢◌, ◌⊎◌, inl, inr, codes, refl, sym, ap, ap₂, ◌∙◌, subst, arith}
-use Rattle.std.proofs.lemmas.Bool.{true≢false, false≢true, eqb-true, eqb-false, ltb-false, ne_eqb, le-ltb, or_cases, or_parts, not-true, cases_Bool}
+use Rattle.std.proofs.Common.{◌≡◌, ℕ, suc, ◌+◌, ◌-◌, ◌<◌, ◌≤◌, Bool, true, false, cond, ◌||◌, ◌==◌, List, [], ◌∷◌, ◌++◌, length, take, drop, get_or, Option, Some, None, option_and_then, ◌≢◌, ◌⊎◌, inl, inr, codes, refl, sym, ap, ap₂, ◌∙◌, subst, arith}
+use Rattle.std.proofs.lemmas.Bool.{true≢false, false≢true, eqb-true, ne_eqb, or_cases, or_parts, not-true}
 use Rattle.std.proofs.lemmas.List.{drop-drop, drop_more, drop_all, take-append-drop}
 use Rattle.std.proofs.lemmas.List.Folds.{length-prefix_len}
 use Rattle.std.specs.List.{prefix_len}
@@ -8,12 +8,12 @@ use Rattle.std.specs.Char.{is_ascii_digit}
 use Rattle.json.specs.Token.{Token, begin_object, end_object, begin_array, end_array, key, string, number, boolean, null, bad}
 use Rattle.json.specs.Text.{content, plain, prepend}
 use Rattle.json.specs.Word.{head, is_operator, is_space, ends_word, after_digits, after_minus, after_whole, after_fraction, after_exponent, after_number, word}
-use Rattle.json.specs.Lex.{Lexeme, token, comma, colon, Class, quote, backslash, operator, space, other, class, operator_lexeme, string_token, Mode, between, in_word, in_string, lex_byte, lex}
+use Rattle.json.specs.Lex.{Lexeme, token, colon, quote, backslash, operator, space, other, operator_lexeme, string_token, Mode, between, in_string, lex_byte, lex}
 use Rattle.json.specs.Lex.{Place, fresh, after_value, after_comma, after_key, begins_colon, may_begin, place_token, punctuate, tokens}
 use Rattle.json.specs.Run.{is_plain}
 use Rattle.json.specs.Print.{IsNumber}
 use Rattle.json.proofs.Printed.Numbers.{in_word-ended, lex-number}
-use Rattle.amqp_json.specs.Lexing.{tokens_left, IsVisible, BeginsWith, IsClosing, IsOpening, IsNamed}
+use Rattle.amqp_json.specs.Lexing.{tokens_left, IsVisible, IsClosing, IsOpening, IsNamed}
 use Rattle.amqp_json.specs.declared.encoding.lexer.Place as rust
 use Rattle.amqp_json.specs.declared.encoding.lexer.Place.TheVariants.{Fresh, AfterValue, AfterComma}
 

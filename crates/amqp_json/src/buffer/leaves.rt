@@ -1,5 +1,7 @@
 //! What is put into a buffer of a value that isn't a container.
 
+// The tactic at the function names the lemmas on bytes that are UTF-8, and on others.
+
 ghost use Rattle.std.specs.Prelude.{◌≡◌, ◌∷◌, [], ◌++◌, cond, decimal};
 ghost use Rattle.std.specs.Int.{w32, w64, to_be_bytes};
 ghost use Rattle.std.specs.Fmt.{signed_decimal};

@@ -1,5 +1,7 @@
 //! How the JSON of a value under its type's name begins, in a buffer.
 
+// The tactic at the function opens the definition of an escape, by which a name needs none.
+
 ghost use Rattle.std.specs.Prelude.{◌≡◌, ◌≤◌, ◌∷◌, ◌++◌, [], false, length, cond};
 ghost use Rattle.json.specs.Token.{begin_object, key};
 ghost use Rattle.json.specs.Print.{print_from, token_text};

@@ -1,6 +1,8 @@
 //! Bytes after others in a buffer: each call returns how many there are then, which may be more
 //! than there is buffer for. Those that don't fit are counted, and not written.
 
+// The tactic at the function opens the definition of an escape, by which a byte needs none.
+
 ghost use Rattle.std.specs.Prelude.{◌≡◌, ◌+◌, ◌-◌, ◌<◌, ◌≤◌, ◌∷◌, [], ◌++◌, length, take, drop};
 ghost use Rattle.std.specs.List.{prefix_len};
 ghost use Rattle.std.specs.Char.{digit_char};

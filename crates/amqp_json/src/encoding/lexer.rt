@@ -1,17 +1,15 @@
 //! The tokens of a text: from its bytes up to the first string with an escape, and from there by
 //! `json::Reader`. What isn't JSON, or no integer, is left to those who read the text again.
 
-ghost use Rattle.std.specs.Prelude.{◌≡◌, ◌≤◌, ◌<◌, ◌+◌, ◌-◌, ◌||◌, ◌∷◌, [], length, take, drop, get_or, map, true, Some, None, IfOk, OnOk, IfSome, MatchOption, option_map};
+ghost use Rattle.std.specs.Prelude.{◌≡◌, ◌≤◌, ◌<◌, ◌+◌, ◌||◌, ◌∷◌, [], length, drop, map, true, Some, None, IfOk, OnOk, IfSome, MatchOption, option_map};
 ghost use Rattle.std.specs.Bool.{OnTrue};
 ghost use Rattle.std.specs.List.{prefix_len};
 ghost use Rattle.std.specs.Char.{is_ascii_digit};
 ghost use Rattle.std.specs.Simd.Lanes.{mask_l};
-ghost use Rattle.json.specs.Token.{end_array};
-ghost use Rattle.json.specs.Word.{head, is_operator, is_space, ends_word};
+ghost use Rattle.json.specs.Word.{head, is_operator, is_space};
 ghost use Rattle.json.specs.Lex.{between, lex, after_value, punctuate, tokens};
 ghost use Rattle.json.specs.Run.{is_stop, is_plain};
 ghost use Rattle.json.specs.Json.{read_key, after_end_array};
-ghost use Rattle.json.specs.Print.{IsNumber};
 ghost use Rattle.json.specs.Reads.{token_of};
 ghost use Rattle.amqp_json.specs.Lexing.{tokens_left, IsVisible, BeginsWith, IsClosing, IsOpening, IsNamed};
 

@@ -1,4 +1,4 @@
-use Rattle.std.proofs.Common.{◌≡◌, ◌<◌, true, get_or, length, ◌∙◌, arith}
+use Rattle.std.proofs.Common.{◌≡◌, true, get_or, ◌∙◌, arith}
 use Rattle.json.specs.Word.{is_space}
 use Rattle.amqp_json.proofs.Lexing.{space_passed}
 use Rattle.amqp_json.proofs.encoding.lexer.after_spaces.Goals as goal

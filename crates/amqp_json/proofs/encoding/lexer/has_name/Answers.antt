@@ -15,4 +15,4 @@ returns c =
     let all : take (length b - c.args.at) (drop c.args.at b) ≡ drop c.args.at b = take_all _ _ (omega (arith, length-drop c.args.at b)) in
     let first : name ≡ take (length name) (drop c.args.at b) = same_text name _ said.value ∙ ap (take (length name)) all in
     OnTrue_from c.is_delimiter.result (IsNamed b c.args.at name) (λ yes.
-    record { fits = omega (arith, few, length-drop c.args.at b); named = sym first; ended = ap (λ x. is_operator x || is_space x) (sym c.byte_at.ensures) ∙ sym c.is_delimiter.ensures ∙ yes; })
+    record { fits = omega (arith, few, length-drop c.args.at b); named = sym first; ended = ap (λ x. is_operator x || is_space x) (sym c.byte_at.ensures) ∙ sym c.is_delimiter.ensures ∙ yes })

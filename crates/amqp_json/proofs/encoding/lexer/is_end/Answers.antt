@@ -1,4 +1,3 @@
-use Rattle.std.proofs.Common.{arith}
 use Rattle.std.proofs.lemmas.Bool.{leb-true}
 use Rattle.amqp_json.proofs.Lexing.{nothing_left}
 use Rattle.amqp_json.proofs.encoding.lexer.is_end.Goals as goal
