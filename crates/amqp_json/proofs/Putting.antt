@@ -1,5 +1,5 @@
 -- Bytes and tokens after others in a buffer.
-use Rattle.std.proofs.Common.{◌≡◌, Bool, ℕ, zero, suc, min, ◌+◌, ◌-◌, ◌<◌, ◌≤◌, ◌/◌, ◌%◌, List, [], ◌∷◌, ◌*◌, ◌^◌, ◌++◌, length, take, drop, length-append, get_or, refl, sym, ap, ◌∙◌, subst, false, true, cond, get_or-drop, append_assoc, append-nil, arith, ap₂, take-take, take_all}
+use Rattle.std.proofs.Common.{◌≡◌, Bool, ℕ, zero, suc, min, ◌+◌, ◌-◌, ◌<◌, ◌≤◌, ◌/◌, ◌%◌, List, [], ◌∷◌, ◌*◌, ◌^◌, ◌++◌, length, take, drop, length-append, get_or, refl, sym, ap, ◌∙◌, subst, false, true, cond, append_assoc, append-nil, arith, ap₂, take-take, take_all}
 use Rattle.std.specs.List.{slice_index, prefix_len}
 use Rattle.hex.proofs.HexLemmas.{length-encode_with}
 use Rattle.std.proofs.lemmas.List.{length-drop, drop-drop, take_at, take-append-drop, length-take-le}
@@ -10,7 +10,6 @@ use Rattle.json.specs.Run.{is_plain}
 use Rattle.json.proofs.Printed.Strings.{escape_to_stop, escape_at, escape_end}
 use Rattle.hex.specs.Hex.{lower_digits, encode_with, encode_lower, IsBytes}
 use Rattle.json.specs.Token.{Token, begin_object, end_object, key, number}
-use Rattle.json.specs.Written.{PlainBetween}
 use Rattle.json.specs.Print.{escape_byte, escape, print_from, print, ends, ends_value, separator, token_text}
 use Rattle.json.proofs.Printed.Tokens.{print_from_push, print_from-append, ends_push}
 use Rattle.amqp_value_core.specs.declared.types.amqp_type.AMQPType.{AMQPType}
@@ -116,19 +115,6 @@ opening_put a b p r type puts e = λ start ts h.
       text = subst (λ (u : List ℕ). Begins start b r.count u) same (puts start (print ts) h.text);
       after = e ∙ sym (ap ends_value (sym (append_assoc ts (begin_object ∷ []) (named ∷ []))) ∙ ends_push false (ts ++ begin_object ∷ []) named);
     }
-
--- ---- bytes that need no escape, some at a time
-
-first_plain : (xs : List ℕ) (n : ℕ) → ((k : ℕ) → k < n → is_plain (get_or xs k 0) ≡ true) → n ≤ length xs → prefix_len is_plain xs ≡ n + prefix_len is_plain (drop n xs)
-first_plain xs zero plain few = omega arith
-first_plain [] (suc n) plain few = absurd (omega (arith, few))
-first_plain (x ∷ xs) (suc n) plain few =
-    ap (λ b. cond b (1 + prefix_len is_plain xs) 0) (plain 0 (omega arith)) ∙ omega (arith, first_plain xs n (λ k less. plain (suc k) (omega (arith, less))) (omega (arith, few)))
-
-pub plain_through : (d : List ℕ) (i n : ℕ) → i + n ≤ length d → PlainBetween d i (i + n) → prefix_len is_plain (drop i d) ≡ n + prefix_len is_plain (drop (i + n) d)
-plain_through d i n few plain =
-    first_plain (drop i d) n (λ k less. ap is_plain (get_or-drop i d k 0) ∙ plain (i + k) (omega arith) (omega (arith, less))) (omega (arith, few, length-drop i d))
-    ∙ ap (λ (xs : List ℕ). n + prefix_len is_plain xs) (drop-drop n i d)
 
 -- ---- bytes that a buffer isn't large enough for
 

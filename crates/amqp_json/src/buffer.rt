@@ -9,7 +9,7 @@ mod leaves;
 mod numbers;
 mod opening;
 mod place;
-mod plain;
+pub(crate) mod plain;
 mod printing;
 mod put;
 mod sorting;

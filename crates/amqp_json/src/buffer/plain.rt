@@ -1,8 +1,11 @@
-//! Whether bytes need no escape in a string of JSON: many at once, by vectors that overlap in a short text.
+//! Which bytes need no escape in a string of JSON: many at once, by vectors that overlap in a short text.
 
-ghost use Rattle.std.specs.Prelude.{◌≡◌, ◌+◌, ◌≤◌, length};
+ghost use Rattle.std.specs.Prelude.{◌≡◌, ◌+◌, ◌≤◌, length, drop, map};
 ghost use Rattle.std.specs.Bool.{OnTrue};
+ghost use Rattle.std.specs.List.{prefix_len};
+ghost use Rattle.std.specs.Simd.Lanes.{mask_l};
 ghost use Rattle.json.specs.Print.{escape};
+ghost use Rattle.json.specs.Run.{is_stop, is_plain};
 ghost use Rattle.json.specs.Written.{PlainBetween};
 
 use std::simd::prelude::*;
@@ -31,9 +34,8 @@ fn plain_8(text: &[u8], at: usize) -> bool
         == 0
 }
 
-/// Whether 16 bytes from `at` on need none.
 #[inline(always)]
-pub(crate) fn plain_16(text: &[u8], at: usize) -> bool
+fn plain_16(text: &[u8], at: usize) -> bool
     requires { at + 16 ≤ length text.now }
     ensures { OnTrue result (PlainBetween text.now at (at + 16)) }
 {
@@ -96,4 +98,45 @@ pub(crate) fn is_plain(text: &[u8]) -> bool
     } else {
         plain_long(text)
     }
+}
+
+// Bit k is set if byte k is a quote, a backslash or a control character.
+#[inline(always)]
+fn stops_of(bytes: u8x16) -> u64
+    ensures { result ≡ mask_l (map is_stop bytes) }
+{
+    (bytes.simd_eq(u8x16::splat(b'"'))
+        | bytes.simd_eq(u8x16::splat(b'\\'))
+        | bytes.simd_lt(u8x16::splat(0x20))).to_bitmask()
+}
+
+/// The first place from this one on that has a quote, a backslash or a control character, or the end.
+#[inline(always)]
+pub(crate) fn plain_end(bytes: &[u8], from: usize) -> usize
+    requires { from ≤ length bytes.now }
+    ensures value { result ≡ from + prefix_len is_plain (drop from bytes.now) }
+    ensures bound { result ≤ length bytes.now }
+{
+    let mut at = from;
+    while bytes.len() - at >= 16 {
+        let stops = stops_of(u8x16::from_slice(&bytes[at..]));
+        if stops != 0 {
+            return at + stops.trailing_zeros() as usize;
+        }
+        at += 16;
+    }
+    plain_end_bytewise(bytes, at)
+}
+
+#[inline(never)]
+fn plain_end_bytewise(bytes: &[u8], from: usize) -> usize
+    requires { from ≤ length bytes.now }
+    ensures value { result ≡ from + prefix_len is_plain (drop from bytes.now) }
+    ensures bound { result ≤ length bytes.now }
+{
+    let mut at = from;
+    while at < bytes.len() && bytes[at] != b'"' && bytes[at] != b'\\' && bytes[at] >= 0x20 {
+        at += 1;
+    }
+    at
 }

@@ -11,7 +11,7 @@ ghost use Rattle.json.specs.Print.{escape_letter, escape_byte, escape};
 ghost use Rattle.json.specs.Run.{is_plain};
 ghost use Rattle.amqp_json.specs.Puts.{Puts};
 
-use super::plain::{is_plain, plain_16};
+use super::plain::{is_plain, plain_end};
 
 #[inline(always)]
 pub(crate) fn put(buffer: &mut [u8], at: usize, bytes: &[u8]) -> usize
@@ -67,33 +67,6 @@ fn put_escaped(buffer: &mut [u8], at: usize, text: &[u8], close: &[u8]) -> usize
         at = put(buffer, at, &escape[..count]);
         from = stop + 1;
     }
-}
-
-/// The end of bytes that need no escape, from `from` on.
-#[inline(always)]
-fn plain_end(text: &[u8], from: usize) -> usize
-    requires { from ≤ length text.now }
-    ensures value { result ≡ from + prefix_len is_plain (drop from text.now) }
-    ensures bound { result ≤ length text.now }
-{
-    let mut i = from;
-    while text.len() - i >= 16 && plain_16(text, i) {
-        i += 16;
-    }
-    plain_end_bytewise(text, i)
-}
-
-#[inline(always)]
-fn plain_end_bytewise(text: &[u8], from: usize) -> usize
-    requires { from ≤ length text.now }
-    ensures value { result ≡ from + prefix_len is_plain (drop from text.now) }
-    ensures bound { result ≤ length text.now }
-{
-    let mut i = from;
-    while i < text.len() && text[i] != b'"' && text[i] != b'\\' && text[i] >= 0x20 {
-        i += 1;
-    }
-    i
 }
 
 #[tactic(auto, unfolding(json::specs::Print::escape_byte))]

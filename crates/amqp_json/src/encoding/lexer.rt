@@ -1,23 +1,21 @@
 //! The tokens of a text: from its bytes up to the first string with an escape, and from there by
 //! `json::Reader`. What isn't JSON, or no integer, is left to those who read the text again.
 
-ghost use Rattle.std.specs.Prelude.{◌≡◌, ◌≤◌, ◌<◌, ◌+◌, ◌||◌, ◌∷◌, [], length, drop, map, true, Some, None, IfOk, OnOk, IfSome, MatchOption, option_map};
+ghost use Rattle.std.specs.Prelude.{◌≡◌, ◌≤◌, ◌<◌, ◌+◌, ◌||◌, ◌∷◌, [], length, drop, true, Some, None, IfOk, OnOk, IfSome, MatchOption, option_map};
 ghost use Rattle.std.specs.Bool.{OnTrue};
 ghost use Rattle.std.specs.List.{prefix_len};
 ghost use Rattle.std.specs.Char.{is_ascii_digit};
-ghost use Rattle.std.specs.Simd.Lanes.{mask_l};
 ghost use Rattle.json.specs.Word.{head, is_operator, is_space};
 ghost use Rattle.json.specs.Lex.{between, lex, after_value, punctuate, tokens};
-ghost use Rattle.json.specs.Run.{is_stop, is_plain};
 ghost use Rattle.json.specs.Json.{read_key, after_end_array};
 ghost use Rattle.json.specs.Reads.{token_of};
 ghost use Rattle.amqp_json.specs.Lexing.{tokens_left, IsVisible, BeginsWith, IsClosing, IsOpening, IsNamed};
 
 use super::Stop;
+use crate::buffer::plain::plain_end;
 use json::{Reader, Scratch, Token};
 use std::alloc::Global;
 use std::marker::Model;
-use std::simd::prelude::*;
 
 // What may be next.
 #[derive(Clone, Copy, Drop)]
@@ -118,44 +116,6 @@ fn after_value(bytes: &[u8], from: usize) -> Next
             place: Place::AfterValue,
         }
     }
-}
-
-#[inline(always)]
-fn stops_of(bytes: u8x16) -> u64
-    ensures { result ≡ mask_l (map is_stop bytes) }
-{
-    (bytes.simd_eq(u8x16::splat(b'"'))
-        | bytes.simd_eq(u8x16::splat(b'\\'))
-        | bytes.simd_lt(u8x16::splat(0x20))).to_bitmask()
-}
-
-// The first place from this one on that has a quote, a backslash or a control character.
-#[inline(always)]
-fn plain_end(bytes: &[u8], from: usize) -> usize
-    requires { from ≤ length bytes.now }
-    ensures { result ≡ from + prefix_len is_plain (drop from bytes.now) }
-{
-    let mut at = from;
-    while bytes.len() - at >= 16 {
-        let stops = stops_of(u8x16::from_slice(&bytes[at..]));
-        if stops != 0 {
-            return at + stops.trailing_zeros() as usize;
-        }
-        at += 16;
-    }
-    plain_end_of_few(bytes, at)
-}
-
-#[inline(never)]
-fn plain_end_of_few(bytes: &[u8], from: usize) -> usize
-    requires { from ≤ length bytes.now }
-    ensures { result ≡ from + prefix_len is_plain (drop from bytes.now) }
-{
-    let mut at = from;
-    while at < bytes.len() && bytes[at] != b'"' && bytes[at] != b'\\' && bytes[at] >= 0x20 {
-        at += 1;
-    }
-    at
 }
 
 // A string or a key, if it has no escape.

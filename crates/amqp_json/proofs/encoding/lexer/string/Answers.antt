@@ -18,7 +18,7 @@ returns-then-byte_at-eq58 c p h =
     let mark : head (drop after b) ≡ 58 = grind arith in
     let content : c.in_ok-content.content.now ≡ take (end - (at + 1)) (drop (at + 1) c.args.text.now) = search rules in
     subst (λ (t : List ℕ). punctuate p (lex between (drop at t)) ≡ key c.in_ok-content.content.now ∷ punctuate fresh (lex between (drop c.after_spaces.result t))) same
-    (key_read b at end after begun c.plain_end-end.ensures close c.after_spaces-after.ensures.same mark p h
+    (key_read b at end after begun c.plain_end-end.ensures.value close c.after_spaces-after.ensures.same mark p h
     ∙ ap₂ (λ s ls. key s ∷ punctuate fresh ls) (ap (λ (t : List ℕ). take (end - (at + 1)) (drop (at + 1) t)) same ∙ sym content) (sym c.after_spaces.ensures.same))
 
 pub returns-else-byte_at-eq58 : goal.returns-else-byte_at-eq58
@@ -33,5 +33,5 @@ returns-else-byte_at-eq58 c p h =
     let close : head (drop end b) ≡ 34 = grind arith in
     let content : c.in_ok-content.content.now ≡ take (end - (at + 1)) (drop (at + 1) c.args.text.now) = search rules in
     subst (λ (t : List ℕ). punctuate p (lex between (drop at t)) ≡ string c.in_ok-content.content.now ∷ tokens_left r.place (drop r.at t)) same
-    (string_alone b at end after begun c.plain_end-end.ensures close c.after_spaces-after.ensures.same c.after_spaces-after.ensures.visible (λ e. omega (arith, e, c.byte_at-2.ensures)) p h
+    (string_alone b at end after begun c.plain_end-end.ensures.value close c.after_spaces-after.ensures.same c.after_spaces-after.ensures.visible (λ e. omega (arith, e, c.byte_at-2.ensures)) p h
     ∙ ap₂ (λ s ts. string s ∷ ts) (ap (λ (t : List ℕ). take (end - (at + 1)) (drop (at + 1) t)) same ∙ sym content) (sym c.after_value.ensures))

@@ -1,7 +1,7 @@
 use Rattle.std.proofs.Common.{◌≡◌, ◌+◌, ◌-◌, ◌≤◌, length, drop}
 use Rattle.std.specs.List.{prefix_len}
 use Rattle.json.specs.Run.{is_plain}
-use Rattle.amqp_json.proofs.encoding.lexer.plain_end_of_few.Given as goal
+use Rattle.amqp_json.proofs.buffer.plain.plain_end.Given as goal
 
 -- what was passed is plain
 abbrev pub invariant-loop-at : goal.invariant-loop-at

@@ -2,7 +2,7 @@ use Rattle.std.proofs.Common.{◌≤◌, length, refl, arith}
 use Rattle.std.proofs.lemmas.Simd.{zip2_splat, zip2_of_maps}
 use Rattle.json.specs.Run.{is_stop}
 use Rattle.amqp_json.proofs.Lanes.{masked}
-use Rattle.amqp_json.proofs.encoding.lexer.stops_of.Goals as goal
+use Rattle.amqp_json.proofs.buffer.plain.stops_of.Goals as goal
 
 pub returns : goal.returns
 returns c =
