@@ -68,6 +68,10 @@ PASSED_ON = {
     "amq_protocol_types/src/stream/source.rt": "fn read_some(&mut self, buf: &mut [u8]) -> io::Result<usize> { self.read(buf) } }",
     "amqp_wire/src/sink.rt": "fn write_some(&mut self, buf: &[u8]) -> io::Result<usize> { self.write(buf) } }",
 }
+# The lines that bound a number by which a line after them asks for memory.
+BOUNDED = {
+    "amqp_json/src/buffer.rt": "let capacity = size.saturating_mul(4).min(buffer.len()); let count = sort_within(alloc, buffer, value, capacity)?;",
+}
 SILENT = r"""//[^\n]*|/\*.*?\*/|\bb?r(#*)".*?"\1|"(?:\\.|[^"\\])*"|'(?:\\.[^']*|[^'\\])'"""
 MADE = r"\bAlloc(?:Error|Failed)\b(?!\s*[<>])|\b(?:OutOf|Needs)Memory\b|\bFailure\s*\(|\bout_of_memory\s*\("
 NAMED = r"\bAllocError\b|::\s*OutOfMemory\b|::\s*Failure\s*\("
@@ -203,5 +207,8 @@ def faults() -> Iterator[str]:
     for name, body in PASSED_ON.items():
         if not is_in(name, body):
             yield f"crates/{name}: a call isn't passed on as it is: {body}"
+    for name, lines in BOUNDED.items():
+        if not is_in(name, lines):
+            yield f"crates/{name}: what is asked for isn't bounded by these lines: {lines}"
     yield from (f"crates/{name} has no line to be listed: {line}" for name, line in sorted(listed))
     yield from (f"no source has the line to be listed: {line}" for line in sorted(by_number))

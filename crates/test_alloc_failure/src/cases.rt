@@ -109,6 +109,9 @@ const ONE_NUMBER_JSON: &[Piece] = &[Bytes(b"{\"a\":1}")];
 /// A table whose keys fall.
 const FALLING: &[Piece] = &[Bytes(b"F\0\0\0\x06\x01bV\x01aV")];
 
+/// Another, whose JSON has more than four times its bytes, so that it is sorted twice.
+const SORTED_TWICE: &[Piece] = &[Bytes(b"F\0\0\0\x0c\x01cb\x05\x01bb\x06\x01ab\x07")];
+
 /// An array of 4000 Voids, and its JSON.
 const VOIDS: &[Piece] = &[Bytes(b"A\0\0\x0f\xa0"), Times(4000, b"V")];
 
@@ -432,7 +435,9 @@ fn of_texts() -> &'static [Case] {
         OfText(TextCall::JsonOfEncoding, ONE_NUMBER), OfText(TextCall::JsonOfEncoding, VOIDS),
         OfText(TextCall::JsonOfEncoding, FALLING),
     ]
-    "write_sorted_json" SORTED [OfText(TextCall::WriteSortedJson, FALLING)]
+    "write_sorted_json" SORTED [
+        OfText(TextCall::WriteSortedJson, FALLING), OfText(TextCall::WriteSortedJson, SORTED_TWICE),
+    ]
     "encoding_of_json" ENCODE [
         OfText(TextCall::EncodingOfJson, ONE_NUMBER_JSON), OfText(TextCall::EncodingOfJson, VOIDS_JSON),
     ]
