@@ -32,7 +32,7 @@ NEEDS: dict[str, tuple[str, ...]] = {
     "show": (),
     "alloc-failures": (),
     "sizes": (),
-    "wire": (),
+    "wire": (PYTHON,),
     "python": (PYTHON, "python3-dbg", "/usr/include/python3.11/Python.h"),
     "c": (
         *("nm", "pkg-config", "clang", "qemu-x86_64", "aarch64-linux-gnu-gcc"),
@@ -52,6 +52,7 @@ PYTEST = ("pytest", "xdist", "hypothesis")
 MODULES = {
     "style": PYTEST,
     "model": PYTEST,
+    "wire": PYTEST,
     "python": (*PYTEST, "pip", "setuptools", "wheel"),
     "web": (*PYTEST, "selenium"),
     "broker": (*PYTEST, "pika", "amqp", "kombu", "celery", "pamqp", "aiormq", "aio_pika"),

@@ -1,0 +1,1 @@
+"""amqp_wire on devices that fail."""

@@ -1,0 +1,102 @@
+"""amqp_wire, as `rt ci` left it, if what it reads from or writes to fails.
+
+tests/memory/alloc-failures makes calls of the system fail; here the devices do, in each form: lines of hexadecimal, and
+--stream. If a read or a write fails the exit status is 2, standard error has what happened, and standard output has a part
+of what a run writes if nothing fails. If standard error fails too, the status still reports what happened.
+"""
+
+import subprocess
+from contextlib import suppress
+from pathlib import Path
+from subprocess import PIPE
+from typing import NamedTuple
+
+import pytest
+from building import is_up_to_date
+from crates import Crates
+
+CRATES, NAME = Crates(), "amqp_wire"
+PROGRAM = CRATES.folder(NAME) / "out" / NAME
+# How often a value comes: what is written of it doesn't fit the buffer of a pipe.
+TIMES = 20_000
+# How a run ends if a read or a write fails.
+FAILED, STATUS = b"amqp_wire: input or output failed\n", 2
+
+
+class Form(NamedTuple):
+    """The program's words, what comes in, and what is written if nothing fails."""
+
+    words: list[str]
+    given: bytes
+    wants: bytes
+
+
+FORMS = {
+    "hexadecimal": Form([], b"7401\n" * TIMES, b"value 7401 rest 0\n" * TIMES),
+    "stream": Form(["--stream"], b"t\1" * TIMES, b"value 7401\n" * TIMES + b"end\n"),
+}
+
+# What fails, as the shell has it.
+OUTPUTS = {"a full device": ">/dev/full", "closed": ">&-", "not open for writing": "1</dev/null"}
+INPUTS = {"a folder": "</", "closed": "<&-", "not open for reading": "0>/dev/null"}
+ERRORS = {"a full device": "2>/dev/full", "closed": "2>&-"}
+
+# Each test is of both forms, over the program as it is built.
+pytestmark = [pytest.mark.usefixtures("built"), pytest.mark.parametrize("form", FORMS.values(), ids=FORMS)]
+
+
+@pytest.fixture(scope="session")
+def built() -> None:
+    """The program is there, and is newer than its sources."""
+    assert is_up_to_date(PROGRAM, CRATES, NAME, ["src"]), f"{NAME} isn't there, or is older than its sources: run rt ci"
+
+
+def run(form: Form, elsewhere: str = "") -> subprocess.CompletedProcess[bytes]:
+    """Runs the program, with these of its streams elsewhere."""
+    words: list[str | Path] = ["sh", "-c", f'exec "$0" "$@" {elsewhere}', PROGRAM, *form.words]
+    return subprocess.run(words, input=form.given, capture_output=True, timeout=60)
+
+
+def assert_failed(form: Form, status: int, out: bytes, err: bytes) -> None:
+    """A read or a write failed: the status and standard error report it, and a part of the output was written."""
+    assert (status, err) == (STATUS, FAILED)
+    is_part = form.wants.startswith(out) and out != form.wants
+    assert is_part, f"{len(out)} bytes were written, where {len(form.wants)} are all"
+
+
+def test_nothing_fails(form: Form) -> None:
+    done = run(form)
+    assert (done.returncode, done.stderr) == (0, b"")
+    assert done.stdout == form.wants
+
+
+@pytest.mark.parametrize("elsewhere", INPUTS.values(), ids=INPUTS)
+def test_input_fails(form: Form, elsewhere: str) -> None:
+    done = run(form, elsewhere)
+    assert_failed(form, done.returncode, done.stdout, done.stderr)
+
+
+@pytest.mark.parametrize("elsewhere", OUTPUTS.values(), ids=OUTPUTS)
+def test_output_fails(form: Form, elsewhere: str) -> None:
+    done = run(form, elsewhere)
+    assert_failed(form, done.returncode, done.stdout, done.stderr)
+
+
+@pytest.mark.parametrize("count", (0, 10))
+def test_pipe_is_closed(form: Form, count: int) -> None:
+    """That many bytes of what the program writes are read, and then the pipe is closed."""
+    with subprocess.Popen([PROGRAM, *form.words], stdin=PIPE, stdout=PIPE, stderr=PIPE) as process:
+        assert process.stdin and process.stdout and process.stderr
+        if count == 0:
+            process.stdout.close()
+        with suppress(BrokenPipeError), process.stdin:
+            process.stdin.write(form.given)
+        out = process.stdout.read(count) if count else b""
+        process.stdout.close()
+        err = process.stderr.read()
+    assert_failed(form, process.returncode, out, err)
+
+
+@pytest.mark.parametrize("elsewhere", ERRORS.values(), ids=ERRORS)
+def test_standard_error_fails_too(form: Form, elsewhere: str) -> None:
+    assert run(form, f">/dev/full {elsewhere}").returncode == STATUS
