@@ -26,7 +26,7 @@ LOGIC = "logic dac8208d650f15bf"
 ALWAYS = ("git", "python3", "cc", "c++")
 NEEDS: dict[str, tuple[str, ...]] = {
     "docs": (),
-    "test": (),
+    "test": (PYTHON,),
     "style": (PYTHON, "mypy", "black"),
     "model": (PYTHON,),
     "show": (),
@@ -50,6 +50,7 @@ PROOFS, NEED_NO_PROOFS = "rt ci", {"docs", "test", "style", "model"}
 # The modules of Debian's Python that each step needs, and how many tables are sent in .ci/run and .ci/whole.
 PYTEST = ("pytest", "xdist", "hypothesis")
 MODULES = {
+    "test": PYTEST,
     "style": PYTEST,
     "model": PYTEST,
     "wire": PYTEST,

@@ -1,0 +1,1 @@
+"""The crates in another repository."""
