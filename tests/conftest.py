@@ -30,8 +30,11 @@ def pytest_configure(config: pytest.Config) -> None:
         config.option.seed = random.randrange(2**32) if is_random else 1
 
 
-def pytest_report_header(config: pytest.Config) -> str:
-    return f"seed: {config.option.seed}"
+def pytest_sessionstart(session: pytest.Session) -> None:
+    """Prints the seed, since a quiet pytest has no header; of processes that run side by side the first does."""
+    reporter = session.config.pluginmanager.get_plugin("terminalreporter")
+    if reporter:
+        reporter.write_line(f"seed: {session.config.option.seed}")
 
 
 @pytest.fixture(scope="session")
