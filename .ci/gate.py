@@ -41,7 +41,7 @@ NEEDS: dict[str, tuple[str, ...]] = {
     "counts": ("valgrind",),
     "web": (PYTHON, "wasm-opt", "chromium", "chromedriver", "firefox-esr"),
     "rust": (),
-    "crate": (),
+    "crate": (PYTHON,),
     "broker": (f"{BIN}/rabbitmq-server", "epmd", "amqp-publish", "php", PYTHON),
     "mutants": (),
 }
@@ -56,6 +56,7 @@ MODULES = {
     "wire": PYTEST,
     "python": (*PYTEST, "pip", "setuptools", "wheel"),
     "web": (*PYTEST, "selenium"),
+    "crate": PYTEST,
     "broker": (*PYTEST, "pika", "amqp", "kombu", "celery", "pamqp", "aiormq", "aio_pika"),
 }
 TABLES = {"run": 500, "whole": 10000}

@@ -22,7 +22,10 @@ from least import too_few, write  # noqa: E402
 from steps import end_descendants, end_on_signals  # noqa: E402
 
 # What doesn't leave out a test.
-OPTIONS = ("--write", "--random", "--seed", "--built", "--tables", "--library", "--page")
+OPTIONS = (
+    *("--write", "--random", "--seed", "--built", "--tables", "--library", "--page"),
+    *("--crate", "--packages", "--tried"),
+)
 # The folders whose tests run side by side, in as many processes as there are processors.
 SIDE_BY_SIDE = ("model", "python")
 

@@ -38,10 +38,21 @@ def is_at_hand() -> bool:
     return bool(shutil.which("cargo")) and (named() is not None or any(kept))
 
 
-def answered() -> list[Row]:
-    """The requests of the sample and of the departures, each with the answer that this library has to give."""
+def stored() -> list[Row]:
+    """The requests of the sample, each with the answer that this library has to give."""
     sample = (it.split("\t") for it in gzip.decompress(ANSWERS.read_bytes()).decode().splitlines())
-    return [*((request, answer) for request, answer in sample), *((request, ours) for request, _, ours in departures())]
+    return [(request, answer) for request, answer in sample]
+
+
+def store(rows: Iterable[Row]) -> None:
+    """Writes the sample anew."""
+    text = "".join(f"{request}\t{answer}\n" for request, answer in rows)
+    ANSWERS.write_bytes(gzip.compress(text.encode(), mtime=0))
+
+
+def answered() -> list[Row]:
+    """Those of the sample and of the departures."""
+    return [*stored(), *((request, ours) for request, _, ours in departures())]
 
 
 def departures() -> list[tuple[str, str, str]]:

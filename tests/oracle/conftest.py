@@ -1,0 +1,45 @@
+"""What the tests over the Rust crate are given: its folder, how much is asked, and which program answers."""
+
+import time
+from pathlib import Path
+from typing import Any
+
+import pytest
+
+from tests.oracle.crate import Driver, build
+from tests.oracle.sides import named
+
+NOTES: list[str] = []
+
+
+def pytest_addoption(parser: pytest.Parser) -> None:
+    group = parser.getgroup("this repository")
+    group.addoption("--crate", type=Path, metavar="FOLDER", default=named(), help="the Rust crate's folder")
+    group.addoption("--packages", type=Path, metavar="FOLDER", help="from where cargo takes all packages")
+    group.addoption("--count", type=int, default=1_000_000, help="how many fresh requests are asked (1,000,000)")
+    group.addoption("--tried", action="store_true", help="this library by `rt try`, with nothing proved")
+
+
+def pytest_configure(config: pytest.Config) -> None:
+    """The requests are fresh in each run. (pytest calls this before that of tests/conftest.py, which it has read earlier.)"""
+    if config.option.seed is None:
+        config.option.seed = int(time.time())
+
+
+def pytest_terminal_summary(terminalreporter: Any) -> None:
+    for note in NOTES:
+        terminalreporter.write_line(note)
+
+
+@pytest.fixture
+def notes() -> list[str]:
+    """Lines that are printed at the end."""
+    return NOTES
+
+
+@pytest.fixture(scope="session")
+def driver(request: pytest.FixtureRequest) -> Driver:
+    """What asks the Rust crate."""
+    found = build(request.config.getoption("--crate"), request.config.getoption("--packages"))
+    NOTES.append(f"over nom {found.nom}")
+    return found
