@@ -8,7 +8,6 @@ import subprocess
 import sys
 from collections.abc import Collection, Iterator, Sequence
 from pathlib import Path
-from pathlib import Path
 from typing import NamedTuple
 
 import least
