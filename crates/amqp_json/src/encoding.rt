@@ -20,7 +20,7 @@ use crate::error::ValueError;
 use crate::names::type_of_name;
 use crate::numerals::{integer, natural_number};
 use amqp_value_core::types::{AMQPType, DecimalValue};
-use json::Token;
+use json::{Scratch, Token};
 use lexer::Lexer;
 use named::{put_named_number, put_named_text};
 use put::{
@@ -66,8 +66,8 @@ const MAX_DEPTH: usize = 127;
 pub(crate) fn encoding_of_text(alloc: Global, text: &str) -> Result<Vec<u8>, Stop>
     ensures { IfOk result (λ bytes. IsEncodedMeaning text.now bytes.items) }
 {
-    let mut scratch = None;
-    let mut reader = Lexer::new(alloc, text, &mut scratch);
+    let mut scratch = Scratch::new(alloc);
+    let mut reader = Lexer::new(text, &mut scratch);
     // An encoding has at most 4.5 bytes for each byte of the text, and 4.5 more: two doublings suffice.
     let mut out = Vec::with_capacity(alloc, text.len() / 8 + text.len() + 2)?;
     put_value(alloc, &mut reader, &mut out, MAX_DEPTH)?;

@@ -14,7 +14,6 @@ ghost use Rattle.amqp_json.specs.Lexing.{tokens_left, IsVisible, BeginsWith, IsC
 use super::Stop;
 use crate::buffer::plain::plain_end;
 use json::{Reader, Scratch, Token};
-use std::alloc::Global;
 use std::marker::Model;
 
 // What may be next.
@@ -43,8 +42,7 @@ pub(crate) struct Lexer<'a> {
     // It goes on from the first string with an escape.
     reader: Option<Reader<'a>>,
     // What that needs, until it is there.
-    scratch: Option<&'a mut Option<Scratch>>,
-    alloc: Global,
+    scratch: Option<&'a mut Scratch>,
 }
 
 impl<'a> Model for Lexer<'a> {
@@ -264,12 +262,7 @@ fn token_at<'a>(text: &'a str, from: Next) -> Option<(Token<'a>, Next)>
 
 // The reader of the text from a string on.
 #[inline(always)]
-fn reader_from<'a>(
-    alloc: Global,
-    text: &'a str,
-    from: Next,
-    scratch: &'a mut Option<Scratch>,
-) -> Result<Reader<'a>, Stop>
+fn reader_from<'a>(text: &'a str, from: Next, scratch: &'a mut Scratch) -> Result<Reader<'a>, Stop>
     ensures { IfOk result (λ reader. reader ≡ tokens_left from.place (drop from.at text.now)) }
 {
     if let Place::AfterValue = from.place {
@@ -279,7 +272,7 @@ fn reader_from<'a>(
         return Err(Stop::NotHere);
     }
     let left = text.get(from.at..text.len()).ok_or(Stop::NotHere)?;
-    Ok(Reader::new(left, scratch.insert(Scratch::new(alloc)))?)
+    Ok(Reader::new(left, scratch)?)
 }
 
 // Whether the text ends here.
@@ -295,7 +288,7 @@ fn is_end(text: &str, from: Next) -> bool
 impl<'a> Lexer<'a> {
     /// The text's tokens. Nothing is put into `scratch` unless a string has an escape.
     #[inline(always)]
-    pub(crate) fn new(alloc: Global, text: &'a str, scratch: &'a mut Option<Scratch>) -> Lexer<'a>
+    pub(crate) fn new(text: &'a str, scratch: &'a mut Scratch) -> Lexer<'a>
         ensures { result ≡ tokens text.now }
     {
         Lexer {
@@ -306,12 +299,11 @@ impl<'a> Lexer<'a> {
             },
             reader: None,
             scratch: Some(scratch),
-            alloc,
         }
     }
 
-    /// The next token.
-    #[inline(always)]
+    /// The next token. It isn't inlined, to be off the stack of each level.
+    #[inline(never)]
     pub(crate) fn next(&mut self) -> Result<Token<'a>, Stop>
         ensures { IfOk result (λ t. self.old ≡ token_of t ∷ self.new) }
     {
@@ -331,7 +323,7 @@ impl<'a> Lexer<'a> {
     {
         if self.reader.is_none() {
             let scratch = self.scratch.take().ok_or(Stop::NotHere)?;
-            self.reader = Some(reader_from(self.alloc, self.text, self.next, scratch)?);
+            self.reader = Some(reader_from(self.text, self.next, scratch)?);
         }
         let Some(reader) = &mut self.reader else {
             return Err(Stop::NotHere);
