@@ -118,11 +118,13 @@ fn after_value(bytes: &[u8], from: usize) -> Next
 
 // A string or a key, if it has no escape.
 #[inline(always)]
-fn string<'a>(text: &'a str, at: usize) -> Option<(Token<'a>, Next)>
-    requires { head (drop at text.now) ≡ 34 }
-    ensures { IfSome result (λ r. BeginsWith (drop at text.now) (token_of r.0) r.1.place (drop r.1.at text.now)) }
+fn string<'a>(text: &'a str, next: &mut Next) -> Option<Token<'a>>
+    requires { head (drop next.old.at text.now) ≡ 34 }
+    ensures { MatchOption result (next.new ≡ next.old) (λ t.
+        BeginsWith (drop next.old.at text.now) (token_of t) next.new.place (drop next.new.at text.now)) }
 {
     let bytes = text.as_bytes();
+    let at = next.at;
     let end = plain_end(bytes, at + 1);
     if byte_at(bytes, end) != b'"' {
         return None;
@@ -130,13 +132,12 @@ fn string<'a>(text: &'a str, at: usize) -> Option<(Token<'a>, Next)>
     let content = text.get(at + 1..end)?;
     let after = after_spaces(bytes, end + 1);
     if byte_at(bytes, after) == b':' {
-        let next = Next {
-            at: after_spaces(bytes, after + 1),
-            place: Place::Fresh,
-        };
-        Some((Token::Key(content), next))
+        next.at = after_spaces(bytes, after + 1);
+        next.place = Place::Fresh;
+        Some(Token::Key(content))
     } else {
-        Some((Token::String(content), after_value(bytes, after)))
+        *next = after_value(bytes, after);
+        Some(Token::String(content))
     }
 }
 
@@ -164,11 +165,13 @@ fn are_whole(bytes: &[u8], first: usize, end: usize) -> bool
 
 // A number without fraction and exponent.
 #[inline(always)]
-fn number<'a>(text: &'a str, at: usize) -> Option<(Token<'a>, Next)>
-    requires { at < length text.now }
-    ensures { IfSome result (λ r. BeginsWith (drop at text.now) (token_of r.0) r.1.place (drop r.1.at text.now)) }
+fn number<'a>(text: &'a str, next: &mut Next) -> Option<Token<'a>>
+    requires { next.old.at < length text.now }
+    ensures { MatchOption result (next.new ≡ next.old) (λ t.
+        BeginsWith (drop next.old.at text.now) (token_of t) next.new.place (drop next.new.at text.now)) }
 {
     let bytes = text.as_bytes();
+    let at = next.at;
     let first = if byte_at(bytes, at) == b'-' {
         at + 1
     } else {
@@ -178,7 +181,9 @@ fn number<'a>(text: &'a str, at: usize) -> Option<(Token<'a>, Next)>
     if !are_whole(bytes, first, end) || !is_delimiter(byte_at(bytes, end)) {
         return None;
     }
-    Some((Token::Number(text.get(at..end)?), after_value(bytes, end)))
+    let digits = text.get(at..end)?;
+    *next = after_value(bytes, end);
+    Some(Token::Number(digits))
 }
 
 // Whether the text has a name here, and nothing of a longer one.
@@ -194,69 +199,74 @@ fn has_name(bytes: &[u8], at: usize, name: &[u8]) -> bool
 
 // One of the three names.
 #[inline(never)]
-fn name<'a>(text: &'a str, at: usize) -> Option<(Token<'a>, Next)>
-    ensures { IfSome result (λ r. BeginsWith (drop at text.now) (token_of r.0) r.1.place (drop r.1.at text.now)) }
+fn name<'a>(text: &'a str, next: &mut Next) -> Option<Token<'a>>
+    ensures { MatchOption result (next.new ≡ next.old) (λ t.
+        BeginsWith (drop next.old.at text.now) (token_of t) next.new.place (drop next.new.at text.now)) }
 {
     let bytes = text.as_bytes();
+    let at = next.at;
     if has_name(bytes, at, b"true") {
-        return Some((Token::Bool(true), after_value(bytes, at + 4)));
+        *next = after_value(bytes, at + 4);
+        return Some(Token::Bool(true));
     }
     if has_name(bytes, at, b"false") {
-        return Some((Token::Bool(false), after_value(bytes, at + 5)));
+        *next = after_value(bytes, at + 5);
+        return Some(Token::Bool(false));
     }
     if has_name(bytes, at, b"null") {
-        return Some((Token::Null, after_value(bytes, at + 4)));
+        *next = after_value(bytes, at + 4);
+        return Some(Token::Null);
     }
     None
 }
 
 // What was opened ends.
 #[inline(always)]
-fn close<'a>(text: &'a str, from: Next, token: Token<'a>) -> Option<(Token<'a>, Next)>
-    requires { IsClosing (head (drop from.at text.now)) (token_of token) }
-    ensures { IfSome result (λ r. tokens_left from.place (drop from.at text.now)
-        ≡ token_of r.0 ∷ tokens_left r.1.place (drop r.1.at text.now)) }
+fn close<'a>(text: &'a str, next: &mut Next, token: Token<'a>) -> Option<Token<'a>>
+    requires { IsClosing (head (drop next.old.at text.now)) (token_of token) }
+    ensures { MatchOption result (next.new ≡ next.old) (λ t. tokens_left next.old.place (drop next.old.at text.now)
+        ≡ token_of t ∷ tokens_left next.new.place (drop next.new.at text.now)) }
 {
-    if let Place::AfterComma = from.place {
+    if let Place::AfterComma = next.place {
         return None;
     }
-    Some((token, after_value(text.as_bytes(), from.at + 1)))
+    *next = after_value(text.as_bytes(), next.at + 1);
+    Some(token)
 }
 
 // An array or an object is opened.
 #[inline(always)]
-fn open<'a>(text: &'a str, at: usize, token: Token<'a>) -> Option<(Token<'a>, Next)>
-    requires { IsOpening (head (drop at text.now)) (token_of token) }
-    ensures { IfSome result (λ r. BeginsWith (drop at text.now) (token_of r.0) r.1.place (drop r.1.at text.now)) }
+fn open<'a>(text: &'a str, next: &mut Next, token: Token<'a>) -> Option<Token<'a>>
+    requires { IsOpening (head (drop next.old.at text.now)) (token_of token) }
+    ensures { MatchOption result (next.new ≡ next.old) (λ t.
+        BeginsWith (drop next.old.at text.now) (token_of t) next.new.place (drop next.new.at text.now)) }
 {
-    let next = Next {
-        at: after_spaces(text.as_bytes(), at + 1),
-        place: Place::Fresh,
-    };
-    Some((token, next))
+    next.at = after_spaces(text.as_bytes(), next.at + 1);
+    next.place = Place::Fresh;
+    Some(token)
 }
 
-// The token at a place, if it is read from the bytes, and where the text goes on.
+// The token at a place, if it is read from the bytes. The place is that of the next one then.
 #[inline(always)]
-fn token_at<'a>(text: &'a str, from: Next) -> Option<(Token<'a>, Next)>
-    ensures { IfSome result (λ r. tokens_left from.place (drop from.at text.now)
-        ≡ token_of r.0 ∷ tokens_left r.1.place (drop r.1.at text.now)) }
+fn token_at<'a>(text: &'a str, next: &mut Next) -> Option<Token<'a>>
+    ensures { MatchOption result (next.new ≡ next.old) (λ t. tokens_left next.old.place (drop next.old.at text.now)
+        ≡ token_of t ∷ tokens_left next.new.place (drop next.new.at text.now)) }
 {
-    let byte = byte_at(text.as_bytes(), from.at);
+    let byte = byte_at(text.as_bytes(), next.at);
     match byte {
-        b'}' => return close(text, from, Token::EndObject),
-        b']' => return close(text, from, Token::EndArray),
+        b'}' => return close(text, next, Token::EndObject),
+        b']' => return close(text, next, Token::EndArray),
         _ => {}
     }
-    if let Place::AfterValue = from.place {
+    if let Place::AfterValue = next.place {
         return None;
     }
     match byte {
-        b'"' => string(text, from.at),
-        b'{' => open(text, from.at, Token::BeginObject),
-        b'[' => open(text, from.at, Token::BeginArray),
-        b'-' | b'0'..=b'9' => number(text, from.at),
-        _ => name(text, from.at),
+        b'"' => string(text, next),
+        b'{' => open(text, next, Token::BeginObject),
+        b'[' => open(text, next, Token::BeginArray),
+        b'-' | b'0'..=b'9' => number(text, next),
+        _ => name(text, next),
     }
 }
 
@@ -302,15 +312,14 @@ impl<'a> Lexer<'a> {
         }
     }
 
-    /// The next token. It isn't inlined, to be off the stack of each level.
-    #[inline(never)]
+    /// The next token.
+    #[inline(always)]
     pub(crate) fn next(&mut self) -> Result<Token<'a>, Stop>
         ensures { IfOk result (λ t. self.old ≡ token_of t ∷ self.new) }
     {
         if self.reader.is_none()
-            && let Some((token, next)) = token_at(self.text, self.next)
+            && let Some(token) = token_at(self.text, &mut self.next)
         {
-            self.next = next;
             return Ok(token);
         }
         self.next_by_reader()

@@ -9,5 +9,5 @@ pub returns : goal.returns
 returns c =
     let r = c.after_value.result in
     let same : c.as_bytes.result.now ≡ c.args.text.now = search rules in
-    let after = subst (λ (b : List ℕ). tokens_left r.place (drop r.at b) ≡ punctuate after_value (lex between (drop (c.args.from.at + 1) b))) same c.after_value.ensures in
-    closed c.args.from.place c.args.text.now c.args.from.at (token_of c.args.token) c.in_default.not-AfterComma c.requires ∙ ap (λ ts. token_of c.args.token ∷ ts) (sym after)
+    let after = subst (λ (b : List ℕ). tokens_left r.place (drop r.at b) ≡ punctuate after_value (lex between (drop (c.args.next.now.at + 1) b))) same c.after_value.ensures in
+    closed c.args.next.now.place c.args.text.now c.args.next.now.at (token_of c.args.token) c.in_default.not-AfterComma c.requires ∙ ap (λ ts. token_of c.args.token ∷ ts) (sym after)

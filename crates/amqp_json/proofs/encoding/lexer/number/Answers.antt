@@ -10,7 +10,7 @@ use Rattle.amqp_json.proofs.encoding.lexer.number.Goals.{then-byte_at-eq45, else
 pub returns : goal.returns
 returns c p h =
     let b = c.as_bytes-bytes.result.now in
-    let at = c.args.at in
+    let at = c.args.next.now.at in
     let first = c.if-byte_at-eq45.first in
     let end = c.digits_end-end.result in
     let r = c.after_value.result in
@@ -21,7 +21,7 @@ returns c p h =
     ] in
     let whole = c.if-not-are_whole.ensures in
     let ended : ends_word (drop end b) ≡ true = grind arith in
-    let content : c.in_ok-get.field-0.now ≡ take (end - at) (drop at c.args.text.now) = search rules in
-    subst (λ (t : List ℕ). punctuate p (lex between (drop at t)) ≡ number c.in_ok-get.field-0.now ∷ tokens_left r.place (drop r.at t)) same
+    let content : c.in_ok-digits.digits.now ≡ take (end - at) (drop at c.args.text.now) = search rules in
+    subst (λ (t : List ℕ). punctuate p (lex between (drop at t)) ≡ number c.in_ok-digits.digits.now ∷ tokens_left r.place (drop r.at t)) same
     (integer_read b at first end sign c.digits_end-end.ensures whole.some whole.zero ended p h
     ∙ ap₂ (λ s ts. number s ∷ ts) (ap (λ (t : List ℕ). take (end - at) (drop at t)) same ∙ sym content) (sym c.after_value.ensures))

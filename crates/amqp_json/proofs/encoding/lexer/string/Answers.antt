@@ -9,7 +9,7 @@ use Rattle.amqp_json.proofs.encoding.lexer.string.Goals as goal
 pub returns-then-byte_at-eq58 : goal.returns-then-byte_at-eq58
 returns-then-byte_at-eq58 c p h =
     let b = c.as_bytes-bytes.result.now in
-    let at = c.args.at in
+    let at = c.args.next.now.at in
     let end = c.plain_end-end.result in
     let after = c.after_spaces-after.result in
     let same : b ≡ c.args.text.now = search rules in
@@ -17,14 +17,14 @@ returns-then-byte_at-eq58 c p h =
     let close : head (drop end b) ≡ 34 = grind arith in
     let mark : head (drop after b) ≡ 58 = grind arith in
     let content : c.in_ok-content.content.now ≡ take (end - (at + 1)) (drop (at + 1) c.args.text.now) = search rules in
-    subst (λ (t : List ℕ). punctuate p (lex between (drop at t)) ≡ key c.in_ok-content.content.now ∷ punctuate fresh (lex between (drop c.after_spaces.result t))) same
+    subst (λ (t : List ℕ). punctuate p (lex between (drop at t)) ≡ key c.in_ok-content.content.now ∷ punctuate fresh (lex between (drop c.after_spaces-next.result t))) same
     (key_read b at end after begun c.plain_end-end.ensures.value close c.after_spaces-after.ensures.same mark p h
-    ∙ ap₂ (λ s ls. key s ∷ punctuate fresh ls) (ap (λ (t : List ℕ). take (end - (at + 1)) (drop (at + 1) t)) same ∙ sym content) (sym c.after_spaces.ensures.same))
+    ∙ ap₂ (λ s ls. key s ∷ punctuate fresh ls) (ap (λ (t : List ℕ). take (end - (at + 1)) (drop (at + 1) t)) same ∙ sym content) (sym c.after_spaces-next.ensures.same))
 
 pub returns-else-byte_at-eq58 : goal.returns-else-byte_at-eq58
 returns-else-byte_at-eq58 c p h =
     let b = c.as_bytes-bytes.result.now in
-    let at = c.args.at in
+    let at = c.args.next.now.at in
     let end = c.plain_end-end.result in
     let after = c.after_spaces-after.result in
     let r = c.after_value.result in
