@@ -109,6 +109,11 @@ no_colon (x ∷ xs) seen differs =
 abbrev pub First : List ℕ → Token → List Token → Type 0
 First old t rest = (p : Place) → may_begin p ≡ true → punctuate p (lex between old) ≡ t ∷ rest
 
+pub first_left : (place : rust.Place) (t : List ℕ) (k : Token) (rest : List Token) → place ≢ AfterValue → First t k rest → tokens_left place t ≡ k ∷ rest
+first_left Fresh t k rest differs is = is fresh refl
+first_left AfterValue t k rest differs is = absurd (differs refl)
+first_left AfterComma t k rest differs is = is after_comma refl
+
 string_first : (s : List ℕ) (ls : List Lexeme) (p : Place) → begins_colon ls ≡ false → may_begin p ≡ true → punctuate p (token (string s) ∷ ls) ≡ string s ∷ punctuate after_value ls
 unfolding punctuate
 string_first s ls fresh e h = ap (λ b. place_token fresh (string s) b (λ next. punctuate next ls)) e

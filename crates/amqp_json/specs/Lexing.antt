@@ -1,6 +1,9 @@
 -- For private clauses: the tokens of a text from a place on.
-use Rattle.std.specs.Prelude.{◌≡◌, ℕ, ◌+◌, ◌≤◌, List, [], ◌∷◌, length, take, drop, true, Option, Some, None, ◌⊎◌}
-use Rattle.json.specs.Token.{Token, begin_object, end_object, begin_array, end_array}
+use Rattle.std.specs.Prelude.{◌≡◌, ℕ, ℤ, FitsSigned, ◌+◌, ◌≤◌, List, [], ◌∷◌, length, take, drop, true, Option, Some, None, ◌⊎◌}
+use Rattle.std.specs.Int.{w64}
+use Rattle.serde_json.specs.Find.{of_integer}
+use Rattle.serde_json.specs.Read.{number_of}
+use Rattle.json.specs.Token.{Token, number, begin_object, end_object, begin_array, end_array}
 use Rattle.json.specs.Word.{head, is_space, ends_word}
 use Rattle.json.specs.Lex.{between, lex, fresh, after_value, after_comma, may_begin, punctuate}
 use Rattle.json.specs.Lex as spec
@@ -29,6 +32,20 @@ IsVisible t = is_space (head t) ≡ true → t ≡ []
 -- where a value may begin, the text `old` has the token t first, and then those of `new`
 abbrev pub BeginsWith : List ℕ → Token → Place → List ℕ → Type 0
 BeginsWith old t place new = (p : spec.Place) → may_begin p ≡ true → punctuate p (lex between old) ≡ t ∷ tokens_left place new
+
+-- where a value may begin, the text `old` has a number first that is the integer n, and then the tokens of `new`
+pub record BeginsWithInteger (old : List ℕ) (n : ℤ) (place : Place) (new : List ℕ) : Type 0 where
+  pub digits : List ℕ
+  pub first : BeginsWith old (number digits) place new
+  pub denoted : number_of digits ≡ Some (of_integer n)
+  pub fits : FitsSigned w64 n
+
+-- the first token is a number that is the integer n, and the second ends its object
+pub record IsLastInteger (n : ℤ) (ts rest : List Token) : Type 0 where
+  pub digits : List ℕ
+  pub first : ts ≡ number digits ∷ end_object ∷ rest
+  pub denoted : number_of digits ≡ Some (of_integer n)
+  pub fits : FitsSigned w64 n
 
 abbrev pub IsClosing : ℕ → Token → Type 0
 IsClosing c t = ((c ≡ 125) × (t ≡ end_object)) ⊎ ((c ≡ 93) × (t ≡ end_array))

@@ -22,7 +22,7 @@ use crate::numerals::{integer, natural_number};
 use amqp_value_core::types::{AMQPType, DecimalValue};
 use json::{Scratch, Token};
 use lexer::Lexer;
-use named::{put_named_number, put_named_text};
+use named::{put_named_number, put_narrow, put_named_text};
 use put::{
     fill_length, put_boolean, put_decimal, put_head, put_key, put_long_long_int, put_text, put_void,
 };
@@ -240,6 +240,9 @@ fn put_named(
         → IsObject (json v) (value depth) ts reader.new) out.old.items out.new.items) }
     ensures shorter { OnOk result (length reader.new < length reader.old) }
 {
+    if let Some(n) = reader.last_integer() {
+        return put_narrow(out, amqp_type, n);
+    }
     put_leaf(alloc, reader, out, amqp_type, depth)?;
     let next = reader.next_key()?;
     if next.is_none() {

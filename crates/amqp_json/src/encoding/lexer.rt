@@ -1,15 +1,17 @@
 //! The tokens of a text: from its bytes up to the first string with an escape, and from there by
 //! `json::Reader`. What isn't JSON, or no integer, is left to those who read the text again.
 
-ghost use Rattle.std.specs.Prelude.{◌≡◌, ◌≤◌, ◌<◌, ◌+◌, ◌||◌, ◌∷◌, [], length, drop, true, Some, None, IfOk, OnOk, IfSome, MatchOption, option_map};
+ghost use Rattle.std.specs.Prelude.{◌≡◌, ◌≢◌, cond, pos, neg_ℤ, FitsSigned, ◌≤◌, ◌<◌, ◌+◌, ◌-◌, ◌||◌, ◌∷◌, [], length, take, drop, true, Some, None, IfOk, OnOk, IfSome, MatchOption, option_map};
 ghost use Rattle.std.specs.Bool.{OnTrue};
 ghost use Rattle.std.specs.List.{prefix_len};
 ghost use Rattle.std.specs.Char.{is_ascii_digit};
+ghost use Rattle.std.specs.Int.{w64};
+ghost use Rattle.std.specs.Str.Parse.{digits_value};
 ghost use Rattle.json.specs.Word.{head, is_operator, is_space};
 ghost use Rattle.json.specs.Lex.{between, lex, after_value, punctuate, tokens};
 ghost use Rattle.json.specs.Json.{read_key, after_end_array};
 ghost use Rattle.json.specs.Reads.{token_of};
-ghost use Rattle.amqp_json.specs.Lexing.{tokens_left, IsVisible, BeginsWith, IsClosing, IsOpening, IsNamed};
+ghost use Rattle.amqp_json.specs.Lexing.{tokens_left, IsVisible, BeginsWith, IsClosing, IsOpening, IsNamed, BeginsWithInteger, IsLastInteger};
 
 use super::Stop;
 use crate::buffer::plain::plain_end;
@@ -186,6 +188,61 @@ fn number<'a>(text: &'a str, next: &mut Next) -> Option<Token<'a>>
     Some(Token::Number(digits))
 }
 
+// Where the digits from this place on end, and what they denote, if it has 64 bits.
+#[inline(always)]
+fn digits(bytes: &[u8], from: usize) -> Option<(usize, u64)>
+    requires { from ≤ length bytes.now }
+    ensures end { IfSome result (λ r. r.0 ≡ from + prefix_len is_ascii_digit (drop from bytes.now)) }
+    ensures value { IfSome result (λ r. r.1 ≡ digits_value 10 (take (r.0 - from) (drop from bytes.now))) }
+{
+    let mut at = from;
+    let mut size = 0u64;
+    while at < bytes.len() && bytes[at].is_ascii_digit() {
+        size = size.checked_mul(10)?.checked_add(u64::from(bytes[at] - b'0'))?;
+        at += 1;
+    }
+    Some((at, size))
+}
+
+// An integer, but for `-0`, which is a float.
+#[inline(always)]
+fn integer(text: &str, next: &mut Next) -> Option<i64>
+    ensures { MatchOption result (next.new ≡ next.old)
+        (λ n. BeginsWithInteger (drop next.old.at text.now) n next.new.place (drop next.new.at text.now)) }
+{
+    let bytes = text.as_bytes();
+    let at = next.at;
+    if at >= bytes.len() {
+        return None;
+    }
+    let is_negative = byte_at(bytes, at) == b'-';
+    let first = if is_negative { at + 1 } else { at };
+    let (end, size) = digits(bytes, first)?;
+    if !are_whole(bytes, first, end) || !is_delimiter(byte_at(bytes, end)) {
+        return None;
+    }
+    let n = signed(is_negative, size)?;
+    *next = after_value(bytes, end);
+    Some(n)
+}
+
+// The number of a sign and a size, but for the least, and for 0 with a minus.
+#[inline(always)]
+fn signed(is_negative: bool, size: u64) -> Option<i64>
+    ensures value { IfSome result (λ n. n ≡ cond is_negative (neg_ℤ (pos size)) (pos size)) }
+    ensures fits { IfSome result (λ n. FitsSigned w64 n) }
+    ensures some { is_negative ≡ true → IfSome result (λ n. n ≢ pos 0) }
+{
+    let n = i64::try_from(size).ok()?;
+    if !is_negative {
+        return Some(n);
+    }
+    if n == 0 {
+        return None;
+    }
+    Some(-n)
+}
+
 // Whether the text has a name here, and nothing of a longer one.
 #[inline(always)]
 fn has_name(bytes: &[u8], at: usize, name: &[u8]) -> bool
@@ -224,8 +281,10 @@ fn name<'a>(text: &'a str, next: &mut Next) -> Option<Token<'a>>
 #[inline(always)]
 fn close<'a>(text: &'a str, next: &mut Next, token: Token<'a>) -> Option<Token<'a>>
     requires { IsClosing (head (drop next.old.at text.now)) (token_of token) }
-    ensures { MatchOption result (next.new ≡ next.old) (λ t. tokens_left next.old.place (drop next.old.at text.now)
+    ensures left { MatchOption result (next.new ≡ next.old)
+        (λ t. tokens_left next.old.place (drop next.old.at text.now)
         ≡ token_of t ∷ tokens_left next.new.place (drop next.new.at text.now)) }
+    ensures token { IfSome result (λ t. t ≡ token.entry) }
 {
     if let Place::AfterComma = next.place {
         return None;
@@ -364,6 +423,28 @@ impl<'a> Lexer<'a> {
             Token::EndObject => Ok(None),
             _ => Err(Stop::NotHere),
         }
+    }
+
+    /// A number that is an integer, and the end of its object. Nothing is taken if what is next is
+    /// something else, or isn't read from the bytes.
+    #[inline(always)]
+    pub(crate) fn last_integer(&mut self) -> Option<i64>
+        ensures { MatchOption result (self.new ≡ self.old) (λ n. IsLastInteger n self.old self.new) }
+    {
+        if self.reader.is_some() {
+            return None;
+        }
+        if let Place::AfterValue = self.next.place {
+            return None;
+        }
+        let mut next = self.next;
+        let n = integer(self.text, &mut next)?;
+        if byte_at(self.text.as_bytes(), next.at) != b'}' {
+            return None;
+        }
+        close(self.text, &mut next, Token::EndObject)?;
+        self.next = next;
+        Some(n)
     }
 
     /// Whether no token is left.

@@ -51,9 +51,9 @@ fn put_time(out: &mut Vec<u8>, text: &str) -> Result<(), Stop>
     put_timestamp(out, n)
 }
 
-// An integer of fewer than 64 bits.
+/// An integer under the name of a type.
 #[inline(always)]
-fn put_narrow(out: &mut Vec<u8>, amqp_type: AMQPType, n: i64) -> Result<(), Stop>
+pub(crate) fn put_narrow(out: &mut Vec<u8>, amqp_type: AMQPType, n: i64) -> Result<(), Stop>
     ensures { OnOk result (PutsEncodingOf (λ v. json v ≡ under amqp_type (number (of_integer n)))
         out.old.items out.new.items) }
 {
@@ -80,6 +80,10 @@ fn put_narrow(out: &mut Vec<u8>, amqp_type: AMQPType, n: i64) -> Result<(), Stop
         },
         AMQPType::LongUInt => match u32::try_from(n) {
             Ok(n) => put_long_uint(out, n),
+            Err(_) => Err(Stop::NotHere),
+        },
+        AMQPType::Timestamp => match u64::try_from(n) {
+            Ok(n) => put_timestamp(out, n),
             Err(_) => Err(Stop::NotHere),
         },
         _ => Err(Stop::NotHere),

@@ -69,3 +69,13 @@ returns-in-Ok-try_from-5 c =
     let (is, low) = natural_is 32 n z fits same in
     let type : c.args.amqp_type ≡ types.LongUInt = search rules in
     on_ok_weaker c.put_long_uint.result (λ same. subst (λ t. PutsEncodingOf (λ v. json v ≡ under t (number (of_integer z))) c.args.out.now.items c.put_long_uint.new.out.items) (sym type) (subst (λ x. PutsEncodingOf (λ v. json v ≡ under types.LongUInt (number (of_integer x))) c.args.out.now.items c.put_long_uint.new.out.items) is (unsigned_put types.LongUInt _ _ n low refl same))) c.put_long_uint.ensures
+
+pub returns-in-Ok-try_from-6 : goal.returns-in-Ok-try_from-6
+returns-in-Ok-try_from-6 c =
+    let z = c.args.n in
+    let n = c.in-Ok-try_from-6.n in
+    let fits : FitsUnsignedBits 64 z = search rules in
+    let same : n ≡ unsigned_abs z = search rules in
+    let (is, low) = natural_is 64 n z fits same in
+    let type : c.args.amqp_type ≡ types.Timestamp = search rules in
+    on_ok_weaker c.put_timestamp.result (λ same. subst (λ t. PutsEncodingOf (λ v. json v ≡ under t (number (of_integer z))) c.args.out.now.items c.put_timestamp.new.out.items) (sym type) (subst (λ x. PutsEncodingOf (λ v. json v ≡ under types.Timestamp (number (of_integer x))) c.args.out.now.items c.put_timestamp.new.out.items) is (unsigned_put types.Timestamp _ _ n low refl same))) c.put_timestamp.ensures
