@@ -229,7 +229,7 @@ quoted : (s : List ℕ) → head (drop (prefix_len is_plain s) s) ≡ 34 → Quo
 quoted [] e = absurd (omega (arith, e))
 quoted (x ∷ xs) e = let done = quoted_step (is_plain x) x xs refl (quoted xs) e in record { read = done.0; passed = done.1 }
 
-string_read : (d : List ℕ) (i end : ℕ) → head (drop i d) ≡ 34 → end ≡ i + 1 + prefix_len is_plain (drop (i + 1) d) → head (drop end d) ≡ 34
+pub string_read : (d : List ℕ) (i end : ℕ) → head (drop i d) ≡ 34 → end ≡ i + 1 + prefix_len is_plain (drop (i + 1) d) → head (drop end d) ≡ 34
     → lex between (drop i d) ≡ token (string (take (end - (i + 1)) (drop (i + 1) d))) ∷ lex between (drop (end + 1) d)
 unfolding lex
 string_read d i end begun is close =
@@ -241,19 +241,13 @@ string_read d i end begun is close =
     let next : drop (n + 1) s ≡ drop (end + 1) d = drop-drop (n + 1) (i + 1) d ∙ ap (λ j. drop j d) (omega (arith, is)) in
     ap (lex between) (starts_at d i 34 begun (λ e. omega (arith, e))) ∙ ap₂ (λ o l. token (string_token o) ∷ l) (q.read ∙ ap (λ m. Some (take m s)) (sym size)) (q.passed ∙ ap (lex between) next)
 
--- a key, before a colon that may have spaces before it
-pub key_read : (d : List ℕ) (i end at : ℕ) → head (drop i d) ≡ 34 → end ≡ i + 1 + prefix_len is_plain (drop (i + 1) d) → head (drop end d) ≡ 34
-    → lex between (drop at d) ≡ lex between (drop (end + 1) d) → head (drop at d) ≡ 58
-    → First (drop i d) (key (take (end - (i + 1)) (drop (i + 1) d))) (punctuate fresh (lex between (drop (at + 1) d)))
-key_read d i end at begun is close passed mark p h =
-    ap (punctuate p) (string_read d i end begun is close ∙ ap (λ l. token (string (take (end - (i + 1)) (drop (i + 1) d))) ∷ l) (sym passed ∙ colon_first d at mark)) ∙ key_first _ _ p h
+-- a key, before a colon
+pub key_read : (t s d : List ℕ) (at : ℕ) → lex between t ≡ token (string s) ∷ lex between (drop at d) → head (drop at d) ≡ 58 → First t (key s) (punctuate fresh (lex between (drop (at + 1) d)))
+key_read t s d at is mark p h = ap (punctuate p) (is ∙ ap (λ l. token (string s) ∷ l) (colon_first d at mark)) ∙ key_first s _ p h
 
 -- a string, before anything else
-pub string_alone : (d : List ℕ) (i end at : ℕ) → head (drop i d) ≡ 34 → end ≡ i + 1 + prefix_len is_plain (drop (i + 1) d) → head (drop end d) ≡ 34
-    → lex between (drop at d) ≡ lex between (drop (end + 1) d) → IsVisible (drop at d) → (head (drop at d) ≡ 58 → ⊥)
-    → First (drop i d) (string (take (end - (i + 1)) (drop (i + 1) d))) (punctuate after_value (lex between (drop at d)))
-string_alone d i end at begun is close passed seen differs p h =
-    ap (punctuate p) (string_read d i end begun is close ∙ ap (λ l. token (string (take (end - (i + 1)) (drop (i + 1) d))) ∷ l) (sym passed)) ∙ string_first _ _ p (no_colon (drop at d) seen differs) h
+pub string_alone : (t s rest : List ℕ) → lex between t ≡ token (string s) ∷ lex between rest → IsVisible rest → (head rest ≡ 58 → ⊥) → First t (string s) (punctuate after_value (lex between rest))
+string_alone t s rest is seen differs p h = ap (punctuate p) is ∙ string_first s _ p (no_colon rest seen differs) h
 
 -- at a quote it doesn't matter whether a comma is before it
 quoted_lexeme : (o : Option (List ℕ)) (ls : List Lexeme) → punctuate after_comma (token (string_token o) ∷ ls) ≡ punctuate fresh (token (string_token o) ∷ ls)

@@ -22,7 +22,7 @@ use crate::numerals::{integer, natural_number};
 use amqp_value_core::types::{AMQPType, DecimalValue};
 use json::{Scratch, Token};
 use lexer::Lexer;
-use named::{put_named_number, put_narrow, put_named_text};
+use named::{put_named_number, put_named_text, put_narrow};
 use put::{
     fill_length, put_boolean, put_decimal, put_head, put_key, put_long_long_int, put_text, put_void,
 };

@@ -1,14 +1,15 @@
 //! The tokens of a text: from its bytes up to the first string with an escape, and from there by
 //! `json::Reader`. What isn't JSON, or no integer, is left to those who read the text again.
 
-ghost use Rattle.std.specs.Prelude.{◌≡◌, ◌≢◌, cond, pos, neg_ℤ, FitsSigned, ◌≤◌, ◌<◌, ◌+◌, ◌-◌, ◌||◌, ◌∷◌, [], length, take, drop, true, Some, None, IfOk, OnOk, IfSome, MatchOption, option_map};
+ghost use Rattle.std.specs.Prelude.{◌≡◌, ◌≢◌, cond, pos, neg_ℤ, FitsSigned, ◌≤◌, ◌<◌, ◌+◌, ◌-◌, ◌||◌, ◌∷◌, [], length, take, drop, true, false, Some, None, IfOk, OnOk, IfSome, MatchOption, option_map};
 ghost use Rattle.std.specs.Bool.{OnTrue};
 ghost use Rattle.std.specs.List.{prefix_len};
 ghost use Rattle.std.specs.Char.{is_ascii_digit};
 ghost use Rattle.std.specs.Int.{w64};
 ghost use Rattle.std.specs.Str.Parse.{digits_value};
 ghost use Rattle.json.specs.Word.{head, is_operator, is_space};
-ghost use Rattle.json.specs.Lex.{between, lex, after_value, punctuate, tokens};
+ghost use Rattle.json.specs.Token.{Token as SpecToken, string, key, begin_object};
+ghost use Rattle.json.specs.Lex.{token, between, lex, after_value, punctuate, tokens};
 ghost use Rattle.json.specs.Json.{read_key, after_end_array};
 ghost use Rattle.json.specs.Reads.{token_of};
 ghost use Rattle.amqp_json.specs.Lexing.{tokens_left, IsVisible, BeginsWith, IsClosing, IsOpening, IsNamed, BeginsWithInteger, IsLastInteger};
@@ -118,29 +119,62 @@ fn after_value(bytes: &[u8], from: usize) -> Next
     }
 }
 
-// A string or a key, if it has no escape.
+// What is between quotes, if it has no escape, and where the text goes on.
+#[inline(always)]
+fn quoted_text(text: &str, at: usize) -> Option<(&str, usize)>
+    requires { head (drop at text.now) ≡ 34 }
+    ensures content { IfSome result (λ r. lex between (drop at text.now)
+        ≡ token (string r.0.now) ∷ lex between (drop r.1 text.now)) }
+    ensures visible { IfSome result (λ r. IsVisible (drop r.1 text.now)) }
+{
+    let bytes = text.as_bytes();
+    let end = plain_end(bytes, at + 1);
+    if byte_at(bytes, end) != b'"' {
+        return None;
+    }
+    let content = text.get(at + 1..end)?;
+    Some((content, after_spaces(bytes, end + 1)))
+}
+
+// A string without an escape, and no key.
 #[inline(always)]
 fn string<'a>(text: &'a str, next: &mut Next) -> Option<Token<'a>>
     requires { head (drop next.old.at text.now) ≡ 34 }
     ensures { MatchOption result (next.new ≡ next.old) (λ t.
         BeginsWith (drop next.old.at text.now) (token_of t) next.new.place (drop next.new.at text.now)) }
 {
+    let (content, after) = quoted_text(text, next.at)?;
     let bytes = text.as_bytes();
-    let at = next.at;
-    let end = plain_end(bytes, at + 1);
-    if byte_at(bytes, end) != b'"' {
+    if byte_at(bytes, after) == b':' {
         return None;
     }
-    let content = text.get(at + 1..end)?;
-    let after = after_spaces(bytes, end + 1);
-    if byte_at(bytes, after) == b':' {
-        next.at = after_spaces(bytes, after + 1);
-        next.place = Place::Fresh;
-        Some(Token::Key(content))
-    } else {
-        *next = after_value(bytes, after);
-        Some(Token::String(content))
+    *next = after_value(bytes, after);
+    Some(Token::String(content))
+}
+
+// A key without an escape.
+#[inline(always)]
+fn key<'a>(text: &'a str, next: &mut Next) -> Option<&'a str>
+    ensures { MatchOption result (next.new ≡ next.old)
+        (λ k. tokens_left next.old.place (drop next.old.at text.now)
+        ≡ key k.now ∷ tokens_left next.new.place (drop next.new.at text.now)) }
+{
+    if let Place::AfterValue = next.place {
+        return None;
     }
+    let bytes = text.as_bytes();
+    if byte_at(bytes, next.at) != b'"' {
+        return None;
+    }
+    let (content, after) = quoted_text(text, next.at)?;
+    if byte_at(bytes, after) != b':' {
+        return None;
+    }
+    *next = Next {
+        at: after_spaces(bytes, after + 1),
+        place: Place::Fresh,
+    };
+    Some(content)
 }
 
 // The first place from this one on that has no digit.
@@ -198,7 +232,9 @@ fn digits(bytes: &[u8], from: usize) -> Option<(usize, u64)>
     let mut at = from;
     let mut size = 0u64;
     while at < bytes.len() && bytes[at].is_ascii_digit() {
-        size = size.checked_mul(10)?.checked_add(u64::from(bytes[at] - b'0'))?;
+        size = size
+            .checked_mul(10)?
+            .checked_add(u64::from(bytes[at] - b'0'))?;
         at += 1;
     }
     Some((at, size))
@@ -295,14 +331,14 @@ fn close<'a>(text: &'a str, next: &mut Next, token: Token<'a>) -> Option<Token<'
 
 // An array or an object is opened.
 #[inline(always)]
-fn open<'a>(text: &'a str, next: &mut Next, token: Token<'a>) -> Option<Token<'a>>
+fn open<'a>(text: &'a str, next: &mut Next, token: Token<'a>) -> Token<'a>
     requires { IsOpening (head (drop next.old.at text.now)) (token_of token) }
-    ensures { MatchOption result (next.new ≡ next.old) (λ t.
-        BeginsWith (drop next.old.at text.now) (token_of t) next.new.place (drop next.new.at text.now)) }
+    ensures first { BeginsWith (drop next.old.at text.now) (token_of result) next.new.place (drop next.new.at text.now) }
+    ensures token { result ≡ token.entry }
 {
     next.at = after_spaces(text.as_bytes(), next.at + 1);
     next.place = Place::Fresh;
-    Some(token)
+    token
 }
 
 // The token at a place, if it is read from the bytes. The place is that of the next one then.
@@ -322,8 +358,8 @@ fn token_at<'a>(text: &'a str, next: &mut Next) -> Option<Token<'a>>
     }
     match byte {
         b'"' => string(text, next),
-        b'{' => open(text, next, Token::BeginObject),
-        b'[' => open(text, next, Token::BeginArray),
+        b'{' => Some(open(text, next, Token::BeginObject)),
+        b'[' => Some(open(text, next, Token::BeginArray)),
         b'-' | b'0'..=b'9' => number(text, next),
         _ => name(text, next),
     }
@@ -418,11 +454,43 @@ impl<'a> Lexer<'a> {
     pub(crate) fn next_key(&mut self) -> Result<Option<&'a str>, Stop>
         ensures { IfOk result (λ k. read_key self.old ≡ Some (option_map (λ s. s.now) k, self.new)) }
     {
+        if self.reader.is_none()
+            && let Some(key) = key(self.text, &mut self.next)
+        {
+            return Ok(Some(key));
+        }
+        self.key_of_token()
+    }
+
+    // The key that a token is, or none if it is the object's end.
+    #[inline(never)]
+    fn key_of_token(&mut self) -> Result<Option<&'a str>, Stop>
+        ensures { IfOk result (λ k. read_key self.old ≡ Some (option_map (λ s. s.now) k, self.new)) }
+    {
         match self.next()? {
             Token::Key(key) => Ok(Some(key)),
             Token::EndObject => Ok(None),
             _ => Err(Stop::NotHere),
         }
+    }
+
+    /// Passes the brace that opens an object, if it is next and read from the bytes.
+    #[inline(always)]
+    pub(crate) fn opens_object(&mut self) -> bool
+        ensures yes { result ≡ true → self.old ≡ begin_object ∷ self.new }
+        ensures no { result ≡ false → self.new ≡ self.old }
+    {
+        if self.reader.is_some() {
+            return false;
+        }
+        if let Place::AfterValue = self.next.place {
+            return false;
+        }
+        if byte_at(self.text.as_bytes(), self.next.at) != b'{' {
+            return false;
+        }
+        open(self.text, &mut self.next, Token::BeginObject);
+        true
     }
 
     /// A number that is an integer, and the end of its object. Nothing is taken if what is next is
