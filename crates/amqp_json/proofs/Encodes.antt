@@ -1,5 +1,5 @@
 -- Values and pairs, one after another, of encodings whose pairs are in the order of a text.
-use Rattle.std.proofs.Common.{◌≡◌, ℕ, ℤ, pos, negsuc, codes, ◌-◌, ◌+◌, ◌<◌, ◌≤◌, ◌^◌, List, [], ◌∷◌, ◌++◌, length, take, drop, Option, Some, None, option_map, IfSome, Ordering, Less, Equal, Greater, Bor, refl, sym, ap, ◌∙◌, subst, arith, append_assoc, append-nil, length-append}
+use Rattle.std.proofs.Common.{◌≡◌, ℕ, ℤ, pos, negsuc, codes, ◌-◌, ◌+◌, ◌<◌, ◌≤◌, ◌^◌, List, [], ◌∷◌, ◌++◌, length, take, drop, Option, Some, None, option_map, IfSome, Bor, refl, sym, ap, ◌∙◌, subst, arith, append_assoc, append-nil, length-append}
 use Rattle.std.specs.Prelude.{unsigned_abs}
 use Rattle.std.specs.Int.{FitsUnsignedBits, Width, w32, w64, to_be_bytes, from_be_bytes, cast_unsigned}
 use mir.Val.{bits, SFits}
@@ -7,14 +7,12 @@ use mir.ValLaws as laws
 use Rattle.std.specs.Str.{IsUtf8}
 use Rattle.std.proofs.lemmas.Int.{to_z-of_z}
 use Rattle.hex.specs.Hex.{IsBytes}
-use Rattle.std.specs.Ordering.{nat_cmp, match_ordering}
-use Rattle.std.specs.Cmp.Lexicographic.{slice_cmp}
 use Rattle.std.proofs.Math.Seq.{take-append_seam, drop-append-add}
 use Rattle.json.specs.Token.{Token}
 use Rattle.json.specs.Json as json
 use Rattle.json.specs.Json.{Parse, parse_map, after_end_array, read_key, items, members}
 use Rattle.json.proofs.Grammar.{read_key-shorter, value-begin_object}
-use Rattle.serde_json.specs.Data.{Num, Data, number, string, object, item, member, no_members}
+use Rattle.serde_json.specs.Data.{Num, Data, Members, number, string, object, item, member, no_members}
 use Rattle.serde_json.specs.Find.{of_integer}
 use Rattle.serde_json.specs.Read.{of_json, of_items, of_members, converted, number_of}
 use Rattle.amqp_value_core.specs.declared.types.amqp_type.AMQPType.{AMQPType}
@@ -25,7 +23,7 @@ use Rattle.amqp_value_core.specs.InMemory.{IsScalar}
 use Rattle.amqp_value_core.specs.Strings.{IsShort}
 use Rattle.amqp_value_core.specs.Texts.{text}
 use Rattle.amqp_value_core.proofs.GrammarLaws.{text_is_wire}
-use Rattle.amqp_json.specs.Encodes.{IsObject, IsTextPut, PutsEncodingOf, PutsValues, PutsPairs, AreEntriesRead, IsFieldRead}
+use Rattle.amqp_json.specs.Encodes.{IsObject, IsTextPut, PutsEncodingOf, PutsValues, PutsPairs, HasNoTypeName, AreEntriesRead, IsFieldRead}
 use Rattle.amqp_json.specs.InMemory.{IsStored, AreStoredTrees, EntriesStored}
 use Rattle.amqp_json.specs.Json as amqp
 use Rattle.amqp_json.specs.Json.{items_json, members_json, sole_type, under, natural, decimal_json}
@@ -34,6 +32,8 @@ use Rattle.amqp_json.specs.Reading.{bytes_in, sized_in}
 use Rattle.amqp_json.proofs.Bytes.{long_is_read}
 use Rattle.amqp_json.proofs.Only.{is_name, is_under}
 use Rattle.amqp_json.proofs.Turns.{one_member, item_read, items_over, member_read, members_over, insert_put, converted-object}
+use Rattle.amqp_json.specs.Tokens.{IsTableObject}
+use Rattle.amqp_json.proofs.Merged.{becomes, first_of_table}
 use Rattle.amqp_json.proofs.Walks.{put_stored}
 
 -- ---- an array
@@ -79,58 +79,35 @@ module _ (p : Parse json.Json) (first : List Token) (old : List ℕ) where
 
 -- ---- a table
 
--- no name of a type is the only key of the entries, also not with the next key
-abbrev pub HasNoTypeName : Entries → Option (List ℕ) → Type 0
-HasNoTypeName no_entries None = Unit {0}
-HasNoTypeName no_entries (Some k) = type_named k ≡ None
-HasNoTypeName (entry j u es) o = sole_type (members_json (entry j u es)) ≡ None
-
-plain_at : (k j : List ℕ) (v u : Tree) (es fs : Entries) (o : Ordering) (next : Option (List ℕ)) → sole_type (members_json (entry j u es)) ≡ None → sole_type (members_json (entry j u fs)) ≡ None → sole_type (members_json (entry j v es)) ≡ None
-    → HasNoTypeName (match_ordering o (entry k v (entry j u es)) (entry j v es) (entry j u fs)) next
-plain_at k j v u es fs Less next is more same = refl
-plain_at k j v u es fs Equal next is more same = same
-plain_at k j v u es fs Greater next is more same = more
-
--- an entry more leaves no name of a type the only key
-two_keys : (k j : List ℕ) (v u : Tree) (es : Entries) → sole_type (members_json (entry j u (insert k v es))) ≡ None
-two_keys k j v u no_entries = refl
-two_keys k j v u (entry i w es) = by (slice_cmp nat_cmp k i)
-  where
-    by : (o : Ordering) → sole_type (members_json (entry j u (match_ordering o (entry k v (entry i w es)) (entry i v es) (entry i w (insert k v es))))) ≡ None
-    by Less = refl
-    by Equal = refl
-    by Greater = refl
-
-same_key : (j : List ℕ) (v u : Tree) (es : Entries) → sole_type (members_json (entry j u es)) ≡ None → sole_type (members_json (entry j v es)) ≡ None
-same_key j v u no_entries is = is
-same_key j v u (entry i w es) is = refl
+sole_of_table : (ms : Members) → IsTableObject ms → sole_type ms ≡ None
+sole_of_table no_members is = absurd is
+sole_of_table (member k d ms) is = is
 
 plain_next : (k : List ℕ) (v : Tree) (es : Entries) (next : Option (List ℕ)) → HasNoTypeName es (Some k) → HasNoTypeName (insert k v es) next
-plain_next k v no_entries next is = is
-plain_next k v (entry j u es) next is = plain_at k j v u es (insert k v es) (slice_cmp nat_cmp k j) next is (two_keys k j v u es) (same_key j v u es is)
-
-plain_end : (es : Entries) → HasNoTypeName es None → sole_type (members_json es) ≡ None
-plain_end no_entries is = refl
-plain_end (entry j u es) is = is
+plain_next k v es next is = after next (subst IsTableObject (sym (insert_put k v es)) (is (amqp.json v)))
+  where
+    after : (next : Option (List ℕ)) → IsTableObject (members_json (insert k v es)) → HasNoTypeName (insert k v es) next
+    after None one = sole_of_table (members_json (insert k v es)) one
+    after (Some j) one = becomes (Some j) (members_json (insert k v es)) one
 
 -- the pairs of the tokens before `now` are put, as the entries `es`, and `next` is the key that was
 -- read after them
-pub record PairsLeft (p : Parse json.Json) (first : Option (List ℕ)) (start : List Token) (next : Option (List ℕ)) (now : List Token) (old new : List ℕ) : Type 0 where
+pub record PairsLeft (p : Parse json.Json) (before : Entries) (first : Option (List ℕ)) (start : List Token) (next : Option (List ℕ)) (now : List Token) (old new : List ℕ) : Type 0 where
   pub es : Entries
   pub stored : EntriesStored es
   pub plain : HasNoTypeName es next
   pub body : List ℕ
   pub put : new ≡ old ++ body
-  pub rest : (tail : List ℕ) (ps : Entries) → TableBody tail ps → (qs : Entries) × TableBody (body ++ tail) qs × (insert_all no_entries qs ≡ insert_all es ps)
+  pub rest : (tail : List ℕ) (ps : Entries) → TableBody tail ps → (qs : Entries) × TableBody (body ++ tail) qs × (insert_all before qs ≡ insert_all es ps)
   pub read : (ts : List Token) (n : ℕ) → read_key ts ≡ Some (first, start) → length ts ≤ n
       → (us : List Token) × (m : ℕ) × (length us ≤ m) × (read_key us ≡ Some (next, now))
-      × (converted (λ ms. of_members ms no_members) (members p n ts) ≡ converted (λ ms. of_members ms (members_json es)) (members p m us))
+      × (converted (λ ms. of_members ms (members_json before)) (members p n ts) ≡ converted (λ ms. of_members ms (members_json es)) (members p m us))
 
-module _ (p : Parse json.Json) (first : Option (List ℕ)) (start : List Token) (old : List ℕ) where
-  pub pairs_first : HasNoTypeName no_entries first → PairsLeft p first start first start old old
-  pairs_first is = record {
-    es = no_entries;
-    stored = tt;
+module _ (p : Parse json.Json) (before : Entries) (first : Option (List ℕ)) (start : List Token) (old : List ℕ) where
+  pub pairs_first : EntriesStored before → HasNoTypeName before first → PairsLeft p before first start first start old old
+  pairs_first stored is = record {
+    es = before;
+    stored = stored;
     plain = is;
     body = [];
     put = sym (append-nil old);
@@ -138,8 +115,8 @@ module _ (p : Parse json.Json) (first : Option (List ℕ)) (start : List Token) 
     read = λ ts n h enough. (ts, n, enough, h, refl);
   }
 
-  pub pairs_next : (k : List ℕ) (next : Option (List ℕ)) (now r s : List Token) (mid keyed new : List ℕ) → PairsLeft p first start (Some k) now old mid → IsShort k → keyed ≡ mid ++ short_field k
-      → PutsEncodingOf (λ v. converted of_json (p now) ≡ Some (amqp.json v, r)) keyed new → length r < length now → read_key r ≡ Some (next, s) → PairsLeft p first start next s old new
+  pub pairs_next : (k : List ℕ) (next : Option (List ℕ)) (now r s : List Token) (mid keyed new : List ℕ) → PairsLeft p before first start (Some k) now old mid → IsShort k → keyed ≡ mid ++ short_field k
+      → PutsEncodingOf (λ v. converted of_json (p now) ≡ Some (amqp.json v, r)) keyed new → length r < length now → read_key r ≡ Some (next, s) → PairsLeft p before first start next s old new
   pairs_next k next now r s mid keyed new l is_key key_put (w, v, same, is, stored, found) less after =
       let more = short_field k ++ w in
       record {
@@ -164,7 +141,7 @@ module _ (p : Parse json.Json) (first : Option (List ℕ)) (start : List Token) 
             );
       }
 
-  pub pairs_done : (now : List Token) (new : List ℕ) → PairsLeft p first start None now old new → PutsPairs (λ es. AreEntriesRead es p first start now) old new
+  pub pairs_done : (now : List Token) (new : List ℕ) → PairsLeft p before first start None now old new → PutsPairs before (λ es. AreEntriesRead before es p first start now) old new
   pairs_done now new l =
       let at = l.rest [] no_entries no_pairs in (
         l.body,
@@ -172,11 +149,11 @@ module _ (p : Parse json.Json) (first : Option (List ℕ)) (start : List Token) 
         l.put,
         subst (λ (b : List ℕ). TableBody b at.0) (append-nil l.body) at.1,
         subst EntriesStored (sym at.2) l.stored,
-        subst (λ (fs : Entries). AreEntriesRead fs p first start now) (sym at.2) (
+        subst (λ (fs : Entries). AreEntriesRead before fs p first start now) (sym at.2) (
           λ ts n h enough.
               let left = l.read ts n h enough in
               left.4 ∙ members_over p (members_json l.es) left.1 left.0 now left.2 left.3,
-          plain_end l.es l.plain,
+          l.plain,
         ),
       )
 
@@ -209,7 +186,7 @@ module _ (at : ℕ) (old mid end new : List ℕ) (place : at ≡ length old + 1)
       let done = length_filled 65 at old mid end new w place headed more filled in
       (65 ∷ long_field w, array vs, done.1, wire 65 _ (long_field w) (array vs) refl (raw_array w vs (subst (λ n. n < 2 ^ 32) done.0 fits) all), stored, (vs, refl, is))
 
-  pub table_put : (P : Entries → Type 0) → mid ≡ old ++ 70 ∷ zeros → PutsPairs P mid end → PutsEncodingOf (λ v. (es : Entries) × (v ≡ table es) × P es) old new
+  pub table_put : (P : Entries → Type 0) → mid ≡ old ++ 70 ∷ zeros → PutsPairs no_entries P mid end → PutsEncodingOf (λ v. (es : Entries) × (v ≡ table es) × P es) old new
   table_put P headed (w, ps, more, all, stored, is) =
       let es = insert_all no_entries ps in
       let done = length_filled 70 at old mid end new w place headed more filled in
@@ -276,8 +253,8 @@ string_bytes_put old new s b read none all put =
     text_put (λ v. amqp.json v ≡ under types.LongString (string s)) old new (long b) put all (is_under types.LongString (string s) _ (long_is_read (string s) b read none))
 
 pub plain_first : (o : Option (Bor (List ℕ))) → IfSome o (λ k. type_named k.now ≡ None) → HasNoTypeName no_entries (option_map (λ b. b.now) o)
-plain_first None h = tt
-plain_first (Some k) h = h
+plain_first None h = refl
+plain_first (Some k) h = first_of_table k.now h
 
 -- a table whose only key isn't the name of a type is the object of its members
 pub plain_object : (v : Tree) (es : Entries) → v ≡ table es → sole_type (members_json es) ≡ None → amqp.json v ≡ object (members_json es)

@@ -27,6 +27,7 @@ mod Leading
 mod Forms
 mod Digits
 mod Encodes
+mod Named
 mod CanonicalSteps
 pub mod Lanes
 mod Lexing

@@ -1,16 +1,20 @@
 -- For private clauses: encodings that are put after other bytes.
-use Rattle.std.specs.Prelude.{ℕ, ◌≡◌, ◌<◌, ◌≤◌, IsTrue, List, ◌++◌, length, Option, Some, None}
+use Rattle.std.specs.Prelude.{ℕ, ◌≡◌, ◌<◌, ◌≤◌, IsTrue, List, [], ◌∷◌, ◌++◌, length, Option, Some, None, option_map}
 use Rattle.json.specs.Token.{Token}
 use Rattle.json.specs.Json.{Json, Parse, members, read_key, value}
-use Rattle.serde_json.specs.Data.{Data, Members, object, no_members}
-use Rattle.serde_json.specs.Read.{of_json, of_members, converted}
-use Rattle.amqp_value_core.specs.Values.{Tree, Trees, Entries, no_entries, insert_all, readable}
-use Rattle.amqp_value_core.specs.Grammar.{Wire, ArrayBody, TableBody}
+use Rattle.serde_json.specs.Data.{Data, Members, number, string, object, no_members}
+use Rattle.serde_json.specs.Read.{of_json, of_members, converted, number_of}
+use Rattle.amqp_value_core.specs.Values.{decimal, Tree, Trees, Entries, insert_all, readable}
+use Rattle.amqp_value_core.specs.Grammar.{Wire, ArrayBody, TableBody, short_field}
 use Rattle.amqp_value_core.specs.Texts.{text, Fits}
-use Rattle.amqp_value_core.specs.InMemory.{IsValue}
+use Rattle.amqp_value_core.specs.InMemory.{IsScalar, IsValue}
+use Rattle.amqp_value_core.specs.Strings.{IsShort}
 use Rattle.amqp_json.specs.InMemory.{IsStored, AreStoredTrees, EntriesStored}
 use Rattle.amqp_json.specs.Converts.{IsStoredMeaning}
-use Rattle.amqp_json.specs.Json.{members_json, sole_type, natural}
+use Rattle.amqp_json.specs.Json.{json, members_json, decimal_json, sole_type, natural}
+use Rattle.amqp_json.specs.Tokens.{BecomesTable}
+use Rattle.amqp_json.specs.declared.encoding.last.Last.{Last}
+use Rattle.amqp_json.specs.declared.encoding.last.Last.TheVariants.{Number, Text, Decimal, Put}
 
 -- the bytes are an encoding of a value that the text means
 abbrev pub IsEncodedMeaning : List ℕ → List ℕ → Type 0
@@ -31,20 +35,38 @@ PutsEncodingOf P old new = (w : List ℕ) × (v : Tree) × (new ≡ old ++ w) ×
 abbrev pub PutsValues : (Trees → Type 0) → List ℕ → List ℕ → Type 0
 PutsValues P old new = (w : List ℕ) × (vs : Trees) × (new ≡ old ++ w) × ArrayBody w vs × AreStoredTrees vs × P vs
 
--- the pairs of a table's body are, and P is so of the entries that they mean
-abbrev pub PutsPairs : (Entries → Type 0) → List ℕ → List ℕ → Type 0
-PutsPairs P old new = (w : List ℕ) × (ps : Entries) × (new ≡ old ++ w) × TableBody w ps × EntriesStored (insert_all no_entries ps) × P (insert_all no_entries ps)
+-- the pairs of a table's body are, and P is so of the entries that they mean after those before
+abbrev pub PutsPairs : Entries → (Entries → Type 0) → List ℕ → List ℕ → Type 0
+PutsPairs before P old new =
+    (w : List ℕ) × (ps : Entries) × (new ≡ old ++ w) × TableBody w ps × EntriesStored (insert_all before ps) × P (insert_all before ps)
+
+-- the head of a table is put, the key k and an encoding of its value
+abbrev pub PutsFirst : List ℕ → (Tree → Type 0) → List ℕ → List ℕ → Type 0
+PutsFirst k P old new = IsShort k × PutsEncodingOf P ((old ++ 70 ∷ 0 ∷ 0 ∷ 0 ∷ 0 ∷ []) ++ short_field k) new
+
+-- what is read is under the key k, the name of a type: nothing of it is put, or it is put as the first
+-- of a table
+abbrev pub IsLast : Last → List ℕ → Option (Data × List Token) → List Token → List ℕ → List ℕ → Type 0
+IsLast (Number s) k read rest old new = (new ≡ old) × (read ≡ option_map (λ d. (d, rest)) (option_map number (number_of s.now)))
+IsLast (Text s) k read rest old new = (new ≡ old) × (read ≡ Some (string s.now, rest))
+IsLast (Decimal d) k read rest old new = (new ≡ old) × (read ≡ Some (decimal_json d.scale d.value, rest)) × IsScalar (decimal d.scale d.value)
+IsLast Put k read rest old new = PutsFirst k (λ v. read ≡ Some (json v, rest)) old new
+
+-- no name of a type is the only key of the entries, also not with the next key
+abbrev pub HasNoTypeName : Entries → Option (List ℕ) → Type 0
+HasNoTypeName es None = sole_type (members_json es) ≡ None
+HasNoTypeName es (Some k) = BecomesTable (Some k) (members_json es)
 
 -- n is the natural number after its key
 abbrev pub IsFieldRead : ℕ → List ℕ → List Token → List Token → Type 0
 IsFieldRead n name ts rest = (us : List Token) × (read_key ts ≡ Some (Some name, us)) × ((depth : ℕ) → converted of_json (value depth us) ≡ Some (natural n, rest)) × (length rest < length us)
 
--- a table of these entries is read from the members that follow a key, and no name of a type is its
--- only key
-abbrev pub AreEntriesRead : Entries → Parse Json → Option (List ℕ) → List Token → List Token → Type 0
-AreEntriesRead es value first after rest =
+-- the table of the entries `es` is read from those before and the members from a key on, and no name
+-- of a type is its only key
+abbrev pub AreEntriesRead : Entries → Entries → Parse Json → Option (List ℕ) → List Token → List Token → Type 0
+AreEntriesRead before es value first after rest =
     ((ts : List Token) (n : ℕ) → read_key ts ≡ Some (first, after) → length ts ≤ n
-    → converted (λ ms. of_members ms no_members) (members value n ts) ≡ Some (members_json es, rest))
+    → converted (λ ms. of_members ms (members_json before)) (members value n ts) ≡ Some (members_json es, rest))
     × (sole_type (members_json es) ≡ None)
 
 -- d is the object of the members at the start of ts, each of them read by `value`, and `rest` follows

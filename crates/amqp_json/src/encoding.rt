@@ -8,10 +8,13 @@ ghost use Rattle.json.specs.Reads.{token_of};
 ghost use Rattle.json.specs.Json.{value, items, parse_map, read_key};
 ghost use Rattle.serde_json.specs.Data.{Data, array, number};
 ghost use Rattle.serde_json.specs.Read.{of_json, of_items, converted, number_of};
-ghost use Rattle.amqp_json.specs.Encodes.{IsObject, IsEncodedMeaning, PutsEncodingOf, PutsValues, PutsPairs, AreEntriesRead, IsFieldRead};
+ghost use Rattle.amqp_value_core.specs.Values.{Entries};
+ghost use Rattle.amqp_json.specs.InMemory.{EntriesStored};
+ghost use Rattle.amqp_json.specs.Encodes.{IsObject, IsEncodedMeaning, PutsEncodingOf, PutsValues, PutsPairs, AreEntriesRead, HasNoTypeName, IsLast, IsFieldRead};
 ghost use Rattle.amqp_json.specs.Json.{json, items_json, under, decimal_json};
 ghost use Rattle.amqp_json.specs.Names.{type_named};
 
+mod last;
 mod lexer;
 mod named;
 pub(crate) mod put;
@@ -21,11 +24,10 @@ use crate::names::type_of_name;
 use crate::numerals::{integer, natural_number};
 use amqp_value_core::types::{AMQPType, DecimalValue};
 use json::{Scratch, Token};
+use last::{Last, is_same, put_first, put_sole, take_back};
 use lexer::Lexer;
-use named::{put_named_number, put_named_text, put_narrow};
-use put::{
-    fill_length, put_boolean, put_decimal, put_head, put_key, put_long_long_int, put_text, put_void,
-};
+use named::put_narrow;
+use put::{fill_length, put_boolean, put_head, put_key, put_long_long_int, put_text, put_void};
 use std::alloc::{AllocError, Global};
 
 /// Why no encoding was put.
@@ -87,8 +89,31 @@ fn put_value(
         ≡ Some (json v, reader.new)) out.old.items out.new.items) }
     ensures shorter { OnOk result (length reader.new < length reader.old) }
 {
+    if reader.opens_object() {
+        return put_inner_object(alloc, reader, out, depth);
+    }
     let token = reader.next()?;
     put_token(alloc, reader, token, out, depth)
+}
+
+// What is after an opening brace, if so many may be open.
+#[cycle(encode)]
+#[inline(always)]
+fn put_inner_object(
+    alloc: Global,
+    reader: &mut Lexer<'_>,
+    out: &mut Vec<u8>,
+    depth: usize,
+) -> Result<(), Stop>
+    ensures ok { OnOk result (PutsEncodingOf (λ v. converted of_json
+        (value depth (token.begin_object ∷ reader.old)) ≡ Some (json v, reader.new))
+        out.old.items out.new.items) }
+    ensures shorter { OnOk result (length reader.new < length reader.old) }
+{
+    if depth == 0 {
+        return Err(Stop::NotHere);
+    }
+    put_object(alloc, reader, out, depth - 1)
 }
 
 // The value that begins with a token, which was taken from the reader.
@@ -117,12 +142,7 @@ fn put_token<'a>(
             }
             put_array(alloc, reader, out, depth - 1)
         }
-        Token::BeginObject => {
-            if depth == 0 {
-                return Err(Stop::NotHere);
-            }
-            put_object(alloc, reader, out, depth - 1)
-        }
+        Token::BeginObject => put_inner_object(alloc, reader, out, depth),
         Token::EndObject | Token::EndArray | Token::Key(_) | Token::Bad => Err(Stop::NotHere),
     }
 }
@@ -171,10 +191,16 @@ fn put_items(
         ≡ Some (items_json vs, reader.new)) out.old.items out.new.items) }
     ensures shorter { OnOk result (length reader.new < length reader.old) }
 {
-    'items: while let Some(token) = reader.next_item()? {
+    'items: loop {
+        if reader.opens_object() {
+            put_inner_object(alloc, reader, out, depth)?;
+            continue;
+        }
+        let Some(token) = reader.next_item()? else {
+            return Ok(());
+        };
         put_token(alloc, reader, token, out, depth)?;
     }
-    Ok(())
 }
 
 // What is after an opening brace.
@@ -194,7 +220,7 @@ fn put_object(
     if let Some(name) = first
         && let Some(amqp_type) = type_of_name(name)
     {
-        return put_named(alloc, reader, out, amqp_type, depth);
+        return put_typed(alloc, reader, out, name, amqp_type, depth);
     }
     let at = out.len() + 1;
     put_head(out, b'F')?;
@@ -202,7 +228,7 @@ fn put_object(
     fill_length(out, at)
 }
 
-// A key that was read, its value, and the members that are left.
+// A key that was read, its value, and the members that are left. Entries may be before them.
 #[cycle(encode)]
 #[inline(always)]
 fn put_members<'a>(
@@ -212,8 +238,9 @@ fn put_members<'a>(
     first: Option<&'a str>,
     depth: usize,
 ) -> Result<(), Stop>
-    requires plain { IfSome first (λ k. type_named k.now ≡ None) }
-    ensures ok { OnOk result (PutsPairs (λ es. AreEntriesRead es (value depth)
+    ensures ok { OnOk result ((before : Entries) → EntriesStored before
+        → HasNoTypeName before (option_map (λ s. s.now) first.entry)
+        → PutsPairs before (λ es. AreEntriesRead before es (value depth)
         (option_map (λ s. s.now) first.entry) reader.old reader.new) out.old.items out.new.items) }
     ensures shorter { OnOk result (length reader.new ≤ length reader.old) }
 {
@@ -226,53 +253,90 @@ fn put_members<'a>(
     Ok(())
 }
 
-// What is after a first key that is the name of a type: its only member, a number or a string.
-#[inline(never)]
-fn put_named(
+// What is after a first key that is the name of a type: mostly an integer, and the brace.
+#[cycle(encode)]
+#[inline(always)]
+fn put_typed<'a>(
     alloc: Global,
-    reader: &mut Lexer<'_>,
+    reader: &mut Lexer<'a>,
     out: &mut Vec<u8>,
+    name: &'a str,
     amqp_type: AMQPType,
     depth: usize,
 ) -> Result<(), Stop>
-    ensures ok { OnOk result (PutsEncodingOf (λ v. (ts : List SpecToken) (k : List ℕ)
-        → type_named k ≡ Some amqp_type → read_key ts ≡ Some (Some k, reader.old)
-        → IsObject (json v) (value depth) ts reader.new) out.old.items out.new.items) }
+    ensures ok { OnOk result (type_named name.now ≡ Some amqp_type
+        → PutsEncodingOf (λ v. IsObject (json v) (value depth) (token.key name.now ∷ reader.old) reader.new)
+        out.old.items out.new.items) }
     ensures shorter { OnOk result (length reader.new < length reader.old) }
 {
     if let Some(n) = reader.last_integer() {
         return put_narrow(out, amqp_type, n);
     }
-    put_leaf(alloc, reader, out, amqp_type, depth)?;
-    let next = reader.next_key()?;
-    if next.is_none() {
-        return Ok(());
-    }
-    Err(Stop::NotHere)
+    put_named(alloc, reader, out, name, amqp_type, depth)
 }
 
-// What is under the name of a type: a number, a string or a decimal.
-#[inline(always)]
-fn put_leaf(
+// What is after a first key that is the name of a type. The key or the brace after the value says
+// whether it is the type of that, or the first key of a table.
+#[cycle(encode)]
+#[inline(never)]
+fn put_named<'a>(
     alloc: Global,
-    reader: &mut Lexer<'_>,
+    reader: &mut Lexer<'a>,
     out: &mut Vec<u8>,
+    name: &'a str,
     amqp_type: AMQPType,
     depth: usize,
 ) -> Result<(), Stop>
-    ensures ok { OnOk result (PutsEncodingOf (λ v. (inner : Data) × (json v ≡ under amqp_type inner)
-        × (converted of_json (value depth reader.old) ≡ Some (inner, reader.new))) out.old.items out.new.items) }
+    ensures ok { OnOk result (type_named name.now ≡ Some amqp_type
+        → PutsEncodingOf (λ v. IsObject (json v) (value depth) (token.key name.now ∷ reader.old) reader.new)
+        out.old.items out.new.items) }
     ensures shorter { OnOk result (length reader.new < length reader.old) }
+{
+    let start = out.len();
+    'turns: loop {
+        let last = put_last(alloc, reader, out, name, amqp_type, depth)?;
+        let next = reader.next_key()?;
+        match next {
+            None => return put_sole(alloc, out, amqp_type, last),
+            Some(key) if is_same(key, name) => take_back(out, start, last)?,
+            Some(key) => {
+                put_first(out, name, last)?;
+                put_members(alloc, reader, out, Some(key), depth)?;
+                return fill_length(out, start + 1);
+            }
+        }
+    }
+}
+
+// What is under the name of a type. A value that is no number, string or decimal is put.
+#[cycle(encode)]
+#[inline(always)]
+fn put_last<'a>(
+    alloc: Global,
+    reader: &mut Lexer<'a>,
+    out: &mut Vec<u8>,
+    name: &str,
+    amqp_type: AMQPType,
+    depth: usize,
+) -> Result<Last<'a>, Stop>
+    ensures ok { IfOk result (λ last. IsLast last name.now
+        (converted of_json (value depth reader.old)) reader.new out.old.items out.new.items) }
+    ensures shorter { IfOk result (λ last. length reader.new < length reader.old) }
 {
     let token = reader.next()?;
     match (amqp_type, token) {
-        (_, Token::Number(text)) => put_named_number(out, amqp_type, text),
-        (_, Token::String(text)) => put_named_text(alloc, out, amqp_type, text),
+        (_, Token::Number(text)) => Ok(Last::Number(text)),
+        (_, Token::String(text)) => Ok(Last::Text(text)),
         (AMQPType::DecimalValue, Token::BeginObject) => {
             let d = decimal(reader, depth)?;
-            put_decimal(out, d.scale, d.value)
+            Ok(Last::Decimal(d))
         }
-        _ => Err(Stop::NotHere),
+        (_, token) => {
+            put_head(out, b'F')?;
+            put_key(out, name)?;
+            put_token(alloc, reader, token, out, depth)?;
+            Ok(Last::Put)
+        }
     }
 }
 

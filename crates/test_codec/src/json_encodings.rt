@@ -106,6 +106,38 @@ fn keys_in_any_order_are_encoded(rt: HostRuntime) -> Result<(), Fail> {
 }
 
 #[test]
+fn type_names_before_other_keys_are_encoded(rt: HostRuntime) -> Result<(), Fail> {
+    let texts = [
+        "{\"ShortInt\":100000,\"b\":2}",
+        "{\"Float\":\"a\",\"\":{}}",
+        "{\"Void\":null,\"LongInt\":1}",
+        "{\"LongInt\":[1,{\"ShortInt\":2}],\"a\":{\"LongInt\":1,\"b\":2}}",
+        "{\"LongInt\":{\"LongInt\":1,\"b\":2},\"b\":null,\"LongInt\":3}",
+        "{\"DecimalValue\":{\"scale\":1,\"value\":2},\"b\":true}",
+        "{\"Long\\u0049nt\":1,\"b\":2}",
+        "[{\"a\":{\"LongInt\":1,\"b\":2},\"c\":3},{\"b\":{\"LongInt\":false,\"a\":[]}}]",
+    ];
+    assert!(rt; are_encoded(rt.alloc(), &texts)?);
+    Ok(())
+}
+
+#[test]
+fn last_of_equal_type_names_is_encoded(rt: HostRuntime) -> Result<(), Fail> {
+    let texts = [
+        "{\"LongInt\":null,\"LongInt\":2}",
+        "[1,{\"LongInt\":[[],{}],\"LongInt\":2},3]",
+        "{\"LongInt\":1,\"LongInt\":{\"a\":1},\"LongInt\":3}",
+        "{\"LongInt\":1,\"LongInt\":null,\"b\":3}",
+        "{\"Timestamp\":18446744073709551615,\"Timestamp\":1}",
+        "{\"ByteArray\":\"00\",\"ByteArray\":\"zz\",\"ByteArray\":\"ff\"}",
+        "{\"LongInt\":1,\"Long\\u0049nt\":2}",
+        "{\"DecimalValue\":{\"scale\":1,\"value\":2},\"DecimalValue\":{\"scale\":3,\"value\":4}}",
+    ];
+    assert!(rt; are_encoded(rt.alloc(), &texts)?);
+    Ok(())
+}
+
+#[test]
 fn other_texts_have_no_encoding(rt: HostRuntime) {
     let texts = [
         "",
@@ -130,6 +162,12 @@ fn other_texts_have_no_encoding(rt: HostRuntime) {
         "{\"DecimalValue\":{\"scale\":1,\"value\":-1}}",
         "{\"Void\":null}",
         "{\"FieldTable\":{}}",
+        "{\"LongInt\":[1]}",
+        "{\"LongInt\":2,\"LongInt\":null}",
+        "{\"LongInt\":2,\"LongInt\":2147483648}",
+        "{\"LongInt\":1e999,\"LongInt\":1}",
+        "{\"LongInt\":9223372036854775808,\"b\":1}",
+        "{\"LongInt\":{\"Void\":0},\"b\":1}",
     ];
     assert!(rt; have_none(rt.alloc(), &texts));
 }

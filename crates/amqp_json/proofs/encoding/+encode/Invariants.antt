@@ -1,25 +1,43 @@
-use Rattle.std.proofs.Common.{◌+◌, ◌*◌, ◌≤◌, length, option_map}
+use Rattle.std.proofs.Common.{◌≡◌, ◌+◌, ◌*◌, ◌≤◌, ◌∷◌, length, option_map}
+use Rattle.json.specs.Token.{key}
 use Rattle.json.specs.Json.{value}
+use Rattle.serde_json.specs.Data.{Data, Members, member, no_members, put}
+use Rattle.amqp_value_core.specs.Values.{Entries}
+use Rattle.amqp_json.specs.InMemory.{EntriesStored}
+use Rattle.amqp_json.specs.Tokens.{MembersLeadTo}
+use Rattle.amqp_json.specs.Encodes.{HasNoTypeName}
 use Rattle.amqp_json.proofs.Encodes.{ItemsLeft, PairsLeft}
 use Rattle.amqp_json.proofs.encoding.+encode.Given as goal
 
+abbrev pub decreases-put_inner_object : goal.decreases-put_inner_object
+decreases-put_inner_object l = 8 * l.depth
+
 abbrev pub decreases-put_token : goal.decreases-put_token
-decreases-put_token l = 5 * l.depth
+decreases-put_token l = 8 * l.depth + 1
 
 abbrev pub decreases-put_value : goal.decreases-put_value
-decreases-put_value l = 5 * l.depth + 1
+decreases-put_value l = 8 * l.depth + 2
+
+abbrev pub decreases-put_last : goal.decreases-put_last
+decreases-put_last l = 8 * l.depth + 2
 
 abbrev pub decreases-put_items : goal.decreases-put_items
-decreases-put_items l = 5 * l.depth + 2
+decreases-put_items l = 8 * l.depth + 3
 
 abbrev pub decreases-put_members : goal.decreases-put_members
-decreases-put_members l = 5 * l.depth + 2
+decreases-put_members l = 8 * l.depth + 3
+
+abbrev pub decreases-put_named : goal.decreases-put_named
+decreases-put_named l = 8 * l.depth + 4
+
+abbrev pub decreases-put_typed : goal.decreases-put_typed
+decreases-put_typed l = 8 * l.depth + 5
 
 abbrev pub decreases-put_array : goal.decreases-put_array
-decreases-put_array l = 5 * l.depth + 3
+decreases-put_array l = 8 * l.depth + 4
 
 abbrev pub decreases-put_object : goal.decreases-put_object
-decreases-put_object l = 5 * l.depth + 3
+decreases-put_object l = 8 * l.depth + 6
 
 -- the values before are put, and with those that are left they are the array's
 abbrev pub invariant-put_items-items : goal.invariant-put_items-items
@@ -29,11 +47,24 @@ invariant-put_items-items l =
 abbrev pub decreases-put_items-items : goal.decreases-put_items-items
 decreases-put_items-items l = length l.reader
 
--- the pairs before are put, and with those that are left they are the table's
+-- the pairs before are put, and with those that are left they are the table's, after the entries that
+-- were there
 abbrev pub invariant-put_members-members : goal.invariant-put_members-members
 invariant-put_members-members l =
-    PairsLeft (value l.fn.depth) (option_map (λ s. s.now) l.fn.first) l.fn.reader (option_map (λ s. s.now) l.next) l.reader l.fn.out.items l.out.items
+    ((before : Entries) → EntriesStored before → HasNoTypeName before (option_map (λ s. s.now) l.fn.first)
+    → PairsLeft (value l.fn.depth) before (option_map (λ s. s.now) l.fn.first) l.fn.reader (option_map (λ s. s.now) l.next) l.reader l.fn.out.items l.out.items)
     × (length l.reader ≤ length l.fn.reader)
 
 abbrev pub decreases-put_members-members : goal.decreases-put_members-members
 decreases-put_members-members l = length l.reader
+
+-- the name is the only key so far, and nothing is put
+abbrev pub invariant-put_named-turns : goal.invariant-put_named-turns
+invariant-put_named-turns l =
+    (found : Members) × ((d : Data) → put l.name d found ≡ member l.name d no_members)
+    × MembersLeadTo (value l.depth) no_members (key l.name ∷ l.initial.reader) found (key l.name ∷ l.reader)
+    × (length l.reader ≤ length l.initial.reader)
+    × (l.out.items ≡ l.initial.out.items)
+
+abbrev pub decreases-put_named-turns : goal.decreases-put_named-turns
+decreases-put_named-turns l = length l.reader
