@@ -32,7 +32,7 @@ LISTED = {
     ("amqp_json/src/buffer.rt", "return Err(WriteError::NeedsMemory);"),
     # the call never asks for memory, and a clause states when it would need some
     ("amqp_c/src/json.rt", "Err(WriteError::NeedsMemory) => Err(Fault::OutOfMemory),"),
-    # a clause states that this takes keys that don't ascend, whose text and map are allocated
+    # a clause states that this takes keys that don't ascend, whose text and pairs are allocated
     ("amqp_c_alloc/src/decode.rt", "Err(WriteError::NeedsMemory) => Err(Fault::OutOfMemory),"),
 }
 # The lines that ask for memory by a number, and what bounds that.
@@ -47,6 +47,7 @@ BY_NUMBER = {
     "self.try_reserve(n)?;": "the same",
     "self.resize(at + n, 0)?;": "the same",
     "let mut values = Vec::with_capacity(alloc, items.len())?;": "items that are there",
+    "let mut pairs = Vec::with_capacity(alloc, table.iter().count())?;": "pairs that are there",
     "let mut bytes = Vec::with_capacity(alloc, chunk.len())?;": "bytes that are there",
     "let mut out = Vec::with_capacity(alloc, bytes.len())?;": "the same",
     "let mut out = Vec::with_capacity(alloc, text.len() / 8 + text.len() + 2)?;": "a text that is there, and an eighth more",

@@ -11,6 +11,8 @@ mod Encodings
 mod Chains
 mod Steps
 mod SortedSteps
+mod PlacedSteps
+mod Latest
 mod OwnedSteps
 mod Copies
 mod ReadBack

@@ -16,6 +16,7 @@ pub mod Encodes
 -- for private clauses: what is written of a value, and a table's pairs by their keys
 pub mod Adds
 pub mod Sorted
+pub mod Placed
 pub mod Puts
 pub mod Buffers
 pub mod Ascending

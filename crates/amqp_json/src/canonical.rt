@@ -8,14 +8,14 @@ ghost use Rattle.amqp_in_place.specs.Bodies.{HasEntries};
 ghost use Rattle.amqp_in_place.specs.Refs.{Denotes, array_body, table_body};
 ghost use Rattle.amqp_json.specs.Converts.{IsReadAs};
 ghost use Rattle.amqp_json.specs.Sorted.{AreAt};
+ghost use Rattle.amqp_json.specs.Placed.{steps_of};
 
 use crate::encoding::Stop;
 use crate::encoding::put::{fill_length, put_head, put_key, put_plain};
 use crate::keys::keys_rise;
-use crate::sorted::map_of;
+use crate::sorted::{PlacedPair, sorted_pairs};
 use amqp_in_place::{ArrayRef, TableRef, ValueRef, read_in_place_unlimited};
 use std::alloc::Global;
-use std::collections::BTreeMap;
 
 const MAX_DEPTH: usize = 127;
 
@@ -127,8 +127,8 @@ fn put_entries(
     if keys_rise(table) {
         return put_pairs(alloc, out, table, depth);
     }
-    let map = map_of(alloc, table)?;
-    put_map(alloc, out, &map, depth)
+    let pairs = sorted_pairs(alloc, table)?;
+    put_sorted(alloc, out, pairs.as_slice(), depth)
 }
 
 #[cycle(canonical)]
@@ -151,18 +151,18 @@ fn put_pairs(
 
 #[cycle(canonical)]
 #[inline(never)]
-fn put_map(
+fn put_sorted(
     alloc: Global,
     out: &mut Vec<u8>,
-    map: &BTreeMap<&str, ValueRef<'_>>,
+    sorted: &[PlacedPair<'_>],
     depth: usize,
 ) -> Result<(), Stop>
-    ensures { OnOk result ((es : Entries) → AreAt map.now.entries es
+    ensures { OnOk result ((es : Entries) → AreAt (steps_of sorted.now) es
         → out.new.items ≡ out.old.items ++ pairs es) }
 {
-    for (key, value) in map.iter() {
-        put_key(out, *key)?;
-        put_value(alloc, out, *value, depth)?;
+    for pair in sorted {
+        put_key(out, pair.key)?;
+        put_value(alloc, out, pair.value, depth)?;
     }
     Ok(())
 }

@@ -9,21 +9,21 @@ ghost use Rattle.amqp_in_place.specs.Refs.{Denotes, array_body, table_body};
 ghost use Rattle.amqp_json.specs.Json.{json, members_json};
 ghost use Rattle.amqp_json.specs.Puts.{PutsJson};
 ghost use Rattle.amqp_json.specs.Sorted.{AreAt};
+ghost use Rattle.amqp_json.specs.Placed.{steps_of};
 
 use super::leaves::put_leaf;
 use super::opening::begin;
 use super::place::Place;
 use super::printing::put_token;
 use crate::keys::{keys_rise, needs_type_name};
-use crate::sorted::{map_needs_type_name, map_of};
+use crate::sorted::{PlacedPair, pairs_need_type_name, sorted_pairs};
 use amqp_in_place::{ArrayRef, TableRef, ValueRef};
 use amqp_value_core::types::AMQPType;
 use json::Token;
 use std::alloc::{AllocError, Global};
-use std::collections::BTreeMap;
 
-/// Puts the JSON text of a value after what is written. A map of keys and values in place is
-/// allocated for a table whose keys don't ascend.
+/// Puts the JSON text of a value after what is written. Memory for the pairs of a table is allocated
+/// if its keys don't ascend.
 #[cycle(sorting)]
 #[inline(always)]
 pub(crate) fn put_value(
@@ -114,30 +114,31 @@ fn put_unordered(
     ensures { IfOk result (λ end. (es : Entries) → HasEntries (table_body table.entry) es
         → PutsJson buffer.old place buffer.new end (json (table_tree es))) }
 {
-    let map = map_of(alloc, table)?;
-    if map_needs_type_name(&map) {
+    let pairs = sorted_pairs(alloc, table)?;
+    let sorted = pairs.as_slice();
+    if pairs_need_type_name(sorted) {
         let inner = begin(buffer, place, AMQPType::FieldTable);
-        let end = put_map(alloc, buffer, inner, &map)?;
+        let end = put_sorted(alloc, buffer, inner, sorted)?;
         return Ok(put_token(buffer, end, Token::EndObject));
     }
-    put_map(alloc, buffer, place, &map)
+    put_sorted(alloc, buffer, place, sorted)
 }
 
 #[cycle(sorting)]
 #[inline(never)]
-fn put_map(
+fn put_sorted(
     alloc: Global,
     buffer: &mut [u8],
     place: Place,
-    map: &BTreeMap<&str, ValueRef<'_>>,
+    sorted: &[PlacedPair<'_>],
 ) -> Result<Place, AllocError>
-    ensures { IfOk result (λ end. (es : Entries) → AreAt map.now.entries es
+    ensures { IfOk result (λ end. (es : Entries) → AreAt (steps_of sorted.now) es
         → PutsJson buffer.old place buffer.new end (object (members_json es))) }
 {
     let mut end = put_token(buffer, place, Token::BeginObject);
-    for (key, value) in map.iter() {
-        let keyed = put_token(buffer, end, Token::Key(*key));
-        end = put_value(alloc, buffer, keyed, *value)?;
+    for pair in sorted {
+        let keyed = put_token(buffer, end, Token::Key(pair.key));
+        end = put_value(alloc, buffer, keyed, pair.value)?;
     }
     Ok(put_token(buffer, end, Token::EndObject))
 }

@@ -1,10 +1,11 @@
-use Rattle.std.proofs.Common.{◌≡◌, ◌+◌, ◌*◌, ◌++◌}
+use Rattle.std.proofs.Common.{◌≡◌, ◌+◌, ◌*◌, ◌++◌, drop}
 use Rattle.amqp_value_core.specs.Values.{Trees, Entries}
 use Rattle.amqp_value_core.specs.Grammar.{ArrayBody, TableBody}
 use Rattle.amqp_value_core.specs.Texts.{body, pairs}
 use Rattle.amqp_in_place.specs.Refs.{array_body, table_body}
 use Rattle.amqp_in_place.specs.Suffix.{values_left, pairs_left}
 use Rattle.amqp_json.specs.Sorted.{AreAt}
+use Rattle.amqp_json.specs.Placed.{steps_of}
 use Rattle.amqp_json.proofs.canonical.+canonical.Given as goal
 
 abbrev pub decreases-put_value : goal.decreases-put_value
@@ -16,8 +17,8 @@ decreases-put_items l = 5 * l.depth + 1
 abbrev pub decreases-put_pairs : goal.decreases-put_pairs
 decreases-put_pairs l = 5 * l.depth + 1
 
-abbrev pub decreases-put_map : goal.decreases-put_map
-decreases-put_map l = 5 * l.depth + 1
+abbrev pub decreases-put_sorted : goal.decreases-put_sorted
+decreases-put_sorted l = 5 * l.depth + 1
 
 abbrev pub decreases-put_entries : goal.decreases-put_entries
 decreases-put_entries l = 5 * l.depth + 2
@@ -40,8 +41,8 @@ invariant-put_pairs-loop-key l =
     (all : Entries) → TableBody (table_body l.fn.table) all →
     (rest : Entries) × TableBody (pairs_left l.key-iterator) rest × (l.out.items ++ pairs rest ≡ l.fn.out.items ++ pairs all)
 
--- with the entries that are left, the map's are there
-abbrev pub invariant-put_map-loop-key : goal.invariant-put_map-loop-key
-invariant-put_map-loop-key l =
-    (all : Entries) → AreAt l.fn.map.entries all →
-    (rest : Entries) × AreAt l.key-iterator rest × (l.out.items ++ pairs rest ≡ l.fn.out.items ++ pairs all)
+-- with the pairs that are left, all are there
+abbrev pub invariant-put_sorted-loop-pair : goal.invariant-put_sorted-loop-pair
+invariant-put_sorted-loop-pair l =
+    (all : Entries) → AreAt (steps_of l.fn.sorted) all →
+    (rest : Entries) × AreAt (steps_of (drop l.pair-index l.fn.sorted)) rest × (l.out.items ++ pairs rest ≡ l.fn.out.items ++ pairs all)
