@@ -26,7 +26,7 @@ use Rattle.amqp_show.specs.declared.arguments.Form.TheVariants as form
 use Rattle.amqp_show.specs.declared.arguments.Settings.{Settings}
 use Rattle.amqp_show.specs.declared.arguments.Subject.{Subject}
 use Rattle.amqp_show.specs.Failures.{warning_line, AddsWarnings}
-use Rattle.amqp_show.specs.Outcomes.{left_out, IsStatusOf}
+use Rattle.amqp_show.specs.Outcomes.{left_out_count, IsStatusOf}
 use Rattle.amqp_show.specs.Parts.{AreLinesShown}
 use Rattle.amqp_show.specs.Shown.{IfAsked, ShowsIfAsked, IsEndShown, ShowsForm, ShowsEnd, ShowsStart}
 use Rattle.amqp_show.specs.Tree.{IsTreeAfter}
@@ -76,7 +76,7 @@ warns_more a b c (first, p) (second, q) =
 
 pub shows_start : (a b c : Screen) (settings : Settings) (st : Status) (s : List ℕ) (p : Partial) (cut : List ℕ) (ps : List Part)
     → IsPartial settings.limits s p → ((IsTruncated s → ⊥) → cut ≡ []) → (cut ≡ [] → ps ≡ p.parts.items)
-    → ShowsForm settings.form (left_out settings.subject) cut ps a b → ShowsEnd settings.subject p.offset p.end st b c → ShowsStart settings st s a c
+    → ShowsForm settings.form (left_out_count settings.subject) cut ps a b → ShowsEnd settings.subject p.offset p.end st b c → ShowsStart settings st s a c
 shows_start a b c settings st s p cut ps partial none all (front, shown, add) (last, ended, more) =
     let ended_here : IsEndShown a.has_colours settings.subject p.offset p.end st last = subst (λ has. IsEndShown has settings.subject p.offset p.end st last) add.colours ended in (
       front ++ last,
@@ -98,7 +98,7 @@ shows_start a b c settings st s p cut ps partial none all (front, shown, add) (l
 -- what adding the failure returns
 pub start_returned : {E : Type 0} (r : Result Status E) (a b c : Screen) (settings : Settings) (s : List ℕ) (p : Partial) (cut : List ℕ) (ps : List Part)
     → IsPartial settings.limits s p → ((IsTruncated s → ⊥) → cut ≡ []) → (cut ≡ [] → ps ≡ p.parts.items)
-    → ShowsForm settings.form (left_out settings.subject) cut ps a b → IfOk r (λ st. ShowsEnd settings.subject p.offset p.end st b c) → IfOk r (λ st. ShowsStart settings st s a c)
+    → ShowsForm settings.form (left_out_count settings.subject) cut ps a b → IfOk r (λ st. ShowsEnd settings.subject p.offset p.end st b c) → IfOk r (λ st. ShowsStart settings st s a c)
 start_returned (Ok st) a b c settings s p cut ps partial none all shown ended = shows_start a b c settings st s p cut ps partial none all shown ended
 start_returned (Err e) a b c settings s p cut ps partial none all shown ended = ended
 

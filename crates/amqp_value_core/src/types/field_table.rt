@@ -37,7 +37,7 @@ fn bare(lent: Result<Lent<'_>, AllocError>) -> Result<&mut FieldTable, AllocErro
 }
 
 // the entries as a `Vec`
-fn listed<K: Drop, const N: usize>(
+fn list_of<K: Drop, const N: usize>(
     alloc: Global,
     pairs: [(K, AMQPValue); N],
 ) -> Result<Vec<(K, AMQPValue)>, AllocError>
@@ -118,7 +118,7 @@ impl FieldTable {
         if N == 0 {
             return Ok(FieldTable::new_in(alloc));
         }
-        FieldTable::from_named(alloc, listed(alloc, pairs)?)
+        FieldTable::from_named(alloc, list_of(alloc, pairs)?)
     }
 
     fn from_named<K: AsStr + Drop>(
