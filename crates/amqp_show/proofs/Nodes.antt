@@ -1,10 +1,9 @@
 -- The tree, node by node.
-use Rattle.std.proofs.Common.{◌≡◌, ◌<◌, ◌≤◌, ◌+◌, ◌-◌, ℕ, Bool, Option, List, [], ◌∷◌, ◌++◌, length, take, drop, length-drop, get_or, refl, sym, ap, subst, ◌∙◌, append_assoc, arith}
+use Rattle.std.proofs.Common.{◌≡◌, ◌<◌, ◌≤◌, ◌+◌, ◌-◌, ℕ, Bool, Option, List, ◌∷◌, ◌++◌, length, take, drop, length-drop, get_or, refl, sym, ap, subst, ◌∙◌, append_assoc}
 use Rattle.std.proofs.Math.ListN.{drop_of_length-le}
 use Rattle.std.proofs.Math.Seq.{take-length}
 use Rattle.amqp_value_core.specs.declared.types.amqp_type.AMQPType.{AMQPType}
 use Rattle.amqp_dissect.specs.declared.part.Part.{Part}
-use Rattle.amqp_dissect.specs.declared.part.Field.{Field}
 use Rattle.amqp_screen.specs.Escapes.{in_text}
 use Rattle.amqp_screen.specs.Pushes.{AddsText}
 use Rattle.amqp_screen.specs.declared.screen.Screen.{Screen}

@@ -1,5 +1,5 @@
 -- The lines about a failure and the outcome.
-use Rattle.std.specs.Prelude.{ℕ, ◌≡◌, ◌-◌, nat_lt, ◌⊎◌, Bool, List, ◌∷◌, ◌++◌, length, codes, flat_map, if◌then◌else◌}
+use Rattle.std.specs.Prelude.{ℕ, ◌≡◌, ◌-◌, nat_lt, ◌⊎◌, Bool, List, ◌++◌, length, codes, flat_map, if◌then◌else◌}
 use Rattle.std.specs.Fmt.{decimal}
 use Rattle.amqp_value_core.specs.Names.{name_of}
 use Rattle.amqp_value_core.specs.Values.{Tree}

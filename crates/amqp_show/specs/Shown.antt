@@ -1,5 +1,5 @@
 -- What is shown of the value at the start of an input.
-use Rattle.std.specs.Prelude.{ℕ, ◌≡◌, Bool, true, false, List, [], ◌∷◌, ◌++◌, drop, codes, flat_map}
+use Rattle.std.specs.Prelude.{ℕ, ◌≡◌, Bool, true, false, List, [], ◌++◌, drop, codes, flat_map}
 use Rattle.amqp_dissect.specs.declared.part.Part.{Part}
 use Rattle.amqp_dissect.specs.declared.partial.Partial.{Partial}
 use Rattle.amqp_dissect.specs.declared.dissection.End.{End}

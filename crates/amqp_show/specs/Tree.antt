@@ -4,7 +4,7 @@ use Rattle.amqp_value_core.specs.declared.types.amqp_type.AMQPType.{AMQPType}
 use Rattle.amqp_value_core.specs.Names.{name_of}
 use Rattle.amqp_dissect.specs.declared.part.Part.{Part}
 use Rattle.amqp_dissect.specs.declared.part.Field.{Field}
-use Rattle.amqp_dissect.specs.declared.part.Field.TheVariants.{TypeTag, Length, KeyLength, Key, Payload}
+use Rattle.amqp_dissect.specs.declared.part.Field.TheVariants.{TypeTag, KeyLength}
 use Rattle.amqp_dissect.specs.Leaves.{IsLeaf}
 use Rattle.amqp_screen.specs.Escapes.{in_text, coloured}
 use Rattle.amqp_screen.specs.Pushes.{AddsText}

@@ -1,4 +1,4 @@
-use Rattle.std.proofs.Common.{◌≡◌, ◌≤◌, ◌<◌, ◌+◌, IsFalse, IsTrue, subst, sym, ◌∙◌, arith}
+use Rattle.std.proofs.Common.{◌≤◌, ◌<◌, ◌+◌, subst, sym, ◌∙◌, arith}
 use Rattle.amqp_show.specs.Outcomes.{left_out_count}
 use Rattle.amqp_show.proofs.Listed.{LinesTo, remarks, lines_skip, lines_more, lines_end}
 use Rattle.amqp_show.proofs.bytes.push_bytes.Goals as goal
