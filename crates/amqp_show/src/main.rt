@@ -29,9 +29,9 @@ mod repeats;
 mod show;
 mod spelling;
 mod stream;
+mod tag_hints;
 mod texts;
 mod tree;
-mod untagged;
 mod whole;
 
 use amqp_screen::{Screen, Status, exit_status, is_terminal, worse};

@@ -1,14 +1,14 @@
 //! Values within limits, from inputs and from readers, by the format's own numbers.
 
 mod deep;
-mod joined;
 mod large;
 mod limits;
 mod memory;
 mod reader;
 mod requests;
+mod sequence;
 mod texts;
-mod untagged;
+mod without_tag;
 
 use amq_protocol_types::AMQPValue;
 use amq_protocol_types::parsing::{ErrorKind, SliceInput, parse_value};

@@ -12,7 +12,7 @@
 mod capacities;
 mod devices;
 mod large;
-mod nested;
+mod nesting;
 mod shown;
 #[cfg(test)]
 mod tests;
@@ -40,7 +40,7 @@ fn run(rt: &HostRuntime) -> io::Result<()> {
         (Some(kind), Some(name), Some(depth)) => {
             let depth = depth.parse().map_err(preparation_error)?;
             let call = (kind.as_str(), name.as_str());
-            nested::run(rt, rt.alloc(), call, depth, &mut input)
+            nesting::run(rt, rt.alloc(), call, depth, &mut input)
         }
         (Some(kind), None, None) => large::run(rt, rt.alloc(), kind.as_str(), &mut input),
         _ => run_all(rt, rt.alloc(), &mut input),

@@ -1,6 +1,6 @@
 //! How many bytes a reader is asked for.
 
-use super::joined::joined_bytes;
+use super::sequence::joined_bytes;
 use super::*;
 use std::test::Fail;
 
