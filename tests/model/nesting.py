@@ -148,7 +148,7 @@ MADE: dict[str, Callable[[str, int], bytes]] = {
 
 def calls() -> Iterator[tuple[str, Call]]:
     """Yields the calls of test_hostile, by name: the arms of its functions of_encoding and so on."""
-    text = (TOP / "crates/test_hostile/src/nested.rt").read_text()
+    text = (TOP / "crates/test_hostile/src/nesting.rt").read_text()
     for kind, make in MADE.items():
         (body,) = re.findall(rf"(?ms)^fn of_{kind}\(.*?^}}", text)
         for name, arm in re.findall(r'(?m)^ {8}"(\S+)" => (.*(?:\n {9}.*)*)', body):

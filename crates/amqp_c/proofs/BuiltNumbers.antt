@@ -12,7 +12,7 @@ use Rattle.amqp_value_core.specs.Layouts.{spelled}
 use Rattle.amqp_value_core.specs.InMemory.{IsNumber}
 use Rattle.amqp_value_core.specs.Texts.{text}
 use Rattle.amqp_value_core.specs.Values.{Scalar, number, decimal, scalar}
-use Rattle.amqp_c_common.specs.Scalars.{widened}
+use Rattle.amqp_c_common.specs.Scalars.{bits_of_number}
 use Rattle.amqp_c.specs.BuiltEntries.{IsScalarOfType}
 
 -- what a conversion returned that succeeded
@@ -30,7 +30,7 @@ small_signed w n y z lt is fits =
     ((Fits-of_z {w = w} {z = z} small).fits, sym (of_z-to_z w64 n lt) ∙ ap (cast_unsigned w64) (sym same ∙ sym (to_z-of_z w z small)))
 
 -- the number of a type is determined by its bits
-pub number_determined : (type its : AMQPType) (n b scale : ℕ) (e payload : List ℕ) → type ≡ its → scale ≡ 0 → IsNumber its n → b ≡ widened its n
+pub number_determined : (type its : AMQPType) (n b scale : ℕ) (e payload : List ℕ) → type ≡ its → scale ≡ 0 → IsNumber its n → b ≡ bits_of_number its n
     → e ≡ id_of its ∷ payload → payload ≡ spelled (number its n) → (x : Scalar) × IsScalarOfType type b scale x × (e ≡ text (scalar x))
 number_determined type its n b scale e payload typed zero range same written is =
     (number its n, record { in_range = range; same_type = sym typed; same_bits = same; same_scale = zero }, written ∙ ap (λ (t : List ℕ). id_of its ∷ t) is)

@@ -3,7 +3,7 @@ use Rattle.std.proofs.Common.{◌≡◌, ◌+◌, ◌-◌, ◌≤◌, ℕ, List,
 use Rattle.std.proofs.lemmas.List.{take_at, take-take, drop-drop, drop-take, length-take-le}
 use Rattle.amqp_value_core.specs.Grammar.{long_field}
 use Rattle.amqp_c_common.specs.declared.span.Span.{Span}
-use Rattle.amqp_c_common.specs.Spans.{part, moved, rest_after, last}
+use Rattle.amqp_c_common.specs.Spans.{part, span_after, rest_after, last}
 
 -- at the start
 pub part_prefix : (s : List ℕ) (p : Span) → p.offset ≡ 0 → part s p ≡ take p.length s
@@ -17,7 +17,7 @@ part_content s mid body rest c p typed framed at size =
     ∙ take_at body rest p.length (sym size))
 
 -- a part of a part
-pub part_within : (s : List ℕ) (p q : Span) → q.offset + q.length ≤ p.length → part (part s p) q ≡ part s (moved p.offset q)
+pub part_within : (s : List ℕ) (p q : Span) → q.offset + q.length ≤ p.length → part (part s p) q ≡ part s (span_after p.offset q)
 part_within s p q inside =
     let here : p.length ≡ q.offset + (p.length - q.offset) = omega arith in
     let cut : drop q.offset (part s p) ≡ take (p.length - q.offset) (drop q.offset (drop p.offset s)) =

@@ -23,7 +23,7 @@ use Rattle.amqp_in_place.specs.declared.problems.ProblemKind.{ProblemKind}
 use Rattle.amqp_in_place.specs.declared.problems.ProblemKind.TheVariants as problem
 use Rattle.amqp_in_place.specs.declared.problems.Rules.{Rules}
 use Rattle.amqp_in_place.specs.Bodies.{HasEntries}
-use Rattle.amqp_in_place.specs.Problems.{Search, known, here, untagged, in_payload, in_value, inside, problem_of, problem_in_table_of}
+use Rattle.amqp_in_place.specs.Problems.{Search, known, here, without_tag, in_payload, in_value, inside, problem_of, problem_in_table_of}
 use Rattle.amqp_in_place.specs.ProblemResults.{FindsValue, FailsAt}
 use Rattle.amqp_c.specs.declared.entry.Entry.{Entry}
 use Rattle.amqp_c_common.specs.declared.fault.Fault.{Fault}
@@ -60,7 +60,7 @@ headed rules l s = elim (cases_lt l.frame (extent s)) [
 ]
 
 -- without its type tag too
-no_untagged : (x : Option in_place.Problem) → option_map untagged x ≡ None → x ≡ None
+no_untagged : (x : Option in_place.Problem) → option_map without_tag x ≡ None → x ≡ None
 no_untagged None is = refl
 no_untagged (Some p) is = absurd cc
 
@@ -174,7 +174,7 @@ table_fault_right rules l s p h f first is e =
     let t = tagged amqp.FieldTable s in
     e ∙ lacks_wanted l.frame t p.offset p.kind h is
     (λ exceeds. subst (λ (q : in_place.Problem). fault_at q.offset q.kind 0 ≡ fault_at q.offset q.kind (wanted t))
-    (same_Some (untagged (here problem.TooLarge)) p (sym (ap (option_map untagged) (large_first rules l t exceeds)) ∙ first)) refl)
+    (same_Some (without_tag (here problem.TooLarge)) p (sym (ap (option_map without_tag) (large_first rules l t exceeds)) ∙ first)) refl)
 
 -- by the rules of reading it is that of reading within the limits
 fails_so : (l : Limits) (s : List ℕ) (n : ℕ) (k : ProblemKind) → FailsAt l s n k → FaultsWithin l s (fault_at n k (wanted s))

@@ -12,15 +12,15 @@ use Rattle.amqp_c_common.specs.declared.span.Span.{Span}
 use Rattle.amqp_c.specs.CallResults.{GivesFirst}
 use Rattle.amqp_c.specs.Entries.{DescribesValue, IsEntryAtStart, HoldsContent, IsTagged, IsTrueTo, EntryIsIn}
 use Rattle.amqp_c.specs.Heads.{has_content}
-use Rattle.amqp_c_common.specs.Spans.{part, moved, rest_after, SpanIsIn}
+use Rattle.amqp_c_common.specs.Spans.{part, span_after, rest_after, SpanIsIn}
 use Rattle.amqp_c.specs.Steps.{IsHeaded, HasNoPair, IsFirstEntryIn, IsValueIn, IsPairIn, BeginsWithKey, StandsKeyed}
 use Rattle.amqp_c.proofs.Parts.{part_prefix, part_within, part_after, part_length}
 
 -- the entry, if the bytes that it was read from begin at the span
 abbrev pub placed : Span → Span → Entry → Entry
-placed p key e = record { key = key; value = moved p.offset e.value; content = moved p.offset e.content; bits = e.bits; tag = e.tag; scale = e.scale }
+placed p key e = record { key = key; value = span_after p.offset e.value; content = span_after p.offset e.content; bits = e.bits; tag = e.tag; scale = e.scale }
 
-says_placed : (s : List ℕ) (p key : Span) (e : Entry) (v : Tree) → part (part s p) e.content ≡ part s (moved p.offset e.content) → DescribesValue (part s p) e v → DescribesValue s (placed p key e) v
+says_placed : (s : List ℕ) (p key : Span) (e : Entry) (v : Tree) → part (part s p) e.content ≡ part s (span_after p.offset e.content) → DescribesValue (part s p) e v → DescribesValue s (placed p key e) v
 says_placed s p key e (scalar x) at is = is
 says_placed s p key e (short b) at is = is
 says_placed s p key e (long b) at is = (sym at ∙ is.0, is.1)
@@ -37,7 +37,7 @@ first_given s p key e in_s in_part v rest x (is, at, whole) =
     let there = part_within s p e.content (omega (arith, in_part.content)) in
     let f = found_prefix (part s p) rest v x in
     let taken : length f.0 ≡ e.value.length = omega (arith, ap length f.2, length-append f.0 rest) in
-    let after = part_after s p (moved p.offset e.value) e.value.length (omega arith) (omega (arith, in_part.value)) in (
+    let after = part_after s p (span_after p.offset e.value) e.value.length (omega arith) (omega (arith, in_part.value)) in (
       record {
         encoding = subst (λ (t : List ℕ). Wire t v) here is.encoding;
         tag = is.tag;
@@ -58,9 +58,9 @@ tagged_at_start [] n p key e some x = absurd x
 tagged_at_start (c ∷ b) zero p key e some x = absurd (omega arith)
 tagged_at_start (c ∷ b) (suc n) p key e some x = (x.0, x.1, x.2, content_placed (has_content x.0) p key e x.3)
 
-pub tagged_placed : (s : List ℕ) (p key : Span) (e : Entry) → SpanIsIn (length s) p → EntryIsIn (length (part s p)) e → IsEntryAtStart (part s p) e → IsTagged (part s (moved p.offset e.value)) (placed p key e)
+pub tagged_placed : (s : List ℕ) (p key : Span) (e : Entry) → SpanIsIn (length s) p → EntryIsIn (length (part s p)) e → IsEntryAtStart (part s p) e → IsTagged (part s (span_after p.offset e.value)) (placed p key e)
 tagged_placed s p key e in_s inside at_start =
-    let same : take e.value.length (part s p) ≡ part s (moved p.offset e.value) =
+    let same : take e.value.length (part s p) ≡ part s (span_after p.offset e.value) =
     sym (part_prefix (part s p) e.value at_start.1) ∙ part_within s p e.value (omega (arith, inside.value, part_length s p in_s)) in
     subst (λ (t : List ℕ). IsTagged t (placed p key e)) same (tagged_at_start (part s p) e.value.length p key e inside.some at_start.3)
 
@@ -70,10 +70,10 @@ pub faithful_placed : (s : List ℕ) (p key : Span) (e : Entry) → SpanIsIn (le
 faithful_placed s p key e in_s inside from faithful = λ v w.
     let n = e.value.length in
     let rest = drop n (part s p) in
-    let here : part s (moved p.offset e.value) ≡ take n (part s p) =
+    let here : part s (span_after p.offset e.value) ≡ take n (part s p) =
     sym (sym (part_prefix (part s p) e.value from) ∙ part_within s p e.value (omega (arith, inside.value, part_length s p in_s))) in
-    let same : part s (moved p.offset e.value) ++ rest ≡ part s p = ap (λ (t : List ℕ). t ++ rest) here ∙ take-append-drop n (part s p) in
-    let x : Outcome (part s p) (found v rest) = subst (λ (t : List ℕ). Outcome t (found v rest)) same (wire_found (part s (moved p.offset e.value)) rest v w) in
+    let same : part s (span_after p.offset e.value) ++ rest ≡ part s p = ap (λ (t : List ℕ). t ++ rest) here ∙ take-append-drop n (part s p) in
+    let x : Outcome (part s p) (found v rest) = subst (λ (t : List ℕ). Outcome t (found v rest)) same (wire_found (part s (span_after p.offset e.value)) rest v w) in
     (first_given s p key e in_s inside v rest x (faithful v rest x)).0
 
 -- the first of some values

@@ -71,5 +71,5 @@ IsOfBody tag b (table es) = (tag ≡ table_tag) × HasEntries b es
 IsOfBody tag b _ = ⊥
 
 -- what is before the body of a container, its length not filled in yet
-abbrev pub unfilled : ℕ → List ℕ
-unfilled tag = tag ∷ 0 ∷ 0 ∷ 0 ∷ 0 ∷ []
+abbrev pub tag_and_zeros : ℕ → List ℕ
+tag_and_zeros tag = tag ∷ 0 ∷ 0 ∷ 0 ∷ 0 ∷ []

@@ -12,7 +12,7 @@ use Rattle.amqp_c_common.specs.declared.fault.Fault.TheVariants.{TooLarge, Inval
 use Rattle.amqp_c_common.specs.Reading.{IsReadFault}
 use Rattle.amqp_c.specs.declared.container.Container.{Container}
 use Rattle.amqp_c.specs.Containers.{IsContainerIn, IsContainerTag, HasAnyKeys, IsKeyOf, IsPlace, end_with}
-use Rattle.amqp_c.specs.BuiltEntries.{IsScalarOf, IsScalarTag, IsSignedTag, IsUnsignedTag, IsStringTag, unfilled}
+use Rattle.amqp_c.specs.BuiltEntries.{IsScalarOf, IsScalarTag, IsSignedTag, IsUnsignedTag, IsStringTag, tag_and_zeros}
 use Rattle.amqp_c.specs.Growth.{IsOpen}
 use Rattle.amqp_c.specs.Items.{Item, fixed_width, signed_number, unsigned_number, byte_string, first_encoding, IsPutEncoding}
 use Rattle.amqp_c.specs.ReadBy.{fault_at}
@@ -86,7 +86,7 @@ abbrev pub RefusesToOpen : ℕ → List ℕ → Container → List ℕ → Fault
 RefusesToOpen tag buffer into k f =
     RefusesPlace (length buffer) into k f
     ⊎ (IsPlace (length buffer) into k
-    × (((f ≡ BadTag) × (IsContainerTag tag → ⊥)) ⊎ (IsContainerTag tag × LacksCapacityFor buffer into k (unfilled tag) f)))
+    × (((f ≡ BadTag) × (IsContainerTag tag → ⊥)) ⊎ (IsContainerTag tag × LacksCapacityFor buffer into k (tag_and_zeros tag) f)))
 
 -- a fault of closing an entry is right: the body isn't of one that is open there, or has too many bytes
 abbrev pub RefusesToClose : List ℕ → Container → Container → Fault → Type 0

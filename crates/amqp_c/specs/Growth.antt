@@ -10,7 +10,7 @@ use Rattle.amqp_in_place.specs.Problems.{allow_key}
 use Rattle.amqp_c_common.specs.Spans.{part, SpanIsIn}
 use Rattle.amqp_c.specs.declared.container.Container.{Container}
 use Rattle.amqp_c.specs.Containers.{array_tag, table_tag, IsContainerTag, HasNoneOpen, HasOneOpen, IsKeyOf, IsPlace, end_of, entry_of, end_with, empty_at, up_to}
-use Rattle.amqp_c.specs.BuiltEntries.{unfilled, IsOfBody}
+use Rattle.amqp_c.specs.BuiltEntries.{tag_and_zeros, IsOfBody}
 use Rattle.amqp_c.specs.ByRules.{IsEncodingBy, AreValuesBy, ArePairsBy, IsBodyBy}
 use Rattle.amqp_c.specs.Items.{Item, IsPutEncoding, item_depth}
 use Rattle.amqp_c.specs.Buffers.{with_bytes, StandsAt}
@@ -57,8 +57,8 @@ pub record IsEntryPut (item : Item) (old : List ℕ) (into : Container) (k new :
 -- `into` may
 pub record IsOpened (tag : ℕ) (old : List ℕ) (into : Container) (k new : List ℕ) (body : Container) : Type 0 where
   pub container : IsContainerTag tag
-  pub appended : IsAppended old into k (unfilled tag) new
-  pub empty : body ≡ empty_at (end_with into k (unfilled tag)) tag into.any_keys
+  pub appended : IsAppended old into k (tag_and_zeros tag) new
+  pub empty : body ≡ empty_at (end_with into k (tag_and_zeros tag)) tag into.any_keys
 
 -- the body is one of an entry that is open with this key after what `into` has, and nothing is open in
 -- the body: the key and the body's type tag are there, and the body begins four bytes after them

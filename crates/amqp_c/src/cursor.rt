@@ -244,8 +244,8 @@ fn first_of(bytes: &[u8], left: Span, key: Span) -> Option<Entry>
     };
     Some(Entry {
         key,
-        value: entry.value.moved(left.offset),
-        content: entry.content.moved(left.offset),
+        value: entry.value.span_after(left.offset),
+        content: entry.content.span_after(left.offset),
         ..entry
     })
 }

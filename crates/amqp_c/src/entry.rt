@@ -156,47 +156,47 @@ fn read_number<'a>(
     match amqp_type {
         AMQPType::Boolean => {
             let (rest, b) = parse_boolean(payload)?;
-            Ok((rest, Number::unscaled(u64::from(b))))
+            Ok((rest, Number::from_bits(u64::from(b))))
         }
         AMQPType::ShortShortInt => {
             let (rest, n) = parse_short_short_int(payload)?;
-            Ok((rest, Number::unscaled(i64::from(n).cast_unsigned())))
+            Ok((rest, Number::from_bits(i64::from(n).cast_unsigned())))
         }
         AMQPType::ShortInt => {
             let (rest, n) = parse_short_int(payload)?;
-            Ok((rest, Number::unscaled(i64::from(n).cast_unsigned())))
+            Ok((rest, Number::from_bits(i64::from(n).cast_unsigned())))
         }
         AMQPType::LongInt => {
             let (rest, n) = parse_long_int(payload)?;
-            Ok((rest, Number::unscaled(i64::from(n).cast_unsigned())))
+            Ok((rest, Number::from_bits(i64::from(n).cast_unsigned())))
         }
         AMQPType::ShortShortUInt => {
             let (rest, n) = parse_short_short_uint(payload)?;
-            Ok((rest, Number::unscaled(u64::from(n))))
+            Ok((rest, Number::from_bits(u64::from(n))))
         }
         AMQPType::ShortUInt => {
             let (rest, n) = parse_short_uint(payload)?;
-            Ok((rest, Number::unscaled(u64::from(n))))
+            Ok((rest, Number::from_bits(u64::from(n))))
         }
         AMQPType::LongUInt => {
             let (rest, n) = parse_long_uint(payload)?;
-            Ok((rest, Number::unscaled(u64::from(n))))
+            Ok((rest, Number::from_bits(u64::from(n))))
         }
         AMQPType::LongLongInt => {
             let (rest, n) = parse_long_long_int(payload)?;
-            Ok((rest, Number::unscaled(n.cast_unsigned())))
+            Ok((rest, Number::from_bits(n.cast_unsigned())))
         }
         AMQPType::Timestamp => {
             let (rest, n) = parse_timestamp(payload)?;
-            Ok((rest, Number::unscaled(n)))
+            Ok((rest, Number::from_bits(n)))
         }
         AMQPType::Float => {
             let (rest, x) = parse_float(payload)?;
-            Ok((rest, Number::unscaled(u64::from(x.to_bits()))))
+            Ok((rest, Number::from_bits(u64::from(x.to_bits()))))
         }
         AMQPType::Double => {
             let (rest, x) = parse_double(payload)?;
-            Ok((rest, Number::unscaled(x.to_bits())))
+            Ok((rest, Number::from_bits(x.to_bits())))
         }
         AMQPType::DecimalValue => {
             let (rest, decimal) = parse_decimal_value(payload)?;
@@ -208,7 +208,7 @@ fn read_number<'a>(
                 },
             ))
         }
-        AMQPType::Void => Ok((payload, Number::unscaled(0))),
+        AMQPType::Void => Ok((payload, Number::from_bits(0))),
         AMQPType::LongLongUInt
         | AMQPType::ShortString
         | AMQPType::LongString
@@ -221,7 +221,7 @@ fn read_number<'a>(
 impl Number {
     /// The number with these bits, which is no decimal.
     #[inline(always)]
-    fn unscaled(bits: u64) -> Number
+    fn from_bits(bits: u64) -> Number
         ensures { (result.bits ≡ bits) × (result.scale ≡ 0) }
     {
         Number { bits, scale: 0 }

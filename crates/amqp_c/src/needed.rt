@@ -29,7 +29,7 @@ pub fn store_needed(
         return store_needed_far(into, key_length, tag, content_length, count);
     }
     return_count(
-        into.needed_after(end, key_length, tag, content_length),
+        into.needed_capacity_after(end, key_length, tag, content_length),
         count,
     )
 }
@@ -46,14 +46,19 @@ fn store_needed_far(
 ) -> i32
     ensures { GivesNeeded into.now key_length tag content_length result count.new }
 {
-    return_count(into.needed(key_length, tag, content_length), count)
+    return_count(into.needed_capacity(key_length, tag, content_length), count)
 }
 
 impl Container {
     /// How large a buffer has to be at least so that an entry can be put after what is written, by
     /// the length of its key, its type tag, and how many bytes its value has after their length.
     #[inline(always)]
-    fn needed(&self, key_length: usize, tag: u8, content_length: usize) -> Result<usize, Fault>
+    fn needed_capacity(
+        &self,
+        key_length: usize,
+        tag: u8,
+        content_length: usize,
+    ) -> Result<usize, Fault>
         ensures { MatchResult result
             (IsNeeded self.now key_length tag content_length)
             (RefusesNeeded self.now key_length tag content_length) }
@@ -61,12 +66,12 @@ impl Container {
         let Some(end) = self.written.end_in(usize::MAX / 2) else {
             return Err(Fault::Invalid);
         };
-        self.needed_after(end, key_length, tag, content_length)
+        self.needed_capacity_after(end, key_length, tag, content_length)
     }
 
     /// It of a container whose end is known, and which a buffer can have.
     #[inline(always)]
-    fn needed_after(
+    fn needed_capacity_after(
         &self,
         end: usize,
         key_length: usize,

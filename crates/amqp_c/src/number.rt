@@ -39,7 +39,7 @@ impl Encoding {
         requires { length payload.now ≤ 8 }
         ensures { result ≡ tag ∷ payload.now }
     {
-        let bytes = padded(payload);
+        let bytes = eight_bytes(payload);
         Encoding {
             tag,
             payload: u64::from_le_bytes(bytes),
@@ -68,7 +68,7 @@ impl Encoding {
 
 /// The bytes, and then zeros.
 #[inline(always)]
-fn padded(bytes: &[u8]) -> [u8; 8]
+fn eight_bytes(bytes: &[u8]) -> [u8; 8]
     requires { length bytes.now ≤ 8 }
     ensures { take (length bytes.now) result ≡ bytes.now }
 {

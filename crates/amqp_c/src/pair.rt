@@ -1,5 +1,7 @@
 //! A pair of a table that is written at once.
 
+// The tactic at the function names the lemmas that two numbers are at most their bitwise or.
+
 ghost use Rattle.std.specs.Prelude.{◌≡◌, ◌+◌, ◌≤◌, ◌++◌, length, IfOk, MatchBool, MatchResult};
 ghost use Rattle.amqp_value_core.specs.Values.{Tree};
 ghost use Rattle.amqp_value_core.specs.Grammar.{short_field};

@@ -49,7 +49,7 @@ pub fn store_grown(done: Result<Container, Fault>, into: &mut Container) -> i32
             into.written = grown.written;
             OK
         }
-        Err(fault) => refused(fault, into),
+        Err(fault) => store_fault(fault, into),
     }
 }
 
@@ -71,7 +71,7 @@ pub fn store_opened(
             into.inner = 1;
             OK
         }
-        Err(fault) => refused(fault, into),
+        Err(fault) => store_fault(fault, into),
     }
 }
 
@@ -93,7 +93,7 @@ pub fn store_closed(done: Result<Container, Fault>, into: &mut Container) -> i32
 
 /// Leaves the capacity that a buffer should have that is too small.
 #[inline(always)]
-fn refused(fault: Fault, into: &mut Container) -> i32
+fn store_fault(fault: Fault, into: &mut Container) -> i32
     ensures returned { result ≡ code_of fault }
     ensures container { into.new ≡ needing fault into.old }
 {

@@ -2,7 +2,7 @@
 use Rattle.std.proofs.Common.{◌≡◌, ◌≢◌, ℕ, zero, suc, ◌+◌, ◌-◌, ◌<◌, ◌≤◌, true, false, ◌&&◌, List, [], ◌∷◌, ◌++◌, length, take, drop, get_or, refl, sym, ap, ◌∙◌, subst, arith, append_assoc, append-nil, length-drop, take-append-drop, drop-cons, add-zero, le-leb}
 use Rattle.std.proofs.lemmas.Bool.{or_parts, lt-leb}
 use Rattle.std.proofs.lemmas.List.{take_more}
-use Rattle.amqp_c_alloc.specs.Nesting.{place_after, opened_after, stays_within, nests_within, is_mark, IsTooDeepAt, Reaches, Passes}
+use Rattle.amqp_c_alloc.specs.Nesting.{place_after, depth_after, stays_within, nests_within, is_mark, IsTooDeepAt, Reaches, Passes}
 use Rattle.amqp_c_alloc.specs.declared.nesting.Place.{Place}
 use Rattle.amqp_c_alloc.specs.declared.nesting.Place.TheVariants.{Outside, InString, Escaped}
 use Rattle.amqp_c_alloc.specs.declared.nesting.Reading.{Reading}
@@ -15,20 +15,20 @@ next_taken : (t : List ℕ) (at : ℕ) (rest : List ℕ) → at < length t → t
 next_taken t at rest inside = ap (λ x. x ++ rest) (take_more t at 0 inside) ∙ append_assoc (take at t) (get_or t at 0 ∷ []) rest
 
 -- a byte is passed
-pub passed : (most : ℕ) (t : List ℕ) (at : ℕ) (p : Place) (n : ℕ) → at < length t → opened_after p (get_or t at 0) n ≤ most → Decides most t at p n
-    → Decides most t (at + 1) (place_after p (get_or t at 0)) (opened_after p (get_or t at 0) n)
+pub passed : (most : ℕ) (t : List ℕ) (at : ℕ) (p : Place) (n : ℕ) → at < length t → depth_after p (get_or t at 0) n ≤ most → Decides most t at p n
+    → Decides most t (at + 1) (place_after p (get_or t at 0)) (depth_after p (get_or t at 0) n)
 passed most t at p n inside few so rest =
     let c = get_or t at 0 in
-    let now = opened_after p c n in
+    let now = depth_after p c n in
     ap (nests_within most) (next_taken t at rest inside) ∙ so (c ∷ rest) ∙ ap (λ b. b && stays_within most (place_after p c) now rest) (le-leb now most few)
 
 -- a backslash in a string is passed, and the byte after it
-pub escape_passed : (most : ℕ) (t : List ℕ) (r : Reading) (n : ℕ) → Reaches most t r → r.at + 1 < length t → place_after r.place (get_or t r.at 0) ≡ Escaped → n ≡ opened_after r.place (get_or t r.at 0) r.depth → n ≤ most
+pub escape_passed : (most : ℕ) (t : List ℕ) (r : Reading) (n : ℕ) → Reaches most t r → r.at + 1 < length t → place_after r.place (get_or t r.at 0) ≡ Escaped → n ≡ depth_after r.place (get_or t r.at 0) r.depth → n ≤ most
     → Passes most t r (record { at = r.at + 1 + 1; place = InString; depth = n })
 escape_passed most t r n so inside escaped is few =
     let c = get_or t r.at 0 in
     let next = passed most t r.at r.place r.depth (omega arith) (omega arith) so.decides in
-    let after : Decides most t (r.at + 1) Escaped n = λ rest. next rest ∙ ap (λ q. stays_within most q (opened_after r.place c r.depth) rest) escaped ∙ ap (λ m. stays_within most Escaped m rest) (sym is) in
+    let after : Decides most t (r.at + 1) Escaped n = λ rest. next rest ∙ ap (λ q. stays_within most q (depth_after r.place c r.depth) rest) escaped ∙ ap (λ m. stays_within most Escaped m rest) (sym is) in
     record {
       reached = record {
         inside = omega arith;
@@ -41,10 +41,10 @@ escape_passed most t r n so inside escaped is few =
     }
 
 -- or it opens too many
-pub too_deep : (most : ℕ) (t : List ℕ) (at : ℕ) (p : Place) (n : ℕ) → at < length t → most < opened_after p (get_or t at 0) n → Decides most t at p n → IsTooDeepAt most t at
+pub too_deep : (most : ℕ) (t : List ℕ) (at : ℕ) (p : Place) (n : ℕ) → at < length t → most < depth_after p (get_or t at 0) n → Decides most t at p n → IsTooDeepAt most t at
 too_deep most t at p n inside many so =
     let c = get_or t at 0 in
-    let now = opened_after p c n in
+    let now = depth_after p c n in
     let stops : (rest : List ℕ) → stays_within most p n (c ∷ rest) ≡ false = λ rest. ap (λ b. b && stays_within most (place_after p c) now rest) (lt-leb now most many) in
     record {
       inside = inside;
@@ -54,7 +54,7 @@ too_deep most t at p n inside many so =
     }
 
 -- a byte that is no mark changes nothing
-stays_at : (p : Place) (c n : ℕ) → p ≢ Escaped → is_mark c ≡ false → (place_after p c ≡ p) × (opened_after p c n ≡ n)
+stays_at : (p : Place) (c n : ℕ) → p ≢ Escaped → is_mark c ≡ false → (place_after p c ≡ p) × (depth_after p c n ≡ n)
 stays_at Outside c n outside none = grind (arith, or_parts)
 stays_at InString c n inside none = grind (arith, or_parts)
 stays_at Escaped c n escaped none = absurd (escaped refl)
@@ -65,8 +65,8 @@ unmarked most t at zero p n few whole inside none so = subst (λ e. Decides most
 unmarked most t at (suc r) p n few whole inside none so =
     let c = get_or t at 0 in
     let (place, count) = stays_at p c n whole (none at (omega arith) (omega arith)) in
-    let next : Decides most t (at + 1) (place_after p c) (opened_after p c n) = passed most t at p n (omega arith) (omega (arith, count)) so in
-    let same : Decides most t (at + 1) p n = λ rest. next rest ∙ ap (λ q. stays_within most q (opened_after p c n) rest) place ∙ ap (λ m. stays_within most p m rest) count in
+    let next : Decides most t (at + 1) (place_after p c) (depth_after p c n) = passed most t at p n (omega arith) (omega (arith, count)) so in
+    let same : Decides most t (at + 1) p n = λ rest. next rest ∙ ap (λ q. stays_within most q (depth_after p c n) rest) place ∙ ap (λ m. stays_within most p m rest) count in
     let ends : at + 1 + r ≡ at + suc r = omega arith in
     subst (λ e. Decides most t e p n) ends (unmarked most t (at + 1) r p n few whole (omega arith) (λ k from to. none k (omega arith) (omega arith)) same)
 
@@ -83,7 +83,7 @@ reaches_later most t r k so more fits none =
     }
 
 -- few bytes can't open too many
-opens_one : (p : Place) (c n : ℕ) → opened_after p c n ≤ suc n
+opens_one : (p : Place) (c n : ℕ) → depth_after p c n ≤ suc n
 opens_one Outside c n = grind arith
 opens_one InString c n = omega arith
 opens_one Escaped c n = omega arith
@@ -91,7 +91,7 @@ opens_one Escaped c n = omega arith
 few_stay : (most : ℕ) (p : Place) (n : ℕ) (t : List ℕ) → n + length t ≤ most → stays_within most p n t ≡ true
 few_stay most p n [] few = refl
 few_stay most p n (c ∷ t) few =
-    let now = opened_after p c n in
+    let now = depth_after p c n in
     let one = opens_one p c n in
     ap (λ b. b && stays_within most (place_after p c) now t) (le-leb now most (omega arith)) ∙ few_stay most (place_after p c) now t (omega arith)
 

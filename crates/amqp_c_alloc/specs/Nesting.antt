@@ -12,16 +12,16 @@ place_after Escaped c = InString
 
 -- how many arrays and objects are open after c, with that many open before it: outside of strings a
 -- bracket opens or closes one
-abbrev pub opened_after : Place → ℕ → ℕ → ℕ
-opened_after Outside c n = if c == 91 || c == 123 then suc n else (if c == 93 || c == 125 then n - 1 else n)
-opened_after InString c n = n
-opened_after Escaped c n = n
+abbrev pub depth_after : Place → ℕ → ℕ → ℕ
+depth_after Outside c n = if c == 91 || c == 123 then suc n else (if c == 93 || c == 125 then n - 1 else n)
+depth_after InString c n = n
+depth_after Escaped c n = n
 
 -- from such a place, with that many open, at most `most` are ever open
 abbrev pub stays_within : ℕ → Place → ℕ → List ℕ → Bool
 stays_within most place n [] = true
 stays_within most place n (c ∷ t) =
-    let now = opened_after place c n in
+    let now = depth_after place c n in
     nat_le now most && stays_within most (place_after place c) now t
 
 -- at most `most` arrays and objects of a text are open at once

@@ -46,12 +46,12 @@ pub fn put_encoding(alloc: Global, text: &[u8], nesting: u32, buffer: &mut [u8])
             done: put(&bytes, buffer),
             problem: None,
         },
-        Err(error) => refused(error, text.len()),
+        Err(error) => failure_of(error, text.len()),
     }
 }
 
 // What comes of a text for which there is no encoding.
-fn refused(error: EncodeError, len: usize) -> EncodingPut
+fn failure_of(error: EncodeError, len: usize) -> EncodingPut
     ensures done { result.done ≡ Err (text_fault error) }
     ensures problem { result.problem ≡ text_problem error len }
 {
@@ -61,9 +61,9 @@ fn refused(error: EncodeError, len: usize) -> EncodingPut
             not_json(TextProblemKind::NoValue, at.min(len))
         }
         EncodeError::Json(JsonError::OutOfMemory) | EncodeError::OutOfMemory => {
-            not_put(Fault::OutOfMemory)
+            failure_without_problem(Fault::OutOfMemory)
         }
-        EncodeError::NoTypeTag | EncodeError::TooLong => not_put(Fault::NoEncoding),
+        EncodeError::NoTypeTag | EncodeError::TooLong => failure_without_problem(Fault::NoEncoding),
     }
 }
 
@@ -79,7 +79,7 @@ fn not_json(kind: TextProblemKind, offset: usize) -> EncodingPut
 }
 
 // Nothing is put, for another reason.
-fn not_put(fault: Fault) -> EncodingPut
+fn failure_without_problem(fault: Fault) -> EncodingPut
     ensures done { result.done ≡ Err fault }
     ensures problem { result.problem ≡ None }
 {

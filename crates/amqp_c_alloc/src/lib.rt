@@ -25,7 +25,7 @@ use decode::put_json;
 use encode::put_encoding;
 use problem::{Problem, store_problem};
 use std::alloc::Global;
-use warnings::{Warnings, store_warnings, warned_of_table, warned_of_value};
+use warnings::{Warnings, store_warnings, warnings_of_table, warnings_of_value};
 
 /// Writes the canonical encoding of the value that `bytes` begin with to the start of `buffer`. Of the stack
 /// it takes what `canonical_len`, `parse_value_within` and `gen_value` do: docs/PROMISES.md has the
@@ -128,7 +128,7 @@ pub extern "C" fn amqpv_first_warnings(
     ensures { WarnsOfValue depth frame_max levels bytes.now first.old result first.new }
 {
     store_warnings(
-        warned_of_value(alloc, bytes, depth, frame_max, levels),
+        warnings_of_value(alloc, bytes, depth, frame_max, levels),
         first,
     )
 }
@@ -146,7 +146,7 @@ pub extern "C" fn amqpv_first_warnings_in_table(
     ensures { WarnsOfTable depth frame_max levels bytes.now first.old result first.new }
 {
     store_warnings(
-        warned_of_table(alloc, bytes, depth, frame_max, levels),
+        warnings_of_table(alloc, bytes, depth, frame_max, levels),
         first,
     )
 }

@@ -3,7 +3,7 @@
 ghost use Rattle.std.specs.Prelude.{◌≡◌, ◌≢◌, ◌==◌, ◌||◌, ◌≤◌, ◌<◌, ℕ, ◌+◌, length, map, MatchOption, MatchResult, true};
 ghost use Rattle.std.specs.Int.{bit_at};
 ghost use Rattle.std.specs.Simd.Lanes.{mask_l};
-ghost use Rattle.amqp_c_alloc.specs.Nesting.{nests_within, opened_after, place_after, is_mark, IsTooDeepAt, Reaches, Passes, PassesBlock};
+ghost use Rattle.amqp_c_alloc.specs.Nesting.{nests_within, depth_after, place_after, is_mark, IsTooDeepAt, Reaches, Passes, PassesBlock};
 
 use std::simd::prelude::*;
 
@@ -119,7 +119,7 @@ fn pass(text: &[u8], from: Reading, most: u32) -> Result<Reading, usize>
     ensures { MatchResult result (Passes most text.now from) (IsTooDeepAt most text.now) }
 {
     let byte = text[from.at];
-    let Some(depth) = opened_after(from.place, byte, from.depth, most) else {
+    let Some(depth) = depth_after(from.place, byte, from.depth, most) else {
         return Err(from.at);
     };
     let place = place_after(from.place, byte);
@@ -137,11 +137,11 @@ fn pass(text: &[u8], from: Reading, most: u32) -> Result<Reading, usize>
 // How many are open after a byte, with that many open before it; `None` if these are more than
 // `most`.
 #[inline(always)]
-fn opened_after(place: Place, byte: u8, count: u32, most: u32) -> Option<u32>
+fn depth_after(place: Place, byte: u8, count: u32, most: u32) -> Option<u32>
     requires { count ≤ most }
     ensures { MatchOption result
-        (most < opened_after place byte count)
-        (λ now. (now ≡ opened_after place byte count) × (now ≤ most)) }
+        (most < depth_after place byte count)
+        (λ now. (now ≡ depth_after place byte count) × (now ≤ most)) }
 {
     match place {
         Place::Outside if opens(byte) => {

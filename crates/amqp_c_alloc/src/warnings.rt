@@ -47,7 +47,7 @@ impl Warnings {
 }
 
 /// What is doubtful in the value at the start.
-pub fn warned_of_value(
+pub fn warnings_of_value(
     alloc: Global,
     bytes: &[u8],
     depth: u32,
@@ -64,7 +64,7 @@ pub fn warned_of_value(
 }
 
 /// What is doubtful in the table without its type tag at the start.
-pub fn warned_of_table(
+pub fn warnings_of_table(
     alloc: Global,
     bytes: &[u8],
     depth: u32,

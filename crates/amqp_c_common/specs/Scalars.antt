@@ -6,16 +6,16 @@ use Rattle.amqp_value_core.specs.declared.types.amqp_type.AMQPType.TheVariants a
 use Rattle.amqp_value_core.specs.Values.{Tree, Scalar, boolean, number, decimal, void, scalar}
 
 -- a number in 64 bits: a signed one in two's complement, and the bits of every other as they are
-abbrev pub widened : AMQPType → ℕ → ℕ
-widened amqp.ShortShortInt n = cast_unsigned w64 (cast_signed w8 n)
-widened amqp.ShortInt n = cast_unsigned w64 (cast_signed w16 n)
-widened amqp.LongInt n = cast_unsigned w64 (cast_signed w32 n)
-widened _ n = n
+abbrev pub bits_of_number : AMQPType → ℕ → ℕ
+bits_of_number amqp.ShortShortInt n = cast_unsigned w64 (cast_signed w8 n)
+bits_of_number amqp.ShortInt n = cast_unsigned w64 (cast_signed w16 n)
+bits_of_number amqp.LongInt n = cast_unsigned w64 (cast_signed w32 n)
+bits_of_number _ n = n
 
 -- a boolean is 0 or 1, and a decimal has its number
 abbrev pub scalar_bits : Scalar → ℕ
 scalar_bits (boolean b) = if b then 1 else 0
-scalar_bits (number type n) = widened type n
+scalar_bits (number type n) = bits_of_number type n
 scalar_bits (decimal scale n) = n
 scalar_bits void = 0
 

@@ -11,8 +11,8 @@ abbrev pub SpanIsIn : ℕ → Span → Type 0
 SpanIsIn n p = p.offset + p.length ≤ n
 
 -- the span of p's bytes, if n more are before them
-abbrev pub moved : ℕ → Span → Span
-moved n p = record { offset = p.offset + n; length = p.length }
+abbrev pub span_after : ℕ → Span → Span
+span_after n p = record { offset = p.offset + n; length = p.length }
 
 -- the bytes of p after those of q
 abbrev pub rest_after : Span → Span → Span

@@ -1,7 +1,7 @@
 //! Bytes by position.
 
 ghost use Rattle.std.specs.Prelude.{◌≡◌, ◌+◌, ◌<◌, ◌≤◌, ◌^◌, length, MatchOption};
-ghost use Rattle.amqp_c_common.specs.Spans.{part, SpanIsIn, moved, rest_after, last};
+ghost use Rattle.amqp_c_common.specs.Spans.{part, SpanIsIn, span_after, rest_after, last};
 
 /// Bytes, by how many are before them and how many there are.
 #[repr(C)]
@@ -48,9 +48,9 @@ impl Span {
 
     /// The span, with that many bytes more before it.
     #[inline]
-    pub fn moved(self, by: usize) -> Span
+    pub fn span_after(self, by: usize) -> Span
         requires { self.offset + by < 2 ^ 64 }
-        ensures { result ≡ moved by self }
+        ensures { result ≡ span_after by self }
     {
         Span {
             offset: self.offset + by,

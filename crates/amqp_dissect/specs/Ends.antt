@@ -4,7 +4,7 @@ use Rattle.amqp_value_core.specs.Values.{Tree}
 use Rattle.amqp_value_core.specs.Outcomes.{found}
 use Rattle.amqp_value_core.specs.Nesting.{OutcomeWithin}
 use Rattle.amq_protocol_types.specs.declared.parsing.errors.ErrorKind.TheVariants.{MapOpt, Eof}
-use Rattle.amq_protocol_types.specs.parsing.Refusals.{Refusal, lacks, refused}
+use Rattle.amq_protocol_types.specs.parsing.Refusals.{Refusal, lacks, error_of_kind}
 use Rattle.amq_protocol_types.specs.parsing.ParseResults.{IsRefusal}
 use Rattle.amq_protocol_types.specs.parsing.Headers.{extent}
 use Rattle.amq_protocol_types.specs.parsing.Limits.{Within}
@@ -20,9 +20,9 @@ use Rattle.amqp_dissect.specs.Problems.{IsNoValue}
 -- all that is in a body that it isn't entries
 abbrev pub refusal_of : ℕ → Problem → Refusal
 refusal_of zero NoTypeTag = lacks 1
-refusal_of zero (UnknownTypeTag c) = refused MapOpt
+refusal_of zero (UnknownTypeTag c) = error_of_kind MapOpt
 refusal_of (suc zero) (Cut type n) = lacks n
-refusal_of _ _ = refused Eof
+refusal_of _ _ = error_of_kind Eof
 
 -- after n bytes of s its value ends, as reading within the limits has it; or the first entry that
 -- isn't one is there, and reading returns that error; or, if n is 0, the value is too large

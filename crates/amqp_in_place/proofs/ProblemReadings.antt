@@ -25,7 +25,7 @@ use Rattle.amqp_in_place.specs.declared.problems.ProblemKind.{ProblemKind}
 use Rattle.amqp_in_place.specs.declared.problems.ProblemKind.TheVariants.{UnknownTag, Cut, KeyCut, KeyNotUtf8, TooLarge}
 use Rattle.amqp_in_place.specs.declared.problems.Rules.{Rules}
 use Rattle.amqp_in_place.specs.declared.problems.Rules.TheVariants.{Reading as ByReading}
-use Rattle.amqp_in_place.specs.Problems.{Search, here, further, in_entries, in_payload, in_value, in_pair, pair_len, inside, problem_of, problem_in_table_of, untagged}
+use Rattle.amqp_in_place.specs.Problems.{Search, here, further, in_entries, in_payload, in_value, in_pair, pair_len, inside, problem_of, problem_in_table_of, without_tag}
 use Rattle.amqp_in_place.specs.ProblemResults.{FindsValue, FailsAt}
 use Rattle.amqp_in_place.proofs.Canonicals.{no_short_letter}
 use Rattle.amqp_in_place.proofs.FirstProblems.{counted_there, entry_passed, entry_stops, first_there}
@@ -373,7 +373,7 @@ module _ (l : Limits) (s : List ℕ) (bytes : IsBytes s) (fits : extent s ≤ l.
   fails None tells = tt
   fails (Some p) why = fails_at p.offset p.kind why
 
-  fails_untagged : (x : Option Problem) → ProblemExplains (extent s) s here_read x → IfSome (option_map untagged x) (λ p. FailsAt l s p.offset p.kind)
+  fails_untagged : (x : Option Problem) → ProblemExplains (extent s) s here_read x → IfSome (option_map without_tag x) (λ p. FailsAt l s p.offset p.kind)
   fails_untagged None tells = tt
   fails_untagged (Some p) why = fails_after p.offset p.kind why
 
@@ -420,10 +420,10 @@ module _ (rules : Rules) (l : Limits) (t : List ℕ) (bytes : IsBytes t) (is : r
   pub table_read_if_none : x ≡ problem_in_table_of rules l t → IsNone x ↔ FindsValue l with_tag
   table_read_if_none =
       let P : Option Problem → Type 0 = λ y. IsNone y ↔ FindsValue l with_tag in
-      let by : (y : Option Problem) → P y → P (option_map untagged y) = λ y. elim y as (λ z. P z → P (option_map untagged z)) [ None ↦ λ same. same | Some p ↦ λ same. same ] in
+      let by : (y : Option Problem) → P y → P (option_map without_tag y) = λ y. elim y as (λ z. P z → P (option_map without_tag z)) [ None ↦ λ same. same | Some p ↦ λ same. same ] in
       of_first_in_table P (by (problem_of ByReading l with_tag) (reads_if_none ByReading l with_tag with_tag_bytes refl (problem_of ByReading l with_tag) refl))
 
   pub table_fails_if_some : x ≡ problem_in_table_of rules l t → IfSome x (λ p. FailsAt l with_tag p.offset p.kind)
   table_fails_if_some =
       let P : Option Problem → Type 0 = λ y. IfSome y (λ p. FailsAt l with_tag p.offset p.kind) in
-      of_first_in_table P (by_limits (λ y. P (option_map untagged y)) l with_tag with_tag_bytes (λ large. large) (fails_untagged l with_tag with_tag_bytes))
+      of_first_in_table P (by_limits (λ y. P (option_map without_tag y)) l with_tag with_tag_bytes (λ large. large) (fails_untagged l with_tag with_tag_bytes))

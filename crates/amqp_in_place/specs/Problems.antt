@@ -108,8 +108,8 @@ problem_of rules l s = if nat_lt l.frame (extent s) then Some (here TooLarge) el
 
 -- that in a table without its type tag, with offsets from its length on: as with the type tag, and
 -- one byte less
-abbrev pub untagged : Problem → Problem
-untagged p = record { offset = p.offset - 1; kind = p.kind }
+abbrev pub without_tag : Problem → Problem
+without_tag p = record { offset = p.offset - 1; kind = p.kind }
 
 abbrev pub problem_in_table_of : Rules → Limits → Search
-problem_in_table_of rules l s = option_map untagged (problem_of rules l (id_of amqp.FieldTable ∷ s))
+problem_in_table_of rules l s = option_map without_tag (problem_of rules l (id_of amqp.FieldTable ∷ s))

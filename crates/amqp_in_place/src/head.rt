@@ -14,7 +14,7 @@ ghost use Rattle.amqp_in_place.specs.InPlaceResults.{HeadRefuses, NeedsNoMemory}
 ghost use Rattle.amqp_in_place.specs.Heads.{RawHeadIs, IsHead, IsKeyFrame, AtAnyDepth};
 
 use super::refs::ValueRef;
-use amq_protocol_types::parsing::errors::{lacks, refused};
+use amq_protocol_types::parsing::errors::{error_of_kind, lacks};
 use amq_protocol_types::parsing::{
     ErrorKind, Limits, ParserResult, parse_boolean, parse_decimal_value, parse_double, parse_float,
     parse_length_prefixed, parse_long_int, parse_long_long_int, parse_long_uint, parse_short_int,
@@ -144,7 +144,7 @@ pub(crate) fn read_table_head<'a>(
     ensures no_memory { IfErr result NeedsNoMemory }
 {
     if tagged_table_len(i) > limits.frame as usize {
-        return Err(refused(ErrorKind::TooLarge));
+        return Err(error_of_kind(ErrorKind::TooLarge));
     }
     parse_length_prefixed(i)
 }

@@ -51,7 +51,7 @@ pub fn measure_value(bytes: &[u8], limits: Limits) -> Result<Measure, ParserErro
         OfEncoding bytes.now (λ w v p. (count v ≤ m.values) × (depth v ≤ m.levels))) }
 {
     let (value, rest) = read_in_place(bytes, limits)?;
-    Ok(held_by_value(value).in_bytes(bytes.len() - rest.len()))
+    Ok(counts_of_value(value).in_bytes(bytes.len() - rest.len()))
 }
 
 /// Measures the table at the start of the bytes as `measure_value` does, without its type tag: its
@@ -74,7 +74,7 @@ pub fn measure_table(bytes: &[u8], limits: Limits) -> Result<Measure, ParserErro
         (λ w v p. (count v ≤ m.values) × (depth v ≤ m.levels))) }
 {
     let (table, rest) = read_table_in_place(bytes, limits)?;
-    let held = held_by_value(ValueRef::FieldTable(table));
+    let held = counts_of_value(ValueRef::FieldTable(table));
     Ok(held.in_bytes(bytes.len() - rest.len()))
 }
 
@@ -127,14 +127,14 @@ impl Held {
 
 // What a value holds: itself, and if it is a container, what its body holds.
 #[cycle(measurer)]
-fn held_by_value<'a>(value: ValueRef<'a>) -> Held
+fn counts_of_value<'a>(value: ValueRef<'a>) -> Held
     requires { IsValueView value }
     ensures { (s rest : List ℕ) → IsViewIn s value.entry rest
         → HoldsFirst s rest result.values result.levels }
 {
     match value {
-        ValueRef::FieldArray(array) => held_by_values(array.body()).with_container(),
-        ValueRef::FieldTable(table) => held_by_pairs(table.body()).with_container(),
+        ValueRef::FieldArray(array) => counts_of_values(array.body()).with_container(),
+        ValueRef::FieldTable(table) => counts_of_pairs(table.body()).with_container(),
         _ => Held {
             values: 1,
             levels: 0,
@@ -144,7 +144,7 @@ fn held_by_value<'a>(value: ValueRef<'a>) -> Held
 
 // What an array's body holds.
 #[cycle(measurer)]
-fn held_by_values<'a>(body: SliceInput<'a>) -> Held
+fn counts_of_values<'a>(body: SliceInput<'a>) -> Held
     requires { HasValues (slice_bytes body) × (length (slice_bytes body) < 2 ^ 32) }
     ensures { HoldsValues (slice_bytes body.entry) result.values result.levels }
 {
@@ -154,7 +154,7 @@ fn held_by_values<'a>(body: SliceInput<'a>) -> Held
     };
     let mut rest = body;
     'values: while let Some((value, after)) = next_value(rest) {
-        held = held.and(held_by_value(value));
+        held = held.and(counts_of_value(value));
         rest = after;
     }
     held
@@ -162,7 +162,7 @@ fn held_by_values<'a>(body: SliceInput<'a>) -> Held
 
 // What a table's body holds: of each pair its value.
 #[cycle(measurer)]
-fn held_by_pairs<'a>(body: SliceInput<'a>) -> Held
+fn counts_of_pairs<'a>(body: SliceInput<'a>) -> Held
     requires { HasPairs (slice_bytes body) × (length (slice_bytes body) < 2 ^ 32) }
     ensures { HoldsPairs (slice_bytes body.entry) result.values result.levels }
 {
@@ -172,7 +172,7 @@ fn held_by_pairs<'a>(body: SliceInput<'a>) -> Held
     };
     let mut rest = body;
     'pairs: while let Some((_, value, after)) = next_pair(rest) {
-        held = held.and(held_by_value(value));
+        held = held.and(counts_of_value(value));
         rest = after;
     }
     held

@@ -6,7 +6,7 @@ ghost use Rattle.amqp_value_core.specs.Layouts.{fixed};
 ghost use Rattle.amqp_value_core.specs.Outcomes.{length_field};
 ghost use Rattle.amq_protocol_types.specs.parsing.Headers.{extent, raw_extent, first_of};
 ghost use Rattle.amq_protocol_types.specs.parsing.Untagged.{tagged};
-ghost use Rattle.amqp_in_place.specs.Problems.{known, allow_key, want_finite, are_ones, here, further, untagged, in_payload, value_problem, values_problem, pair_problem, pairs_problem, pair_len, inside, problem_of, problem_in_table_of};
+ghost use Rattle.amqp_in_place.specs.Problems.{known, allow_key, want_finite, are_ones, here, further, without_tag, in_payload, value_problem, values_problem, pair_problem, pairs_problem, pair_len, inside, problem_of, problem_in_table_of};
 ghost use Rattle.amqp_in_place.specs.ProblemResults.{GoesOver, FindsValue, FailsAt};
 
 use crate::read::check_utf8;
@@ -76,8 +76,8 @@ impl Problem {
     }
 
     // This problem, by its offset without the type tag.
-    fn untagged(self) -> Self
-        ensures { result ≡ untagged self }
+    fn without_tag(self) -> Self
+        ensures { result ≡ without_tag self }
     {
         Problem {
             offset: self.offset.saturating_sub(1),
@@ -128,7 +128,7 @@ pub fn first_problem_in_table(table: &[u8], rules: Rules, limits: Limits) -> Opt
     }
     match payload(AMQPType::FieldTable, table, len, rules, limits.depth) {
         Ok(_) => None,
-        Err(problem) => Some(problem.untagged()),
+        Err(problem) => Some(problem.without_tag()),
     }
 }
 

@@ -20,7 +20,7 @@ ghost use Rattle.amqp_in_place.specs.Places.{IsViewIn};
 
 use super::head::{Head, read_head, read_key, read_table_head};
 use super::refs::{ArrayRef, TableRef, ValueRef};
-use amq_protocol_types::parsing::errors::{lacks, refused};
+use amq_protocol_types::parsing::errors::{error_of_kind, lacks};
 use amq_protocol_types::parsing::header::{Header, header_of};
 use amq_protocol_types::parsing::{ErrorKind, Limits, ParserError, ParserResult};
 use amqp_value_core::input::{ParsableInput, SliceInput};
@@ -44,8 +44,8 @@ pub fn read_in_place(bytes: &[u8], limits: Limits) -> Result<(ValueRef<'_>, &[u8
 {
     let i = SliceInput::new(bytes);
     match header_of(i, limits.frame) {
-        Header::Unknown => Err(refused(ErrorKind::MapOpt)),
-        Header::TooLarge => Err(refused(ErrorKind::TooLarge)),
+        Header::Unknown => Err(error_of_kind(ErrorKind::MapOpt)),
+        Header::TooLarge => Err(error_of_kind(ErrorKind::TooLarge)),
         Header::Lacks(n) => Err(lacks(n)),
         Header::Whole => {
             let (rest, value) = value_within(i, limits.depth as usize)?;
@@ -95,10 +95,10 @@ pub fn read_table_in_place(
 {
     let (rest, body) = read_table_head(SliceInput::new(bytes), limits)?;
     if limits.depth == 0 {
-        return Err(refused(ErrorKind::Eof));
+        return Err(error_of_kind(ErrorKind::Eof));
     }
     if !are_pairs(body, limits.depth as usize - 1) {
-        return Err(refused(ErrorKind::Eof));
+        return Err(error_of_kind(ErrorKind::Eof));
     }
     Ok((TableRef::of(body), rest.as_slice()))
 }
@@ -118,19 +118,19 @@ fn value_within<'a>(i: SliceInput<'a>, depth: usize) -> ParserResult<SliceInput<
         Head::Plain(value) => Ok((rest, value)),
         Head::FieldArray(body) => {
             if depth == 0 {
-                return Err(refused(ErrorKind::Eof));
+                return Err(error_of_kind(ErrorKind::Eof));
             }
             if !are_values(body, depth - 1) {
-                return Err(refused(ErrorKind::Eof));
+                return Err(error_of_kind(ErrorKind::Eof));
             }
             Ok((rest, ValueRef::FieldArray(ArrayRef::of(body))))
         }
         Head::FieldTable(body) => {
             if depth == 0 {
-                return Err(refused(ErrorKind::Eof));
+                return Err(error_of_kind(ErrorKind::Eof));
             }
             if !are_pairs(body, depth - 1) {
-                return Err(refused(ErrorKind::Eof));
+                return Err(error_of_kind(ErrorKind::Eof));
             }
             Ok((rest, ValueRef::FieldTable(TableRef::of(body))))
         }

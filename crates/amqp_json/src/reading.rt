@@ -81,7 +81,7 @@ pub(crate) fn bytes_of(alloc: Global, text: &str) -> Result<Vec<u8>, ValueError>
 }
 
 // the bytes of a string of hexadecimal digits, if there are N
-fn sized<const N: usize>(value: &Value) -> Option<[u8; N]>
+fn sized_bytes<const N: usize>(value: &Value) -> Option<[u8; N]>
     ensures { result ≡ sized_in N (document value.now) }
 {
     sized_of(value.as_str()?)
@@ -128,7 +128,7 @@ fn float(value: &Value) -> Option<AMQPValue>
     ensures read { option_map view result ≡ value_under amqp.Float (document value.now) }
     ensures stored { IfSome result (λ v. IsStored (view v)) }
 {
-    let bytes = sized::<4>(value)?;
+    let bytes = sized_bytes::<4>(value)?;
     Some(AMQPValue::Float(Float::from_bits(u32::from_be_bytes(bytes))))
 }
 
@@ -137,7 +137,7 @@ fn double(value: &Value) -> Option<AMQPValue>
     ensures read { option_map view result ≡ value_under amqp.Double (document value.now) }
     ensures stored { IfSome result (λ v. IsStored (view v)) }
 {
-    let bytes = sized::<8>(value)?;
+    let bytes = sized_bytes::<8>(value)?;
     Some(AMQPValue::Double(Double::from_bits(u64::from_be_bytes(bytes))))
 }
 

@@ -24,7 +24,7 @@ pub fn to_value(alloc: Global, value: &AMQPValue) -> Result<Value, AllocError>
     ensures stored { OnOk result (IsStored (view value.now)) }
     ensures plain { IsPlainTree (view value.now) → IsOk result }
 {
-    written(alloc, value)
+    json_value(alloc, value)
 }
 
 // an object of one member, the type's name and what denotes the value
@@ -77,8 +77,8 @@ pub(crate) fn needs_type_name(map: &BTreeMap<ShortString, AMQPValue>) -> bool
     }
 }
 
-#[cycle(written)]
-fn written(alloc: Global, value: &AMQPValue) -> Result<Value, AllocError>
+#[cycle(values)]
+fn json_value(alloc: Global, value: &AMQPValue) -> Result<Value, AllocError>
     ensures json { IfOk result (λ r. document r ≡ json (view value.now)) }
     ensures stored { OnOk result (IsStored (view value.now)) }
     ensures plain { IsPlainTree (view value.now) → IsOk result }
@@ -126,9 +126,9 @@ fn written(alloc: Global, value: &AMQPValue) -> Result<Value, AllocError>
             )
         }
         AMQPValue::LongString(s) => long_string(alloc, s.as_bytes()),
-        AMQPValue::FieldArray(a) => Ok(Value::Array(written_items(alloc, a.as_slice())?)),
+        AMQPValue::FieldArray(a) => Ok(Value::Array(json_items(alloc, a.as_slice())?)),
         AMQPValue::Timestamp(n) => under_type(alloc, AMQPType::Timestamp, Value::from(*n)),
-        AMQPValue::FieldTable(t) => written_table(alloc, t.inner()),
+        AMQPValue::FieldTable(t) => json_table(alloc, t.inner()),
         AMQPValue::ByteArray(a) => under_type(
             alloc,
             AMQPType::ByteArray,
@@ -138,33 +138,33 @@ fn written(alloc: Global, value: &AMQPValue) -> Result<Value, AllocError>
     }
 }
 
-#[cycle(written)]
-fn written_items(alloc: Global, items: &[AMQPValue]) -> Result<Vec<Value>, AllocError>
+#[cycle(values)]
+fn json_items(alloc: Global, items: &[AMQPValue]) -> Result<Vec<Value>, AllocError>
     ensures json { IfOk result (λ r. items_view r.items ≡ items_json (trees items.now)) }
     ensures stored { OnOk result (AreStoredTrees (trees items.now)) }
 {
     let mut values = Vec::with_capacity(alloc, items.len())?;
     for item in items {
-        values.push(written(alloc, item)?)?;
+        values.push(json_value(alloc, item)?)?;
     }
     Ok(values)
 }
 
-#[cycle(written)]
-fn written_table(alloc: Global, map: &BTreeMap<ShortString, AMQPValue>) -> Result<Value, AllocError>
+#[cycle(values)]
+fn json_table(alloc: Global, map: &BTreeMap<ShortString, AMQPValue>) -> Result<Value, AllocError>
     ensures json { IfOk result (λ r. document r
         ≡ table_json (members_json (entries map.now.entries))) }
     ensures stored { OnOk result (EntriesStored (entries map.now.entries)) }
 {
-    let object = Value::Object(written_members(alloc, map)?);
+    let object = Value::Object(json_members(alloc, map)?);
     if needs_type_name(map) {
         return under_type(alloc, AMQPType::FieldTable, object);
     }
     Ok(object)
 }
 
-#[cycle(written)]
-fn written_members(
+#[cycle(values)]
+fn json_members(
     alloc: Global,
     map: &BTreeMap<ShortString, AMQPValue>,
 ) -> Result<Map<String, Value>, AllocError>
@@ -175,7 +175,7 @@ fn written_members(
     let mut members = Map::new(alloc);
     for (key, item) in map.iter() {
         let name = String::from_str(alloc, key.as_str())?;
-        drop(members.insert(name, written(alloc, item)?)?);
+        drop(members.insert(name, json_value(alloc, item)?)?);
     }
     Ok(members)
 }

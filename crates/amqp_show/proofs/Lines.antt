@@ -1,10 +1,9 @@
 -- What is shown on the lines of `--measure` and `--encode`.
 use Rattle.std.proofs.Common.{◌≡◌, ◌<◌, ◌^◌, ◌-◌, ℕ, List, length, ap, ◌∙◌, rules}
-use Rattle.amqp_value_core.specs.Values.{Tree}
 use Rattle.amqp_value_core.specs.Nesting.{nesting}
 use Rattle.amqp_in_place.specs.Measures.{written, OfEncoding}
 use Rattle.amqp_screen.specs.Escapes.{in_text}
-use Rattle.amqp_screen.proofs.Plain.{is_plain, plain_text, plain_append, plain_decimal}
+use Rattle.amqp_screen.proofs.Plain.{plain_text, plain_append, plain_decimal}
 use Rattle.amqp_show.specs.Lines.{measures}
 use Rattle.amqp_show.specs.Text.{line}
 

@@ -1,5 +1,5 @@
 -- The lines of the parts, one after another.
-use Rattle.std.proofs.Common.{◌≡◌, ◌<◌, ◌≤◌, ◌+◌, max, ℕ, suc, Bool, true, false, IsTrue, IsFalse, Option, Some, None, List, Contains, [], ◌∷◌, ◌++◌, length, drop, get_or, refl, sym, ap, subst, ◌∙◌, append_assoc, append-nil, arith, add-one, codes}
+use Rattle.std.proofs.Common.{◌≡◌, ◌<◌, ◌≤◌, ◌+◌, max, ℕ, Bool, true, false, IsTrue, IsFalse, Option, Some, None, List, Contains, [], ◌∷◌, ◌++◌, length, drop, get_or, refl, sym, ap, subst, ◌∙◌, append_assoc, append-nil, arith, add-one, codes}
 use Rattle.std.specs.Bool.{OnTrue}
 use Rattle.std.proofs.Math.ListN.{drop_of_length-le}
 use Rattle.std.proofs.Math.Seq.{drop-cons}
@@ -10,7 +10,7 @@ use Rattle.amqp_screen.specs.declared.screen.Colour.TheVariants as colour
 use Rattle.amqp_screen.specs.declared.screen.Screen.{Screen}
 use Rattle.amqp_screen.proofs.Adding.{adds_both}
 use Rattle.amqp_show.specs.declared.notes.Note.{Note}
-use Rattle.amqp_show.specs.Parts.{IsPartShown, ShowsPart, IsLineShown, ShowsLine, AreLinesShown, ShowsParts}
+use Rattle.amqp_show.specs.Parts.{ShowsPart, IsLineShown, ShowsLine, AreLinesShown, ShowsParts}
 use Rattle.amqp_show.specs.Remarks.{note_text, remark, Remarks}
 
 -- the parts from the i-th on

@@ -1,10 +1,9 @@
 -- The tree, node by node.
-use Rattle.std.proofs.Common.{◌≡◌, ◌<◌, ◌≤◌, ◌+◌, ◌-◌, ℕ, Bool, Option, List, [], ◌∷◌, ◌++◌, length, take, drop, length-drop, get_or, refl, sym, ap, subst, ◌∙◌, append_assoc, arith}
+use Rattle.std.proofs.Common.{◌≡◌, ◌<◌, ◌≤◌, ◌+◌, ◌-◌, ℕ, Bool, Option, List, ◌∷◌, ◌++◌, length, take, drop, length-drop, get_or, refl, sym, ap, subst, ◌∙◌, append_assoc}
 use Rattle.std.proofs.Math.ListN.{drop_of_length-le}
 use Rattle.std.proofs.Math.Seq.{take-length}
 use Rattle.amqp_value_core.specs.declared.types.amqp_type.AMQPType.{AMQPType}
 use Rattle.amqp_dissect.specs.declared.part.Part.{Part}
-use Rattle.amqp_dissect.specs.declared.part.Field.{Field}
 use Rattle.amqp_screen.specs.Escapes.{in_text}
 use Rattle.amqp_screen.specs.Pushes.{AddsText}
 use Rattle.amqp_screen.specs.declared.screen.Screen.{Screen}
@@ -14,7 +13,7 @@ use Rattle.amqp_show.specs.declared.tree.Line.{Line}
 use Rattle.amqp_show.specs.declared.tree.Line.TheVariants as on
 use Rattle.amqp_show.specs.Keys.{key_of}
 use Rattle.amqp_show.specs.Remarks.{remark, Remarks}
-use Rattle.amqp_show.specs.Tree.{begun, before_value, ended, key_shown, line_after, IsTypedText, IsNode, ShowsKey, ShowsValue, ShowsNode, IsTreeAfter, ShowsTree}
+use Rattle.amqp_show.specs.Tree.{level_start, before_value, line_break, key_shown, line_after, IsTypedText, IsNode, ShowsKey, ShowsValue, ShowsNode, IsTreeAfter, ShowsTree}
 use Rattle.amqp_show.proofs.Listed.{parts_from}
 
 -- the parts from the i-th on, as a range
@@ -22,7 +21,7 @@ pub range_from : (ps : List Part) (i : ℕ) → take (length ps - i) (drop i ps)
 range_from ps i = ap (λ n. take n (drop i ps)) (sym (length-drop i ps)) ∙ take-length (drop i ps)
 
 -- a key on its line
-pub shows_key : (a b c : Screen) (line : Line) (level : ℕ) (ps : List Part) → AddsText a b (begun line level) → AddsText b c (key_shown b.has_colours (key_of ps)) → ShowsKey line level ps a c
+pub shows_key : (a b c : Screen) (line : Line) (level : ℕ) (ps : List Part) → AddsText a b (level_start line level) → AddsText b c (key_shown b.has_colours (key_of ps)) → ShowsKey line level ps a c
 shows_key a b c line level ps p q = adds_both a b c _ _ p (subst (λ has. AddsText b c (key_shown has (key_of ps))) p.colours q)
 
 pub key_text : (a b : Screen) (k : Option (List ℕ)) (ps : List Part) → key_of ps ≡ k → AddsText a b (key_shown a.has_colours k) → AddsText a b (key_shown a.has_colours (key_of ps))
@@ -60,7 +59,7 @@ tree_more canonical is_cut note cut line now i ps qs d a b c e less are next rem
       added = adds_both a b e _ _ l.added (adds_both b c e _ _ adds add);
     }
 
-pub tree_end : (canonical : Bool) (cut : List ℕ) (line : Line) (i : ℕ) (ps : List Part) (a b c : Screen) → length ps ≤ i → TreeTo canonical cut line i ps a b → AddsText b c (ended line) → ShowsTree canonical cut ps a c
+pub tree_end : (canonical : Bool) (cut : List ℕ) (line : Line) (i : ℕ) (ps : List Part) (a b c : Screen) → length ps ≤ i → TreeTo canonical cut line i ps a b → AddsText b c (line_break line) → ShowsTree canonical cut ps a c
 tree_end canonical cut line i ps a b c past l end =
-    let none : IsTreeAfter a.has_colours canonical cut line (drop i ps) (ended line) = subst (λ qs. IsTreeAfter a.has_colours canonical cut line qs (ended line)) (sym (drop_of_length-le ps past)) refl in
-    (l.text ++ ended line, l.more (ended line) none, adds_both a b c _ _ l.added end)
+    let none : IsTreeAfter a.has_colours canonical cut line (drop i ps) (line_break line) = subst (λ qs. IsTreeAfter a.has_colours canonical cut line qs (line_break line)) (sym (drop_of_length-le ps past)) refl in
+    (l.text ++ line_break line, l.more (line_break line) none, adds_both a b c _ _ l.added end)

@@ -10,10 +10,10 @@ use Rattle.jiff.specs.Names.{iso_datetime_text}
 use Rattle.jiff_core.specs.declared.civil.datetime.DateTime.{DateTime}
 use Rattle.jiff_core.specs.DateTime.{civil_nanos}
 use Rattle.amqp_dissect.specs.Texts.{escaped}
-use Rattle.amqp_show.specs.Payloads.{quoted, quoted_character, pointed, IsTimestampText}
+use Rattle.amqp_show.specs.Payloads.{quoted_text, quoted_character, number_with_point, IsTimestampText}
 
 -- all characters between quotes
-pub quoted_all : (words ys text new : List ℕ) → IsUtf8 words → map (λ y. y) ys ≡ chars words → text ≡ 34 ∷ flat_map quoted_character ys → new ≡ text ++ 34 ∷ [] → new ≡ quoted words
+pub quoted_all : (words ys text new : List ℕ) → IsUtf8 words → map (λ y. y) ys ≡ chars words → text ≡ 34 ∷ flat_map quoted_character ys → new ≡ text ++ 34 ∷ [] → new ≡ quoted_text words
 quoted_all words ys text new u e p q =
     let is : ys ≡ chars words = sym (map-id ys) ∙ e in
     q ∙ ap (λ t. t ++ 34 ∷ []) (p ∙ ap (λ l. 34 ∷ flat_map quoted_character l) is)
@@ -24,7 +24,7 @@ by_bool : (b : Bool) → (b ≡ true → ⊥) → b ≡ false
 by_bool true h = absurd (h refl)
 by_bool false h = refl
 
-pub quoted_escaped : (s text : List ℕ) → (IsUtf8 s → ⊥) → text ≡ 34 ∷ (escaped s ++ 34 ∷ []) → text ≡ quoted s
+pub quoted_escaped : (s text : List ℕ) → (IsUtf8 s → ⊥) → text ≡ 34 ∷ (escaped s ++ 34 ∷ []) → text ≡ quoted_text s
 quoted_escaped s text h e =
     let no : is_utf8 s ≡ false = by_bool (is_utf8 s) (λ yes. h (IsUtf8-from_is_utf8 s yes)) in
     e ∙ ap (λ b. 34 ∷ (cond b (flat_map quoted_character (chars s)) (escaped s) ++ 34 ∷ [])) (sym no)
@@ -41,7 +41,7 @@ zero_more front text new k e is = is ∙ ap (λ t. t ++ 48 ∷ []) e ∙ append_
 
 -- what is before the point, the zeros, and the digits after them
 pub joined : (whole fraction scale zeros : ℕ) (text new : List ℕ) → zeros ≡ scale - length (decimal fraction)
-    → text ≡ (decimal whole ++ codes ".") ++ replicate zeros 48 → new ≡ text ++ decimal fraction → new ≡ pointed whole fraction scale
+    → text ≡ (decimal whole ++ codes ".") ++ replicate zeros 48 → new ≡ text ++ decimal fraction → new ≡ number_with_point whole fraction scale
 joined whole fraction scale zeros text new z e is =
     is ∙ ap (λ t. t ++ decimal fraction) (e ∙ append_assoc (decimal whole) (codes ".") (replicate zeros 48) ∙ ap (λ n. decimal whole ++ (codes "." ++ replicate n 48)) z)
     ∙ append_assoc (decimal whole) (codes "." ++ replicate (scale - length (decimal fraction)) 48) (decimal fraction)

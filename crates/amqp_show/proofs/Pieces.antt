@@ -5,21 +5,21 @@ use Rattle.amqp_screen.specs.Escapes.{in_text, indent}
 use Rattle.amqp_screen.specs.Pushes.{AddsText}
 use Rattle.amqp_screen.specs.declared.screen.Screen.{Screen}
 use Rattle.amqp_screen.proofs.Adding.{adds_both}
-use Rattle.amqp_show.specs.Parts.{indented, level_mark, place, in_colour_of, IsFieldText, ShowsPart}
+use Rattle.amqp_show.specs.Parts.{indentation, level_mark, place, in_colour_of, IsFieldText, ShowsPart}
 
 -- ---- what is before a line
-indented_by : (a c : Screen) (level : ℕ) (b : Bool) (mark : List ℕ) → nat_lt 32 level ≡ b → AddsText a c (indent (min level 32) ++ cond b (in_text (level_mark level)) []) → AddsText a c (indented level)
+indented_by : (a c : Screen) (level : ℕ) (b : Bool) (mark : List ℕ) → nat_lt 32 level ≡ b → AddsText a c (indent (min level 32) ++ cond b (in_text (level_mark level)) []) → AddsText a c (indentation level)
 indented_by a c level b mark e p = subst (λ t. AddsText a c (indent (min level 32) ++ cond t (in_text (level_mark level)) [])) (sym e) p
 
-pub indented_deep : (a b c : Screen) (level : ℕ) → nat_lt 32 level ≡ true → AddsText a b (indent (min level 32)) → AddsText b c (in_text (level_mark level)) → AddsText a c (indented level)
+pub indented_deep : (a b c : Screen) (level : ℕ) → nat_lt 32 level ≡ true → AddsText a b (indent (min level 32)) → AddsText b c (in_text (level_mark level)) → AddsText a c (indentation level)
 indented_deep a b c level e p q = indented_by a c level true [] e (adds_both a b c _ _ p q)
 
-pub indented_only : (a b : Screen) (level : ℕ) → nat_lt 32 level ≡ false → AddsText a b (indent (min level 32)) → AddsText a b (indented level)
+pub indented_only : (a b : Screen) (level : ℕ) → nat_lt 32 level ≡ false → AddsText a b (indent (min level 32)) → AddsText a b (indentation level)
 indented_only a b level e p = indented_by a b level false [] e (subst (AddsText a b) (sym (append-nil (indent (min level 32)))) p)
 
 -- ---- parts
 pub shows_part : (a b c d : Screen) (left offset : ℕ) (p : Part) (what words : List ℕ) → offset ≡ p.offset - left → words ≡ what
-    → AddsText a b (in_text (place offset p.bytes.now)) → AddsText b c (indented p.level) → IsFieldText p.field p.bytes.now what → AddsText c d (in_colour_of c.has_colours p.field words)
+    → AddsText a b (in_text (place offset p.bytes.now)) → AddsText b c (indentation p.level) → IsFieldText p.field p.bytes.now what → AddsText c d (in_colour_of c.has_colours p.field words)
     → ShowsPart left p a d
 shows_part a b c d left offset p what words e f at by is add =
     let same : c.has_colours ≡ a.has_colours = by.colours ∙ at.colours in

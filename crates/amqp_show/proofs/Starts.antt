@@ -1,5 +1,5 @@
 -- What is shown of the value at the start of an input, and the status.
-use Rattle.std.proofs.Common.{◌≡◌, ◌≤◌, ℕ, zero, suc, Bool, true, false, Result, Ok, Err, IfOk, List, [], ◌∷◌, ◌++◌, drop, refl, sym, ap, subst, ◌∙◌, append_assoc, append-nil}
+use Rattle.std.proofs.Common.{◌≡◌, ◌≤◌, ℕ, zero, suc, Bool, true, false, Result, Ok, Err, IfOk, List, [], ◌∷◌, ◌++◌, drop, refl, sym, subst, append-nil}
 use Rattle.std.proofs.lemmas.Grind.{flat_map-append}
 use Rattle.std.specs.List.{flat_map}
 use Rattle.amq_protocol_types.specs.declared.parsing.errors.Err.TheVariants.{Error}
@@ -22,15 +22,11 @@ use Rattle.amqp_screen.specs.Pushes.{AddsText}
 use Rattle.amqp_screen.specs.declared.screen.Screen.{Screen}
 use Rattle.amqp_screen.specs.declared.status.Status.{Status}
 use Rattle.amqp_screen.proofs.Adding.{adds_nothing, adds_both}
-use Rattle.amqp_show.specs.declared.arguments.Form.TheVariants as form
 use Rattle.amqp_show.specs.declared.arguments.Settings.{Settings}
 use Rattle.amqp_show.specs.declared.arguments.Subject.{Subject}
 use Rattle.amqp_show.specs.Failures.{warning_line, AddsWarnings}
-use Rattle.amqp_show.specs.Outcomes.{left_out, IsStatusOf}
-use Rattle.amqp_show.specs.Parts.{AreLinesShown}
-use Rattle.amqp_show.specs.Shown.{IfAsked, ShowsIfAsked, IsEndShown, ShowsForm, ShowsEnd, ShowsStart}
-use Rattle.amqp_show.specs.Tree.{IsTreeAfter}
-use Rattle.amqp_show.specs.declared.tree.Line.TheVariants as on
+use Rattle.amqp_show.specs.Outcomes.{left_out_count, IsStatusOf}
+use Rattle.amqp_show.specs.Shown.{ShowsIfAsked, IsEndShown, ShowsForm, ShowsEnd, ShowsStart}
 
 -- ---- statuses
 refuses : (l : Limits) (s : List ℕ) (n : ℕ) (p : Problem) → extent s ≤ l.frame → IsRefusal (OutcomeWithin l.depth s) ⊥ (refusal_of n p) → RefusesWithin l s (refusal_of n p)
@@ -53,15 +49,6 @@ not_asked asked P a e = subst (λ b. ShowsIfAsked b P a a) (sym e) ([], refl, ad
 pub is_asked : (asked : Bool) (P : List ℕ → Type 0) (a b : Screen) → asked ≡ true → (text : List ℕ) × P text × AddsText a b text → ShowsIfAsked asked P a b
 is_asked asked P a b e shows = subst (λ yes. ShowsIfAsked yes P a b) (sym e) shows
 
-pub shows_form : (a b c d : Screen) (tree bytes canonical : Bool) (left : ℕ) (cut : List ℕ) (ps : List Part)
-    → ShowsIfAsked tree (IsTreeAfter a.has_colours canonical cut on.Nothing ps) a b
-    → ShowsIfAsked bytes (AreLinesShown b.has_colours canonical cut left (drop left ps)) b c
-    → AddsWarnings c d → ShowsForm (form.Text tree bytes canonical) left cut ps a d
-shows_form a b c d tree_asked bytes canonical left cut ps (nodes, are, p) (lines, in_order, q) (whys, r) =
-    let here : IfAsked bytes (AreLinesShown a.has_colours canonical cut left (drop left ps)) lines = subst (λ has. IfAsked bytes (AreLinesShown has canonical cut left (drop left ps)) lines) p.colours in_order in
-    let warned : AddsText c d (flat_map (warning_line a.has_colours) whys) = subst (λ has. AddsText c d (flat_map (warning_line has) whys)) (q.colours ∙ p.colours) r in
-    (nodes ++ (lines ++ flat_map (warning_line a.has_colours) whys), (nodes, lines, whys, are, here, refl), adds_both a b d _ _ p (adds_both b c d _ _ q warned))
-
 -- warnings, one after another
 pub warns_none : (a : Screen) → AddsWarnings a a
 warns_none a = ([], adds_nothing a)
@@ -76,7 +63,7 @@ warns_more a b c (first, p) (second, q) =
 
 pub shows_start : (a b c : Screen) (settings : Settings) (st : Status) (s : List ℕ) (p : Partial) (cut : List ℕ) (ps : List Part)
     → IsPartial settings.limits s p → ((IsTruncated s → ⊥) → cut ≡ []) → (cut ≡ [] → ps ≡ p.parts.items)
-    → ShowsForm settings.form (left_out settings.subject) cut ps a b → ShowsEnd settings.subject p.offset p.end st b c → ShowsStart settings st s a c
+    → ShowsForm settings.form (left_out_count settings.subject) cut ps a b → ShowsEnd settings.subject p.offset p.end st b c → ShowsStart settings st s a c
 shows_start a b c settings st s p cut ps partial none all (front, shown, add) (last, ended, more) =
     let ended_here : IsEndShown a.has_colours settings.subject p.offset p.end st last = subst (λ has. IsEndShown has settings.subject p.offset p.end st last) add.colours ended in (
       front ++ last,
@@ -98,7 +85,7 @@ shows_start a b c settings st s p cut ps partial none all (front, shown, add) (l
 -- what adding the failure returns
 pub start_returned : {E : Type 0} (r : Result Status E) (a b c : Screen) (settings : Settings) (s : List ℕ) (p : Partial) (cut : List ℕ) (ps : List Part)
     → IsPartial settings.limits s p → ((IsTruncated s → ⊥) → cut ≡ []) → (cut ≡ [] → ps ≡ p.parts.items)
-    → ShowsForm settings.form (left_out settings.subject) cut ps a b → IfOk r (λ st. ShowsEnd settings.subject p.offset p.end st b c) → IfOk r (λ st. ShowsStart settings st s a c)
+    → ShowsForm settings.form (left_out_count settings.subject) cut ps a b → IfOk r (λ st. ShowsEnd settings.subject p.offset p.end st b c) → IfOk r (λ st. ShowsStart settings st s a c)
 start_returned (Ok st) a b c settings s p cut ps partial none all shown ended = shows_start a b c settings st s p cut ps partial none all shown ended
 start_returned (Err e) a b c settings s p cut ps partial none all shown ended = ended
 

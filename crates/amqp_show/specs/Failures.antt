@@ -1,5 +1,5 @@
 -- The lines about a failure and the outcome.
-use Rattle.std.specs.Prelude.{ℕ, ◌≡◌, ◌-◌, nat_lt, ◌⊎◌, Bool, List, ◌∷◌, ◌++◌, length, codes, flat_map, if◌then◌else◌}
+use Rattle.std.specs.Prelude.{ℕ, ◌≡◌, ◌-◌, nat_lt, ◌⊎◌, Bool, List, ◌++◌, length, codes, flat_map, if◌then◌else◌}
 use Rattle.std.specs.Fmt.{decimal}
 use Rattle.amqp_value_core.specs.Names.{name_of}
 use Rattle.amqp_value_core.specs.Values.{Tree}
@@ -20,7 +20,7 @@ use Rattle.amqp_screen.specs.Pushes.{AddsText}
 use Rattle.amqp_screen.specs.declared.screen.Screen.{Screen}
 use Rattle.amqp_screen.specs.declared.screen.Colour.TheVariants as colour
 use Rattle.amqp_show.specs.declared.arguments.Subject.{Subject}
-use Rattle.amqp_show.specs.Outcomes.{left_out, subject_name}
+use Rattle.amqp_show.specs.Outcomes.{left_out_count, subject_name}
 use Rattle.amqp_show.specs.Payloads.{hexadecimal}
 use Rattle.amqp_show.specs.Text.{line}
 
@@ -45,7 +45,7 @@ end_text subject (end.Problem p) = problem_text p
 
 -- its offset in the input, and why
 abbrev pub failure : Subject → ℕ → End → List ℕ
-failure subject offset e = codes "offset " ++ (decimal (offset - left_out subject) ++ (codes ": " ++ end_text subject e))
+failure subject offset e = codes "offset " ++ (decimal (offset - left_out_count subject) ++ (codes ": " ++ end_text subject e))
 
 -- the line of a failure, and of what is taken and may not be meant
 abbrev pub failure_line : Bool → List ℕ → List ℕ
@@ -65,7 +65,7 @@ count_left l s rest = if nat_lt l.frame (length s) then codes "at least " ++ dec
 -- how many bytes a value has, and how many are after it
 abbrev pub value_outcome : Limits → Subject → List ℕ → List ℕ → List ℕ
 value_outcome l subject s rest =
-    codes "a " ++ (subject_name subject ++ (codes " of " ++ (decimal (length s - length rest - left_out subject)
+    codes "a " ++ (subject_name subject ++ (codes " of " ++ (decimal (length s - length rest - left_out_count subject)
     ++ (codes " bytes, " ++ (count_left l s rest ++ codes " follow")))))
 
 abbrev pub kind_name : ErrorKind → List ℕ

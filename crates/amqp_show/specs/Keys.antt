@@ -2,7 +2,7 @@
 use Rattle.std.specs.Prelude.{ℕ, ◌==◌, Option, Some, None, List, [], ◌∷◌, if◌then◌else◌}
 use Rattle.amqp_dissect.specs.declared.part.Part.{Part}
 use Rattle.amqp_dissect.specs.declared.part.Field.{Field}
-use Rattle.amqp_dissect.specs.declared.part.Field.TheVariants.{TypeTag, Length, KeyLength, Key, Payload}
+use Rattle.amqp_dissect.specs.declared.part.Field.TheVariants.{Key}
 use Rattle.amqp_show.specs.Parts.{number}
 
 -- the first of the parts, if it is a key

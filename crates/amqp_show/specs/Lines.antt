@@ -8,7 +8,7 @@ use Rattle.amq_protocol_types.specs.declared.parsing.limits.Limits.{Limits}
 use Rattle.amq_protocol_types.specs.parsing.Limits.{Within}
 use Rattle.amqp_in_place.specs.Measures.{written, OfEncoding}
 use Rattle.amqp_show.specs.declared.arguments.Subject.{Subject}
-use Rattle.amqp_show.specs.Outcomes.{left_out}
+use Rattle.amqp_show.specs.Outcomes.{left_out_count}
 use Rattle.amqp_show.specs.Text.{line}
 
 -- how many bytes, values and levels of containers a value has
@@ -21,4 +21,4 @@ measures bytes values levels =
 -- many values are written in it, and how many levels its containers nest
 pub record IsMeasureLine (l : Limits) (subject : Subject) (s text rest : List ℕ) : Type 0 where
   pub value : (v : Tree) × Within l s (found v rest)
-  pub measures : OfEncoding s (λ w v p. text ≡ line (measures (length w - left_out subject) (written w v p) (nesting w v p)))
+  pub measures : OfEncoding s (λ w v p. text ≡ line (measures (length w - left_out_count subject) (written w v p) (nesting w v p)))

@@ -13,9 +13,9 @@ use Rattle.amqp_show.specs.declared.arguments.Subject.TheVariants.{Value, Table}
 use Rattle.amqp_show.specs.declared.input.Tagged.{Tagged}
 
 -- how many bytes of its encoding a value is without: a table its type tag
-abbrev pub left_out : Subject → ℕ
-left_out Value = 0
-left_out Table = 1
+abbrev pub left_out_count : Subject → ℕ
+left_out_count Value = 0
+left_out_count Table = 1
 
 -- what it is called
 abbrev pub subject_name : Subject → List ℕ

@@ -12,7 +12,7 @@ use Rattle.amqp_screen.specs.Escapes.{in_text, indent, coloured}
 use Rattle.amqp_screen.specs.Pushes.{AddsText}
 use Rattle.amqp_screen.specs.declared.screen.Colour.TheVariants as colour
 use Rattle.amqp_screen.specs.declared.screen.Screen.{Screen}
-use Rattle.amqp_show.specs.Payloads.{quoted, IsPayloadText}
+use Rattle.amqp_show.specs.Payloads.{quoted_text, IsPayloadText}
 use Rattle.amqp_show.specs.Remarks.{remark, Remarks}
 use Rattle.amqp_show.specs.Text.{line}
 use Rattle.amqp_show.specs.declared.notes.Note.{Note}
@@ -28,7 +28,7 @@ abbrev pub IsFieldText : Field → List ℕ → List ℕ → Type 0
 IsFieldText (TypeTag type) b text = text ≡ codes "type tag " ++ (escaped b ++ (codes ", " ++ name_of type))
 IsFieldText (Length type) b text = text ≡ codes "length " ++ decimal (number b)
 IsFieldText KeyLength b text = text ≡ codes "key length " ++ decimal (number b)
-IsFieldText Key b text = text ≡ codes "key " ++ quoted b
+IsFieldText Key b text = text ≡ codes "key " ++ quoted_text b
 IsFieldText (Payload type) b text = IsPayloadText type b text
 
 -- the bytes in hexadecimal, at most eight, and `..` if there are more
@@ -46,8 +46,8 @@ place offset b =
 abbrev pub level_mark : ℕ → List ℕ
 level_mark level = codes "[" ++ (decimal level ++ codes "] ")
 
-abbrev pub indented : ℕ → List ℕ
-indented level = indent (min level 32) ++ (if nat_lt 32 level then in_text (level_mark level) else [])
+abbrev pub indentation : ℕ → List ℕ
+indentation level = indent (min level 32) ++ (if nat_lt 32 level then in_text (level_mark level) else [])
 
 -- text that is shown in the colour of its part: a key has one
 abbrev pub in_colour_of : Bool → Field → List ℕ → List ℕ
@@ -58,7 +58,7 @@ in_colour_of colours _ text = in_text text
 abbrev pub IsPartShown : Bool → ℕ → Part → List ℕ → Type 0
 IsPartShown colours left p text =
     (what : List ℕ) × IsFieldText p.field p.bytes.now what
-    × (text ≡ in_text (place (p.offset - left) p.bytes.now) ++ (indented p.level ++ in_colour_of colours p.field what))
+    × (text ≡ in_text (place (p.offset - left) p.bytes.now) ++ (indentation p.level ++ in_colour_of colours p.field what))
 
 -- it is added to a screen
 abbrev pub ShowsPart : ℕ → Part → Screen → Screen → Type 0

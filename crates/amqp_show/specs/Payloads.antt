@@ -21,8 +21,8 @@ abbrev pub quoted_character : ℕ → List ℕ
 quoted_character c = if c == 34 || c == 92 then 92 ∷ encode_utf8 c else encode_utf8 c
 
 -- bytes between quotes: their characters if they are UTF-8, and else each escaped
-abbrev pub quoted : List ℕ → List ℕ
-quoted s = 34 ∷ ((if is_utf8 s then flat_map quoted_character (chars s) else escaped s) ++ 34 ∷ [])
+abbrev pub quoted_text : List ℕ → List ℕ
+quoted_text s = 34 ∷ ((if is_utf8 s then flat_map quoted_character (chars s) else escaped s) ++ 34 ∷ [])
 
 -- eight hexadecimal digits, in lower case, and 16
 abbrev pub hexadecimal : ℕ → ℕ → List ℕ
@@ -54,13 +54,13 @@ pub record IsTimestampText (seconds : ℕ) (text : List ℕ) : Type 0 where
   pub plain : 253402207200 < seconds → text ≡ decimal seconds
 
 -- a number before a point, and another after it in so many digits at least
-abbrev pub pointed : ℕ → ℕ → ℕ → List ℕ
-pointed whole fraction scale =
+abbrev pub number_with_point : ℕ → ℕ → ℕ → List ℕ
+number_with_point whole fraction scale =
     decimal whole ++ (codes "." ++ (replicate (scale - length (decimal fraction)) 48 ++ decimal fraction))
 
 -- a decimal: its number, with as many digits after a point as its scale says, and no point if that is 0
 abbrev pub decimal_value : ℕ → ℕ → List ℕ
-decimal_value n scale = if scale == 0 then decimal n else pointed (n / 10 ^ scale) (n % 10 ^ scale) scale
+decimal_value n scale = if scale == 0 then decimal n else number_with_point (n / 10 ^ scale) (n % 10 ^ scale) scale
 
 abbrev pub boolean : ℕ → List ℕ
 boolean b = if b == 0 then codes "false" else codes "true"
@@ -92,7 +92,7 @@ IfWide false P text = text ≡ []
 
 -- the text of a payload of a type; of one that the end of the input cuts there is none
 abbrev pub IsPayloadText : AMQPType → List ℕ → List ℕ → Type 0
-IsPayloadText amqp.LongString b text = text ≡ quoted b
+IsPayloadText amqp.LongString b text = text ≡ quoted_text b
 IsPayloadText amqp.ByteArray b text = text ≡ encode_lower b
 IsPayloadText amqp.Boolean b text = IfWide (length b == 1) (IsOneText amqp.Boolean b text) text
 IsPayloadText amqp.ShortShortInt b text = IfWide (length b == 1) (IsOneText amqp.ShortShortInt b text) text

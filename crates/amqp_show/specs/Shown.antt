@@ -1,5 +1,5 @@
 -- What is shown of the value at the start of an input.
-use Rattle.std.specs.Prelude.{ℕ, ◌≡◌, Bool, true, false, List, [], ◌∷◌, ◌++◌, drop, codes, flat_map}
+use Rattle.std.specs.Prelude.{ℕ, ◌≡◌, Bool, true, false, List, [], ◌++◌, drop, codes, flat_map}
 use Rattle.amqp_dissect.specs.declared.part.Part.{Part}
 use Rattle.amqp_dissect.specs.declared.partial.Partial.{Partial}
 use Rattle.amqp_dissect.specs.declared.dissection.End.{End}
@@ -17,7 +17,7 @@ use Rattle.amqp_show.specs.declared.arguments.Settings.{Settings}
 use Rattle.amqp_show.specs.declared.arguments.Subject.{Subject}
 use Rattle.amqp_show.specs.declared.tree.Line.TheVariants as on
 use Rattle.amqp_show.specs.Failures.{failure, failure_line, warning_line}
-use Rattle.amqp_show.specs.Outcomes.{left_out}
+use Rattle.amqp_show.specs.Outcomes.{left_out_count}
 use Rattle.amqp_show.specs.Parts.{AreLinesShown}
 use Rattle.amqp_show.specs.Text.{line}
 use Rattle.amqp_show.specs.Tree.{IsTreeAfter}
@@ -69,7 +69,7 @@ pub record IsStartShown (colours : Bool) (settings : Settings) (status : Status)
   pub last : List ℕ
   pub dissected : IsPartial settings.limits s partial
   pub whole : (IsTruncated s → ⊥) → (cut ≡ []) × (parts ≡ partial.parts.items)
-  pub shown : IsFormShown colours settings.form (left_out settings.subject) cut parts front
+  pub shown : IsFormShown colours settings.form (left_out_count settings.subject) cut parts front
   pub ended : IsEndShown colours settings.subject partial.offset partial.end status last
   pub joined : text ≡ front ++ last
 

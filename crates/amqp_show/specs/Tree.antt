@@ -4,15 +4,15 @@ use Rattle.amqp_value_core.specs.declared.types.amqp_type.AMQPType.{AMQPType}
 use Rattle.amqp_value_core.specs.Names.{name_of}
 use Rattle.amqp_dissect.specs.declared.part.Part.{Part}
 use Rattle.amqp_dissect.specs.declared.part.Field.{Field}
-use Rattle.amqp_dissect.specs.declared.part.Field.TheVariants.{TypeTag, Length, KeyLength, Key, Payload}
+use Rattle.amqp_dissect.specs.declared.part.Field.TheVariants.{TypeTag, KeyLength}
 use Rattle.amqp_dissect.specs.Leaves.{IsLeaf}
 use Rattle.amqp_screen.specs.Escapes.{in_text, coloured}
 use Rattle.amqp_screen.specs.Pushes.{AddsText}
 use Rattle.amqp_screen.specs.declared.screen.Colour.TheVariants as colour
 use Rattle.amqp_screen.specs.declared.screen.Screen.{Screen}
 use Rattle.amqp_show.specs.Keys.{key_of}
-use Rattle.amqp_show.specs.Parts.{indented}
-use Rattle.amqp_show.specs.Payloads.{quoted, IsPayloadText}
+use Rattle.amqp_show.specs.Parts.{indentation}
+use Rattle.amqp_show.specs.Payloads.{quoted_text, IsPayloadText}
 use Rattle.amqp_show.specs.Remarks.{remark, Remarks}
 use Rattle.amqp_show.specs.declared.notes.Note.{Note}
 use Rattle.amqp_show.specs.declared.tree.Line.{Line}
@@ -27,22 +27,22 @@ IsTypedText type ps text =
 
 -- ---- lines
 -- what ends the last line, if there is one
-abbrev pub ended : Line → List ℕ
-ended on.Nothing = []
-ended _ = 10 ∷ []
+abbrev pub line_break : Line → List ℕ
+line_break on.Nothing = []
+line_break _ = 10 ∷ []
 
 -- what begins a line of a level
-abbrev pub begun : Line → ℕ → List ℕ
-begun line level = ended line ++ indented level
+abbrev pub level_start : Line → ℕ → List ℕ
+level_start line level = line_break line ++ indentation level
 
 -- a value is after its key, or on a line of its own
 abbrev pub before_value : Line → ℕ → List ℕ
 before_value on.Key level = in_text (codes ": ")
-before_value line level = begun line level
+before_value line level = level_start line level
 
 -- a key in quotes, or `?`
 abbrev pub key_shown : Bool → Option (List ℕ) → List ℕ
-key_shown colours (Some key) = coloured colours colour.Key (in_text (quoted key))
+key_shown colours (Some key) = coloured colours colour.Key (in_text (quoted_text key))
 key_shown colours None = in_text (codes "?")
 
 -- what the last line ends in after a part: a key after its length, a value after its type tag
@@ -58,13 +58,13 @@ IsValueShown line level type ps text =
 
 -- what the tree has of the first of the parts, of a kind and a level
 abbrev pub IsNode : Bool → Line → Field → ℕ → List Part → List ℕ → Type 0
-IsNode colours line KeyLength level ps text = text ≡ begun line level ++ key_shown colours (key_of ps)
+IsNode colours line KeyLength level ps text = text ≡ level_start line level ++ key_shown colours (key_of ps)
 IsNode colours line (TypeTag type) level ps text = IsValueShown line level type ps text
 IsNode colours line _ level ps text = text ≡ []
 
 -- it is added to a screen
 abbrev pub ShowsKey : Line → ℕ → List Part → Screen → Screen → Type 0
-ShowsKey line level ps old new = AddsText old new (begun line level ++ key_shown old.has_colours (key_of ps))
+ShowsKey line level ps old new = AddsText old new (level_start line level ++ key_shown old.has_colours (key_of ps))
 
 abbrev pub ShowsValue : Line → ℕ → AMQPType → List Part → Screen → Screen → Type 0
 ShowsValue line level type ps old new = (text : List ℕ) × IsValueShown line level type ps text × AddsText old new text
@@ -74,7 +74,7 @@ ShowsNode line field level ps old new = (text : List ℕ) × IsNode old.has_colo
 
 -- the tree of parts, after what the last line ends in, each with what is after it
 abbrev pub IsTreeAfter : Bool → Bool → List ℕ → Line → List Part → List ℕ → Type 0
-IsTreeAfter colours canonical cut line [] text = text ≡ ended line
+IsTreeAfter colours canonical cut line [] text = text ≡ line_break line
 IsTreeAfter colours canonical cut line (p ∷ ps) text =
     (is_cut : Bool) × (note : Option Note) × (node : List ℕ) × (rest : List ℕ)
     × Remarks canonical cut p.offset is_cut note × IsNode colours line p.field p.level (p ∷ ps) node

@@ -1,7 +1,7 @@
 //! What the command line asks for.
 
 ghost use Rattle.std.specs.Prelude.{◌≡◌, ◌-◌};
-ghost use Rattle.amqp_show.specs.Outcomes.{left_out, subject_name};
+ghost use Rattle.amqp_show.specs.Outcomes.{left_out_count, subject_name};
 
 use amq_protocol_types::stream::Limits;
 use amqp_in_place::rabbitmq::CLIENT_LEVELS;
@@ -77,8 +77,8 @@ impl Subject {
     }
 
     /// How many bytes of its value's encoding it is without: those of the type tag.
-    pub fn left_out(self) -> usize
-        ensures { result ≡ left_out self }
+    pub fn left_out_count(self) -> usize
+        ensures { result ≡ left_out_count self }
     {
         match self {
             Subject::Value => 0,
@@ -88,9 +88,9 @@ impl Subject {
 
     /// The offset in it of what is at an offset of its value's encoding.
     pub fn offset(self, offset: usize) -> usize
-        ensures { result ≡ offset - left_out self }
+        ensures { result ≡ offset - left_out_count self }
     {
-        offset.saturating_sub(self.left_out())
+        offset.saturating_sub(self.left_out_count())
     }
 }
 

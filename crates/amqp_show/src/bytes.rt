@@ -3,7 +3,7 @@
 ghost use Rattle.std.specs.Prelude.{◌≡◌, OnOk, IfOk, string_bytes};
 ghost use Rattle.amqp_screen.specs.Escapes.{in_text};
 ghost use Rattle.amqp_screen.specs.Pushes.{AddsText};
-ghost use Rattle.amqp_show.specs.Outcomes.{left_out};
+ghost use Rattle.amqp_show.specs.Outcomes.{left_out_count};
 ghost use Rattle.amqp_show.specs.Parts.{first_bytes, place, in_colour_of, ShowsPart, ShowsLine, ShowsParts};
 
 use crate::arguments::Subject;
@@ -29,13 +29,13 @@ pub fn push_bytes(
     cut: &[usize],
     subject: Subject,
 ) -> Result<(), AllocError>
-    ensures { OnOk result (ShowsParts canonical cut.now (left_out subject) parts.now
+    ensures { OnOk result (ShowsParts canonical cut.now (left_out_count subject) parts.now
         screen.old screen.new) }
 {
     let mut keys = Keys::new(alloc, canonical);
     for (index, part) in parts.iter().enumerate() {
         let note = keys.note(part, &parts[index..])?;
-        if index >= subject.left_out() {
+        if index >= subject.left_out_count() {
             push_line(alloc, screen, part, is_cut(part, cut), note, subject)?;
         }
     }
@@ -51,7 +51,7 @@ fn push_line(
     note: Option<Note>,
     subject: Subject,
 ) -> Result<(), AllocError>
-    ensures { OnOk result (ShowsLine is_cut note (left_out subject) part.now
+    ensures { OnOk result (ShowsLine is_cut note (left_out_count subject) part.now
         screen.old screen.new) }
 {
     push_part(alloc, screen, part, subject)?;
@@ -67,7 +67,7 @@ fn push_part(
     part: &Part<'_>,
     subject: Subject,
 ) -> Result<(), AllocError>
-    ensures { OnOk result (ShowsPart (left_out subject) part.now screen.old screen.new) }
+    ensures { OnOk result (ShowsPart (left_out_count subject) part.now screen.old screen.new) }
 {
     push_place(alloc, screen, subject.offset(part.offset), part.bytes)?;
     push_indent(alloc, screen, part.level)?;
@@ -97,13 +97,13 @@ fn push_place(
 ) -> Result<(), AllocError>
     ensures { OnOk result (AddsText screen.old screen.new (in_text (place offset bytes.now))) }
 {
-    let hex = shortened(alloc, bytes)?;
+    let hex = first_bytes(alloc, bytes)?;
     let line = format!(in alloc; "{offset:>6}  {hex:<18}  ")?;
     screen.push_text(line.as_str())
 }
 
 // The bytes in hexadecimal, or the first of them.
-fn shortened(alloc: Global, bytes: &[u8]) -> Result<String, AllocError>
+fn first_bytes(alloc: Global, bytes: &[u8]) -> Result<String, AllocError>
     ensures { IfOk result (λ text. string_bytes text ≡ first_bytes bytes.now) }
 {
     if bytes.len() <= SHOWN {

@@ -5,7 +5,7 @@
 ghost use Rattle.std.specs.Prelude.{◌≡◌, drop, IfOk};
 ghost use Rattle.hex.specs.Hex.{encode_lower};
 ghost use Rattle.amqp_screen.specs.Pushes.{shown};
-ghost use Rattle.amqp_show.specs.Outcomes.{left_out};
+ghost use Rattle.amqp_show.specs.Outcomes.{left_out_count};
 ghost use Rattle.amqp_show.specs.Text.{line};
 
 use crate::arguments::Subject;
@@ -59,7 +59,7 @@ fn other_type(encoding: &[u8], subject: Subject) -> Option<AMQPType> {
 
 // What is wanted of an encoding: all of it, or of a table what is after its type tag.
 fn wanted_of(encoding: &[u8], subject: Subject) -> &[u8]
-    ensures { result.now ≡ drop (left_out subject) encoding.now }
+    ensures { result.now ≡ drop (left_out_count subject) encoding.now }
 {
     match subject {
         Subject::Value => encoding,

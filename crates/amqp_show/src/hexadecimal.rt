@@ -131,7 +131,7 @@ impl<R: Read> Hexadecimal<R> {
         ensures kind { IfErr result (λ e. IsSome self.new.fault
             → error_kind e ≡ ErrorKind.InvalidData) }
     {
-        let mut spelling = self.begun()?;
+        let mut spelling = self.current_spelling()?;
         match self.text.next()? {
             Some(character) => match spelling.take(character) {
                 Ok(byte) => {
@@ -148,7 +148,7 @@ impl<R: Read> Hexadecimal<R> {
     }
 
     // What was taken. Reads on until it is known how the text is written, unless it is.
-    fn begun(&mut self) -> io::Result<Spelling>
+    fn current_spelling(&mut self) -> io::Result<Spelling>
         requires { self.old.fault ≡ None }
         ensures yielded { KeepsYielded R.remaining self.old self.new }
         ensures is { IfOk result (λ spelling. self.new.spelling ≡ Some spelling) }

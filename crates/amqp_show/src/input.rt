@@ -124,7 +124,7 @@ pub fn read_input(rt: &HostRuntime, file: &str, settings: Settings) -> Result<Co
         Ok(input) => input,
         Err(error) => return Ok(Err(Unread::after(error)?)),
     };
-    let left_out = settings.subject.left_out() as u64;
+    let left_out = settings.subject.left_out_count() as u64;
     let most = u64::from(settings.limits.frame)
         .saturating_add(1)
         .saturating_sub(left_out);

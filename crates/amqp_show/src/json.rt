@@ -28,7 +28,7 @@ pub fn show_input(
     settings: Settings,
 ) -> Result<Status> {
     let (encoding, limits) = (input.encoding(settings.subject), settings.limits);
-    match converted(rt.alloc(), encoding, limits) {
+    match json_and_rest(rt.alloc(), encoding, limits) {
         Ok((printed, rest)) => {
             let status = print(rt, file, printed)?;
             complain_of_rest(rt, file, encoding, rest, settings)?;
@@ -49,7 +49,7 @@ enum Printed {
 }
 
 // The JSON of the value at the beginning of an encoding, on a line, and the bytes after the value.
-fn converted<'a>(
+fn json_and_rest<'a>(
     alloc: Global,
     encoding: &'a [u8],
     limits: Limits,

@@ -29,9 +29,9 @@ mod repeats;
 mod show;
 mod spelling;
 mod stream;
+mod tag_hints;
 mod texts;
 mod tree;
-mod untagged;
 mod whole;
 
 use amqp_screen::{Screen, Status, exit_status, is_terminal, worse};
@@ -66,7 +66,7 @@ fn run(rt: &HostRuntime) -> Result<Status> {
     let words: Vec<String> = env::args(rt)?.collect(alloc)?;
     let matches = match arguments::command(alloc)?.try_get_matches_from(words.as_slice()) {
         Ok(matches) => matches,
-        Err(error) => return usage_shown(rt, &error),
+        Err(error) => return show_usage(rt, &error),
     };
     let colours = is_terminal(rt) && allows_colours(rt);
     let settings = Settings::from_matches(&matches, colours);
@@ -83,7 +83,7 @@ fn run(rt: &HostRuntime) -> Result<Status> {
 }
 
 // Prints what the arguments ask for, or why they can't be understood.
-fn usage_shown(rt: &HostRuntime, error: &clap::Error) -> Result<Status> {
+fn show_usage(rt: &HostRuntime, error: &clap::Error) -> Result<Status> {
     match error.kind() {
         ErrorKind::OutOfMemory => return Err(Fault::OutOfMemory),
         _ => {}

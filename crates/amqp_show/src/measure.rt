@@ -28,7 +28,7 @@ pub fn measure_input(
         (IsStatusOf settings.limits (encoding_of settings.subject input.now)) }
 {
     let encoding = input.encoding(settings.subject);
-    match measured(rt.alloc(), encoding, settings)? {
+    match line_and_rest(rt.alloc(), encoding, settings)? {
         Some((mut screen, rest)) => {
             screen.print(rt)?;
             complain_of_rest(rt, file, encoding, rest, settings)?;
@@ -41,7 +41,7 @@ pub fn measure_input(
 // The line of the measures of the value at the beginning of an encoding, and the bytes after it, or
 // `None` if it isn't read.
 #[tactic(auto, using(crate::proofs::Lines::measured_line))]
-fn measured<'a>(
+fn line_and_rest<'a>(
     alloc: Global,
     encoding: &'a [u8],
     settings: Settings,

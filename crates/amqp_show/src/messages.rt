@@ -2,12 +2,12 @@
 
 use crate::fault::{Fault, Result};
 use crate::input::Unread;
-use crate::texts::quoted;
+use crate::texts::quoted_text;
 use amqp_screen::{PrintError, Screen, Status};
 
 /// Prints a message about a file.
 pub fn complain(rt: &HostRuntime, file: &str, why: &str) -> Result<()> {
-    let name = quoted(rt.alloc(), file.as_bytes())?;
+    let name = quoted_text(rt.alloc(), file.as_bytes())?;
     let mut screen = Screen::new(rt.alloc(), false);
     screen.push_text("amqp_show: ")?;
     screen.push_text(name.as_str())?;

@@ -3,9 +3,9 @@
 // Tactics at functions: each names the lemmas that its clauses are proved by.
 
 ghost use Rattle.std.specs.Prelude.{◌≡◌, [], ◌∷◌, ◌*◌, ◌<◌, ◌≤◌, pos, MatchOption, ◌/◌, ◌%◌, ◌^◌, IfOk, string_bytes};
-ghost use Rattle.amqp_show.specs.Payloads.{decimal_value, pointed, IsFloatText, IsDoubleText, IsTimestampText, IsOneText, IsTwoText, IsFourText, IsEightText, IsPayloadText};
+ghost use Rattle.amqp_show.specs.Payloads.{decimal_value, number_with_point, IsFloatText, IsDoubleText, IsTimestampText, IsOneText, IsTwoText, IsFourText, IsEightText, IsPayloadText};
 
-use crate::texts::quoted;
+use crate::texts::quoted_text;
 use amq_protocol_types::AMQPType;
 use jiff::Timestamp;
 use jiff::tz::Offset;
@@ -23,7 +23,7 @@ pub fn payload_text(
     ensures { IfOk result (λ text. IsPayloadText amqp_type payload.now (string_bytes text)) }
 {
     match amqp_type {
-        AMQPType::LongString => quoted(alloc, payload),
+        AMQPType::LongString => quoted_text(alloc, payload),
         AMQPType::ByteArray => hex::encode(alloc, payload),
         AMQPType::Boolean | AMQPType::ShortShortInt | AMQPType::ShortShortUInt => match payload {
             [a] => one_text(alloc, amqp_type, *a),
@@ -115,7 +115,7 @@ fn decimal_text(alloc: Global, number: u32, scale: u8) -> Result<String, AllocEr
 // A number before a point, and another after it in that many digits at least.
 #[tactic(auto, using(crate::proofs::Payloads::joined, crate::proofs::Payloads::zero_more))]
 fn pointed_text(alloc: Global, whole: u32, fraction: u32, scale: u8) -> Result<String, AllocError>
-    ensures { IfOk result (λ text. string_bytes text ≡ pointed whole fraction scale) }
+    ensures { IfOk result (λ text. string_bytes text ≡ number_with_point whole fraction scale) }
 {
     let digits = format!(in alloc; "{fraction}")?;
     let zeros = usize::from(scale).saturating_sub(digits.len());

@@ -2,7 +2,7 @@
 
 use crate::fault::{Fault, Result};
 use crate::json::too_deep;
-use crate::texts::quoted;
+use crate::texts::quoted_text;
 use amq_protocol_types::AMQPValue;
 use amq_protocol_types::generation::{GenError, WriteContext, gen_value};
 use amqp_json::{EncodeError, JsonError, ValueError, from_value};
@@ -90,7 +90,7 @@ fn encoded_len<'a>(
         Value::Null | Value::Bool(_) | Value::String(_) => leaf_len(alloc, value, Cause::TooLong),
         Value::Number(_) => leaf_len(alloc, value, Cause::OtherThan(NUMBER)),
         Value::Array(items) => items_len(alloc, path, items),
-        Value::Object(members) => match denoted_by(members) {
+        Value::Object(members) => match denotation_of(members) {
             Denoted::Table => members_len(alloc, path, members),
             Denoted::NamedTable => named_len(alloc, path, members),
             Denoted::Leaf(wanted) => leaf_len(alloc, value, Cause::OtherThan(wanted)),
@@ -188,7 +188,7 @@ enum Denoted {
     Leaf(&'static str),
 }
 
-fn denoted_by(members: &Map<String, Value>) -> Denoted {
+fn denotation_of(members: &Map<String, Value>) -> Denoted {
     match only_member(members) {
         Some(("FieldTable", Value::Object(entries))) if needs_type_name(entries) =>
             Denoted::NamedTable,
@@ -261,7 +261,7 @@ fn push_step(alloc: Global, text: &mut String, step: Step<'_>) -> Result<(), All
         Step::Item(index) => write!(text, "[{index}]"),
         Step::Key(key) if is_word(key) => write!(text, ".{key}"),
         Step::Key(key) => {
-            let key = quoted(alloc, key.as_bytes())?;
+            let key = quoted_text(alloc, key.as_bytes())?;
             write!(text, "[{key}]")
         }
     }

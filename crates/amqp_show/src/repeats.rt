@@ -8,7 +8,7 @@ ghost use Rattle.amqp_show.specs.Failures.{AddsWarnings};
 use crate::arguments::Subject;
 use crate::notes::key_of;
 use crate::show::push_warning;
-use crate::texts::{quoted, typed_text};
+use crate::texts::{quoted_text, typed_text};
 use amqp_dissect::{Field, Part};
 use amqp_screen::Screen;
 use std::alloc::{AllocError, Global};
@@ -70,7 +70,7 @@ fn repeat_text(
     last: Entry<'_>,
     subject: Subject,
 ) -> Result<String, AllocError> {
-    let key = quoted(alloc, first.key)?;
+    let key = quoted_text(alloc, first.key)?;
     let first = value_text(alloc, parts, first.value, subject)?;
     let last = value_text(alloc, parts, last.value, subject)?;
     format!(in alloc; "the key {key} comes {times} times: first {first}, last {last}; {TAKEN}")

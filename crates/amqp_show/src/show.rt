@@ -5,7 +5,7 @@
 ghost use Rattle.std.specs.Prelude.{◌≡◌, drop, OnOk, IfOk};
 ghost use Rattle.amqp_screen.specs.Pushes.{AddsText};
 ghost use Rattle.amqp_show.specs.Failures.{failure_line, warning_line};
-ghost use Rattle.amqp_show.specs.Outcomes.{left_out, encoding_of, IsStatusOf};
+ghost use Rattle.amqp_show.specs.Outcomes.{left_out_count, encoding_of, IsStatusOf};
 ghost use Rattle.amqp_show.specs.Parts.{AreLinesShown};
 ghost use Rattle.amqp_show.specs.Shown.{ShowsName, ShowsStart, ShowsEnd, ShowsForm, ShowsIfAsked};
 ghost use Rattle.amqp_show.specs.Tree.{IsTreeAfter};
@@ -21,9 +21,9 @@ use crate::json;
 use crate::measure::measure_input;
 use crate::messages::unreadable;
 use crate::repeats::push_repeats;
+use crate::tag_hints::hint;
 use crate::texts::{failure_text, outcome_text};
 use crate::tree::push_tree;
-use crate::untagged::hint;
 use amqp_dissect::{End, Part, dissect_partial};
 use amqp_screen::{Colour, Screen, Status};
 use std::alloc::{AllocError, Global};
@@ -147,7 +147,7 @@ fn push_parts(
     cut: &[usize],
     settings: Settings,
 ) -> Result<(), AllocError>
-    ensures { OnOk result (ShowsForm settings.form (left_out settings.subject) cut.now parts.now
+    ensures { OnOk result (ShowsForm settings.form (left_out_count settings.subject) cut.now parts.now
         screen.old screen.new) }
 {
     let Form::Text {
@@ -205,8 +205,8 @@ fn push_lines(
     subject: Subject,
 ) -> Result<(), AllocError>
     ensures { OnOk result (ShowsIfAsked asked
-        (AreLinesShown screen.old.has_colours canonical cut.now (left_out subject)
-        (drop (left_out subject) parts.now))
+        (AreLinesShown screen.old.has_colours canonical cut.now (left_out_count subject)
+        (drop (left_out_count subject) parts.now))
         screen.old screen.new) }
 {
     if !asked {

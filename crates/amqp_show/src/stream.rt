@@ -69,7 +69,7 @@ impl<R: Read> Source<R> {
     }
 
     // Why it can't be read, after an error of this kind.
-    fn unread(&self, kind: ErrorKind) -> Result<Unread> {
+    fn read_failure(&self, kind: ErrorKind) -> Result<Unread> {
         if let Source::Text(digits) = self {
             if let Some(fault) = digits.fault() {
                 return Ok(Unread::NotHexadecimal(fault));
@@ -176,7 +176,12 @@ fn show_each<R: Read + Drop>(
         screen.print(rt)?;
         progress.erase(rt)?;
         match error {
-            StreamError::Read(kind) => return unread(rt, file, recorder.reader(), kind),
+            StreamError::Read(kind) => return report_read_failure(
+                rt,
+                file,
+                recorder.reader(),
+                kind,
+            ),
             StreamError::OutOfMemory => return Err(Fault::OutOfMemory),
             StreamError::Refused(_) if keeps_going(settings) => {
                 show_failure(rt, file, recorder.as_slice(), offset, settings)?;
@@ -184,7 +189,12 @@ fn show_each<R: Read + Drop>(
                 match pass_over(&mut recorder) {
                     Ok(Some(len)) => offset = offset.saturating_add(len as u64),
                     Ok(None) => return Ok(status),
-                    Err(error) => return unread(rt, file, recorder.reader(), error.kind()),
+                    Err(error) => return report_read_failure(
+                        rt,
+                        file,
+                        recorder.reader(),
+                        error.kind(),
+                    ),
                 }
                 values = Values::new(rt.alloc(), settings.limits);
             }
@@ -198,13 +208,13 @@ fn show_each<R: Read + Drop>(
 }
 
 // Reports why a source can't be read, after an error of this kind.
-fn unread<R: Read>(
+fn report_read_failure<R: Read>(
     rt: &HostRuntime,
     file: &str,
     source: &Source<R>,
     kind: ErrorKind,
 ) -> Result<Status> {
-    unreadable(rt, file, &source.unread(kind)?)
+    unreadable(rt, file, &source.read_failure(kind)?)
 }
 
 // Whether a rejected value is passed over.

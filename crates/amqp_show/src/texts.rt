@@ -7,8 +7,8 @@ ghost use Rattle.amqp_dissect.specs.Texts.{escaped};
 ghost use Rattle.amqp_screen.specs.Escapes.{in_text};
 ghost use Rattle.amqp_screen.specs.Pushes.{AddsText};
 ghost use Rattle.amqp_show.specs.Failures.{failure, end_text, problem_text, too_large, count_left, value_outcome, refusal_text, kind_name, IsOutcomeText};
-ghost use Rattle.amqp_show.specs.Parts.{number, level_mark, indented, IsFieldText};
-ghost use Rattle.amqp_show.specs.Payloads.{quoted, quoted_character};
+ghost use Rattle.amqp_show.specs.Parts.{number, level_mark, indentation, IsFieldText};
+ghost use Rattle.amqp_show.specs.Payloads.{quoted_text, quoted_character};
 ghost use Rattle.amqp_show.specs.Tree.{IsTypedText};
 
 use crate::arguments::{Settings, Subject};
@@ -32,7 +32,7 @@ const INDENTED: u32 = 32;
 /// if it is deeper.
 #[tactic(auto, using(crate::proofs::Pieces::indented_deep, crate::proofs::Pieces::indented_only))]
 pub fn push_indent(alloc: Global, screen: &mut Screen, level: u32) -> Result<(), AllocError>
-    ensures { OnOk result (AddsText screen.old screen.new (indented level)) }
+    ensures { OnOk result (AddsText screen.old screen.new (indentation level)) }
 {
     screen.indent(level.min(INDENTED))?;
     if level > INDENTED {
@@ -62,7 +62,7 @@ pub fn part_text(alloc: Global, part: &Part<'_>) -> Result<String, AllocError>
         Field::Length(_) => format!(in alloc; "length {}", number_of(part.bytes)),
         Field::KeyLength => format!(in alloc; "key length {}", number_of(part.bytes)),
         Field::Key => {
-            let key = quoted(alloc, part.bytes)?;
+            let key = quoted_text(alloc, part.bytes)?;
             format!(in alloc; "key {key}")
         }
         Field::Payload(amqp_type) => payload_text(alloc, amqp_type, part.bytes),
@@ -90,8 +90,8 @@ pub fn typed_text(
 /// The bytes in quotes, as a string if they are UTF-8: a quote and a backslash are after a
 /// backslash, and what doesn't print is escaped when it is shown. Other bytes are all escaped.
 #[tactic(auto, using(crate::proofs::Payloads::quoted_escaped))]
-pub fn quoted(alloc: Global, bytes: &[u8]) -> Result<String, AllocError>
-    ensures { IfOk result (λ text. string_bytes text ≡ quoted bytes.now) }
+pub fn quoted_text(alloc: Global, bytes: &[u8]) -> Result<String, AllocError>
+    ensures { IfOk result (λ text. string_bytes text ≡ quoted_text bytes.now) }
 {
     match str::from_utf8(bytes) {
         Ok(words) => quoted_words(alloc, words),
@@ -109,7 +109,7 @@ fn quoted_bytes(alloc: Global, bytes: &[u8]) -> Result<String, AllocError>
 
 // A string between quotes.
 fn quoted_words(alloc: Global, words: &str) -> Result<String, AllocError>
-    ensures { IfOk result (λ text. string_bytes text ≡ quoted words.now) }
+    ensures { IfOk result (λ text. string_bytes text ≡ quoted_text words.now) }
 {
     let mut text = String::new(alloc);
     text.push('"')?;

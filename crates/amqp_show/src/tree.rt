@@ -2,12 +2,12 @@
 
 ghost use Rattle.std.specs.Prelude.{◌≡◌, OnOk};
 ghost use Rattle.amqp_screen.specs.Pushes.{AddsText};
-ghost use Rattle.amqp_show.specs.Tree.{ended, begun, before_value, line_after, key_shown, ShowsNode, ShowsKey, ShowsValue, ShowsTree};
+ghost use Rattle.amqp_show.specs.Tree.{line_break, level_start, before_value, line_after, key_shown, ShowsNode, ShowsKey, ShowsValue, ShowsTree};
 ghost use Rattle.amqp_show.specs.Keys.{key_of};
 
 use crate::cut::is_cut;
 use crate::notes::{Keys, key_of, push_remark};
-use crate::texts::{push_indent, quoted, typed_text};
+use crate::texts::{push_indent, quoted_text, typed_text};
 use amq_protocol_types::AMQPType;
 use amqp_dissect::{Field, Part};
 use amqp_screen::{Colour, Screen};
@@ -100,7 +100,7 @@ fn push_key_text(alloc: Global, screen: &mut Screen, parts: &[Part<'_>]) -> Resu
 {
     match key_of(parts) {
         Some(key) => {
-            let text = quoted(alloc, key)?;
+            let text = quoted_text(alloc, key)?;
             screen.push_coloured(text.as_str(), Colour::Key)?;
             Ok(())
         }
@@ -143,7 +143,7 @@ fn begin_value(alloc: Global, screen: &mut Screen, line: Line, level: u32) -> Re
 
 // Ends the line before, if there is one, and indents the next.
 fn begin_line(alloc: Global, screen: &mut Screen, line: Line, level: u32) -> Result<(), AllocError>
-    ensures { OnOk result (AddsText screen.old screen.new (begun line level)) }
+    ensures { OnOk result (AddsText screen.old screen.new (level_start line level)) }
 {
     end_last(screen, line)?;
     push_indent(alloc, screen, level)?;
@@ -152,7 +152,7 @@ fn begin_line(alloc: Global, screen: &mut Screen, line: Line, level: u32) -> Res
 
 // Ends the last line, if there is one.
 fn end_last(screen: &mut Screen, line: Line) -> Result<(), AllocError>
-    ensures { OnOk result (AddsText screen.old screen.new (ended line)) }
+    ensures { OnOk result (AddsText screen.old screen.new (line_break line)) }
 {
     match line {
         Line::Nothing => Ok(()),

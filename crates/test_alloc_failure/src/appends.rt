@@ -75,13 +75,17 @@ fn append_pair(
 ) -> Result<(), AllocError> {
     match append {
         Append::Place(_) => t.place(key, AMQPValue::Boolean(true)),
-        Append::InsertKeys => inserted(t, key, AMQPValue::ShortShortUInt(n)),
-        _ => inserted(t, key, AMQPValue::Boolean(true)),
+        Append::InsertKeys => insert_pair(t, key, AMQPValue::ShortShortUInt(n)),
+        _ => insert_pair(t, key, AMQPValue::Boolean(true)),
     }
 }
 
 // `insert`, without the table that it returns
-fn inserted(table: &mut FieldTable, key: ShortString, value: AMQPValue) -> Result<(), AllocError> {
+fn insert_pair(
+    table: &mut FieldTable,
+    key: ShortString,
+    value: AMQPValue,
+) -> Result<(), AllocError> {
     table.insert(key, value)?;
     Ok(())
 }

@@ -254,7 +254,7 @@ fn of_flags() -> &'static [Case] {
 }
 
 /// Constructors and appends.
-fn constructed() -> &'static [Case] {
+fn construction_cases() -> &'static [Case] {
     const CASES: &[Case] = cases! {
     "try_copy" MEMORY [Construct(Constructor::TryCopy, 4), Construct(Constructor::TryCopy, 255)]
     "from_text" ALLOC [Construct(Constructor::FromText, 4), Construct(Constructor::FromText, 70_000)]
@@ -280,7 +280,7 @@ fn constructed() -> &'static [Case] {
 }
 
 /// Clone.
-fn cloned() -> &'static [Case] {
+fn clone_cases() -> &'static [Case] {
     const CASES: &[Case] = cases! {
     "clone_of_a_short_string" ALLOC [CloneAll(&[Of(Kind::ShortString, 4), Of(Kind::ShortString, 255)])]
     "clone_of_a_long_string" ALLOC [CloneAll(&[Of(Kind::LongString, 4), Of(Kind::LongString, 70_000)])]
@@ -320,7 +320,7 @@ fn cloned() -> &'static [Case] {
 }
 
 /// AMQPValue::try_from.
-fn converted() -> &'static [Case] {
+fn conversion_cases() -> &'static [Case] {
     const CASES: &[Case] = cases! {
     "try_from_to_a_short_string" ALLOC [TryFrom(&[AMQPType::ShortString], &[Text(4), Text(255)])]
     "try_from_to_a_long_string" ALLOC [TryFrom(&[AMQPType::LongString], &[Text(4), Text(70_000)])]
@@ -340,7 +340,7 @@ fn converted() -> &'static [Case] {
 }
 
 /// Generators.
-fn generated() -> &'static [Case] {
+fn generation_cases() -> &'static [Case] {
     const CASES: &[Case] = cases! {
     "gen_value" MEMORY [Generate(&[Wire(TABLE), ValueOf(Kind::LongString, 70_000)])]
     "gen_raw_value" MEMORY [GeneratePayloads(&[Wire(TABLE), ValueOf(Kind::LongString, 70_000)])]
@@ -366,7 +366,7 @@ fn generated() -> &'static [Case] {
 }
 
 /// Limits, and readers of values.
-fn streamed() -> &'static [Case] {
+fn stream_cases() -> &'static [Case] {
     const CASES: &[Case] = cases! {
     "value_within_limits" PARSER [Parse(Parser::Within(LIMITS), &[Bytes(TABLE)])]
     "array_within_limits" PARSER [Parse(Parser::ArrayWithin(LIMITS), &[Bytes(b"\0\0\0\x07VS\0\0\0\x01a")])]
@@ -460,11 +460,11 @@ pub fn section(n: u8) -> &'static [Case] {
         2 => strings(),
         3 => parsers_without(),
         4 => of_flags(),
-        5 => constructed(),
-        6 => cloned(),
-        7 => converted(),
-        8 => generated(),
-        9 => streamed(),
+        5 => construction_cases(),
+        6 => clone_cases(),
+        7 => conversion_cases(),
+        8 => generation_cases(),
+        9 => stream_cases(),
         10 => in_place_values(),
         11 => of_texts(),
         _ => &[],
@@ -516,7 +516,7 @@ impl Step {
             ToOwned(all) => in_place::to_owned(h, all),
             ContainerToOwned(bytes) => in_place::container_to_owned(h, bytes),
             RepeatedKey(all) => in_place::repeated_key(h, all),
-            Warned(all) => in_place::warned(h, all),
+            Warned(all) => in_place::run_warnings(h, all),
             FirstProblem(values, table) => in_place::first_problems(h, values, table),
             Skip(bytes) => in_place::count_and_skip(h, bytes),
             GetFirst(bytes, key) => in_place::get_first(h, bytes, key),

@@ -39,7 +39,7 @@ pub enum Document {
 fn json_of(alloc: Global, document: Document) -> io::Result<Value> {
     match document {
         Document::Null => Ok(Value::Null),
-        Document::Seven => Value::from_str(alloc, "7").map_err(fixtures::failed),
+        Document::Seven => Value::from_str(alloc, "7").map_err(fixtures::preparation_error),
         Document::Text(length) => Ok(Value::String(fixtures::text(alloc, length)?)),
     }
 }

@@ -49,7 +49,7 @@ pub enum Plan {
 }
 
 /// A preparation failed.
-pub fn failed<E: Drop>(_: E) -> io::Error {
+pub fn preparation_error<E: Drop>(_: E) -> io::Error {
     io::Error::from(ErrorKind::OutOfMemory)
 }
 
@@ -112,13 +112,13 @@ fn in_a_value(inner: AnyValue) -> AnyValue {
 
 /// The value of an encoding.
 pub fn value(alloc: Global, wire: &[u8]) -> io::Result<AMQPValue> {
-    let (_, value) = parse_value(alloc, SliceInput::new(wire)).map_err(failed)?;
+    let (_, value) = parse_value(alloc, SliceInput::new(wire)).map_err(preparation_error)?;
     Ok(value)
 }
 
 /// A short string.
 pub fn short(alloc: Global, text: &str) -> io::Result<ShortString> {
-    ShortString::try_copy(alloc, text).map_err(failed)
+    ShortString::try_copy(alloc, text).map_err(preparation_error)
 }
 
 /// n letters a.
@@ -128,7 +128,7 @@ pub fn letters(alloc: Global, count: usize) -> Result<Vec<u8>, AllocError> {
 
 /// n letters a, as a string.
 pub fn text(alloc: Global, count: usize) -> io::Result<String> {
-    String::from_utf8(letters(alloc, count)?).map_err(failed)
+    String::from_utf8(letters(alloc, count)?).map_err(preparation_error)
 }
 
 /// An array of n Voids.

@@ -178,7 +178,7 @@ fn fill_and_cut(vector: &mut Vec<u8>) {
 /// A vector with the byte 9 and capacity for n bytes more is filled.
 pub fn fill_vector<R: Print + Eprint>(h: &Harness<R>, n: usize, fills: &[Fill]) -> io::Result<()> {
     let mut vector = Vec::from_slice(h.alloc, &[9])?;
-    vector.make_room(n).map_err(fixtures::failed)?;
+    vector.make_room(n).map_err(fixtures::preparation_error)?;
     let mut filling = Filling {
         fill: Fill::MakeRoom(n),
         vector,

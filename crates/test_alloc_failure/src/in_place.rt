@@ -255,7 +255,7 @@ pub fn container_to_owned<R: Print + Eprint>(
 ) -> io::Result<()> {
     match read_in_place(bytes, LIMITS) {
         Ok((value, _)) => h.run(&mut ContainerToOwned { value }),
-        Err(e) => Err(fixtures::failed(e)),
+        Err(e) => Err(fixtures::preparation_error(e)),
     }
 }
 
@@ -322,7 +322,7 @@ pub fn count_untagged<R: Print + Eprint>(h: &Harness<R>, bytes: &'static [u8]) -
 }
 
 /// What RabbitMQ takes in each of these tables, and others may not.
-pub fn warned<R: Print + Eprint>(h: &Harness<R>, all: &[&'static [u8]]) -> io::Result<()> {
+pub fn run_warnings<R: Print + Eprint>(h: &Harness<R>, all: &[&'static [u8]]) -> io::Result<()> {
     for bytes in all {
         h.run(&mut Warnings { bytes })?;
     }

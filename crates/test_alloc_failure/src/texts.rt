@@ -201,7 +201,7 @@ pub fn run<R: Print + Eprint>(h: &Harness<R>, call: TextCall, pieces: &[Piece]) 
             h.run(&mut ToJson { value })
         }
         TextCall::FromJson => {
-            let text = String::from_utf8(bytes).map_err(fixtures::failed)?;
+            let text = String::from_utf8(bytes).map_err(fixtures::preparation_error)?;
             h.run(&mut FromJson { text })
         }
         TextCall::ToValue => {
@@ -209,8 +209,10 @@ pub fn run<R: Print + Eprint>(h: &Harness<R>, call: TextCall, pieces: &[Piece]) 
             h.run(&mut ToValue { value })
         }
         TextCall::FromValue => {
-            let text = String::from_utf8(bytes).map_err(fixtures::failed)?;
-            let json = Value::from_str(h.alloc, text.as_str()).map_err(fixtures::failed)?;
+            let text = String::from_utf8(bytes).map_err(fixtures::preparation_error)?;
+            let json = Value::from_str(h.alloc, text.as_str()).map_err(
+                fixtures::preparation_error,
+            )?;
             h.run(&mut FromValue { json })
         }
         TextCall::JsonOfEncoding => h.run(&mut JsonOfEncoding { bytes }),
@@ -223,7 +225,7 @@ pub fn run<R: Print + Eprint>(h: &Harness<R>, call: TextCall, pieces: &[Piece]) 
             h.run(&mut WriteSortedJson { bytes, buffer })
         }
         TextCall::EncodingOfJson => {
-            let text = String::from_utf8(bytes).map_err(fixtures::failed)?;
+            let text = String::from_utf8(bytes).map_err(fixtures::preparation_error)?;
             h.run(&mut EncodingOfJson { text })
         }
         TextCall::Dissect => h.run(&mut Dissect { bytes }),

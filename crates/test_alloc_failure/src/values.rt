@@ -1,6 +1,6 @@
 //! The arguments and results of calls.
 
-use crate::fixtures::failed;
+use crate::fixtures::preparation_error;
 use crate::generation::generate;
 use amq_protocol_types::flags::AMQPFlags;
 use amq_protocol_types::generation::{SliceOutput, WriteContext};
@@ -60,9 +60,8 @@ impl AnyValue {
     /// It as a string. Values, arrays and tables are in hexadecimal.
     pub fn text(&self, alloc: Global) -> io::Result<String> {
         match self {
-            AnyValue::Value(_) | AnyValue::FieldArray(_) | AnyValue::FieldTable(_) => self.encoded(
-                alloc,
-            ),
+            AnyValue::Value(_) | AnyValue::FieldArray(_) | AnyValue::FieldTable(_) =>
+                self.encoding_text(alloc),
             AnyValue::LongString(s) => in_brackets(alloc, s.as_bytes()),
             AnyValue::ByteArray(a) => in_brackets(alloc, a.as_slice()),
             AnyValue::Bytes(vector) => in_brackets(alloc, vector.as_slice()),
@@ -72,10 +71,10 @@ impl AnyValue {
     }
 
     /// Its encoding in hexadecimal.
-    fn encoded(&self, alloc: Global) -> io::Result<String> {
+    fn encoding_text(&self, alloc: Global) -> io::Result<String> {
         let mut buffer = vec![in alloc; 0; BUFFER]?;
         let mut x = WriteContext::from(SliceOutput::new(buffer.as_mut_slice()));
-        generate(self, false, &mut x).map_err(failed)?;
+        generate(self, false, &mut x).map_err(preparation_error)?;
         let (output, _) = x.into_inner();
         bytes(alloc, output.written())
     }

@@ -6,14 +6,18 @@ use std::alloc::{AllocError, Global};
 use std::test::Fail;
 
 // the value of a JSON text
-fn converted(alloc: Global, text: &str, amqp_type: AMQPType) -> Result<Option<AMQPValue>, Fail> {
+fn value_of_json(
+    alloc: Global,
+    text: &str,
+    amqp_type: AMQPType,
+) -> Result<Option<AMQPValue>, Fail> {
     let value = Value::from_str(alloc, text)?;
     Ok(AMQPValue::try_from(alloc, &value, amqp_type)?)
 }
 
 // whether the JSON text results in this value
 fn gives(alloc: Global, text: &str, amqp_type: AMQPType, value: &AMQPValue) -> Result<bool, Fail> {
-    Ok(match converted(alloc, text, amqp_type)? {
+    Ok(match value_of_json(alloc, text, amqp_type)? {
         Some(made) => made == *value,
         None => false,
     })
@@ -39,7 +43,7 @@ const REFUSED: &[(&str, AMQPType)] = &[
 #[test]
 fn some_json_has_no_value(rt: HostRuntime) -> Result<(), Fail> {
     for (text, amqp_type) in REFUSED {
-        let made = converted(rt.alloc(), text, *amqp_type)?;
+        let made = value_of_json(rt.alloc(), text, *amqp_type)?;
         assert!(rt; made.is_none(), "{text} as {amqp_type}");
     }
     Ok(())
@@ -120,7 +124,7 @@ fn letters(alloc: Global, n: usize) -> Result<String, AllocError> {
 fn short_strings_of_json(rt: HostRuntime) -> Result<(), Fail> {
     for (n, fits) in [(255, true), (256, false)] {
         let text = letters(rt.alloc(), n)?;
-        let made = converted(rt.alloc(), text.as_str(), AMQPType::ShortString)?;
+        let made = value_of_json(rt.alloc(), text.as_str(), AMQPType::ShortString)?;
         assert_eq!(rt; made.is_some(), fits);
     }
     Ok(())

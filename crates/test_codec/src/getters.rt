@@ -39,7 +39,7 @@ fn types_have_letters(rt: HostRuntime) {
 }
 
 // which getters return a field, in the order of the types
-fn given(value: &AMQPValue) -> [bool; 18] {
+fn getter_results(value: &AMQPValue) -> [bool; 18] {
     [
         value.as_bool().is_some(),
         value.as_short_short_int().is_some(),
@@ -87,7 +87,7 @@ fn a_getter_returns_only_its_type(rt: HostRuntime) {
         AMQPValue::Void,
     ];
     for (at, value) in values.iter().enumerate() {
-        for (of, is_given) in given(value).iter().enumerate() {
+        for (of, is_given) in getter_results(value).iter().enumerate() {
             assert_eq!(rt; *is_given, at == of, "getter {of} of value {at}");
         }
     }

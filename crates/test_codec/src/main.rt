@@ -43,9 +43,9 @@ mod repeated_keys;
 #[cfg(test)]
 mod stream;
 #[cfg(test)]
-mod untagged;
-#[cfg(test)]
 mod values;
+#[cfg(test)]
+mod without_tag;
 
 use std::process::ExitCode;
 

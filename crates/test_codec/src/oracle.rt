@@ -48,7 +48,7 @@ pub fn run<P: Print, R: Read>(rt: &P, alloc: Global, input: &mut R) -> io::Resul
             return Ok(());
         }
         let request = line.as_str().trim_end();
-        match returned(alloc, request) {
+        match result_of_request(alloc, request) {
             Ok(said) => println!(rt; "{said}")?,
             Err(Trouble::Unknown) => println!(rt; "no request")?,
             Err(Trouble::OutOfMemory) => return Err(io::Error::from(ErrorKind::OutOfMemory)),
@@ -58,7 +58,7 @@ pub fn run<P: Print, R: Read>(rt: &P, alloc: Global, input: &mut R) -> io::Resul
 }
 
 /// What a request's call returns.
-fn returned(alloc: Global, request: &str) -> Returned {
+fn result_of_request(alloc: Global, request: &str) -> Returned {
     let words: Vec<&str> = request.split(' ').collect(alloc)?;
     match words.as_slice() {
         ["parse", call, bytes] => parse::parse(alloc, *call, hex_of(alloc, *bytes)?.as_slice()),

@@ -88,12 +88,12 @@ const REJECTED: [(&[u8], usize, ProblemKind); 29] = [
 ];
 
 // the first problem, as its offset and kind
-fn seen(bytes: &[u8], limits: Limits) -> Option<(usize, ProblemKind)> {
+fn problem_in_value(bytes: &[u8], limits: Limits) -> Option<(usize, ProblemKind)> {
     let Problem { offset, kind } = first_problem(bytes, limits)?;
     Some((offset, kind))
 }
 
-fn seen_in_table(table: &[u8], limits: Limits) -> Option<(usize, ProblemKind)> {
+fn problem_in_table(table: &[u8], limits: Limits) -> Option<(usize, ProblemKind)> {
     let Problem { offset, kind } = first_problem_in_table(table, limits)?;
     Some((offset, kind))
 }
@@ -105,45 +105,45 @@ fn limits(frame: u32, depth: u32) -> Limits {
 #[test]
 fn what_rabbitmq_takes_has_no_problem(rt: HostRuntime) {
     for bytes in TAKEN {
-        assert_eq!(rt; seen(bytes, LIMITS), None);
+        assert_eq!(rt; problem_in_value(bytes, LIMITS), None);
     }
 }
 
 #[test]
 fn the_first_problem_is_found(rt: HostRuntime) {
     for (bytes, offset, kind) in REJECTED {
-        assert_eq!(rt; seen(bytes, LIMITS), Some((offset, kind)));
+        assert_eq!(rt; problem_in_value(bytes, LIMITS), Some((offset, kind)));
     }
 }
 
 #[test]
 fn a_table_has_no_type_tag(rt: HostRuntime) {
-    assert_eq!(rt; seen_in_table(b"\0\0\0\0", LIMITS), None);
-    assert_eq!(rt; seen_in_table(b"\0\0\0\x03\x01aVU", LIMITS), None);
+    assert_eq!(rt; problem_in_table(b"\0\0\0\0", LIMITS), None);
+    assert_eq!(rt; problem_in_table(b"\0\0\0\x03\x01aVU", LIMITS), None);
     assert_eq!(rt;
-        seen_in_table(b"\0\0\0\x0b\x01ad\x7f\xf8\0\0\0\0\0\0", LIMITS),
+        problem_in_table(b"\0\0\0\x0b\x01ad\x7f\xf8\0\0\0\0\0\0", LIMITS),
         Some((6, NotFinite))
     );
     assert_eq!(rt;
-        seen_in_table(b"\0\0\0\x05\x01aV\x02b", LIMITS),
+        problem_in_table(b"\0\0\0\x05\x01aV\x02b", LIMITS),
         Some((7, KeyCut))
     );
     for cut in [b"".as_slice(), b"\0\0\0", b"\0\0\0\x04\x01aV"] {
-        assert_eq!(rt; seen_in_table(cut, LIMITS), Some((0, Cut)));
+        assert_eq!(rt; problem_in_table(cut, LIMITS), Some((0, Cut)));
     }
 }
 
 #[test]
 fn limits_are_kept(rt: HostRuntime) {
     let nested = b"A\0\0\0\x05A\0\0\0\0";
-    assert_eq!(rt; seen(nested, limits(10, 2)), None);
-    assert_eq!(rt; seen(nested, limits(10, 1)), Some((5, TooDeep)));
-    assert_eq!(rt; seen(nested, limits(10, 0)), Some((0, TooDeep)));
-    assert_eq!(rt; seen(nested, limits(9, 2)), Some((0, TooLarge)));
+    assert_eq!(rt; problem_in_value(nested, limits(10, 2)), None);
+    assert_eq!(rt; problem_in_value(nested, limits(10, 1)), Some((5, TooDeep)));
+    assert_eq!(rt; problem_in_value(nested, limits(10, 0)), Some((0, TooDeep)));
+    assert_eq!(rt; problem_in_value(nested, limits(9, 2)), Some((0, TooLarge)));
     let table = b"\0\0\0\x03\x01aV";
-    assert_eq!(rt; seen_in_table(table, limits(8, 1)), None);
-    assert_eq!(rt; seen_in_table(table, limits(7, 1)), Some((0, TooLarge)));
-    assert_eq!(rt; seen_in_table(table, limits(8, 0)), Some((0, TooDeep)));
+    assert_eq!(rt; problem_in_table(table, limits(8, 1)), None);
+    assert_eq!(rt; problem_in_table(table, limits(7, 1)), Some((0, TooLarge)));
+    assert_eq!(rt; problem_in_table(table, limits(8, 0)), Some((0, TooDeep)));
 }
 
 /// Encodings, with the offset of the first pair whose key is repeated, and that of the first whose
@@ -199,7 +199,7 @@ const LEVELS: [(u32, u32, Option<usize>); 8] = [
     (0, 2, Some(0)),
 ];
 
-fn warned(alloc: Global, bytes: &[u8], depth: u32) -> Result<Warned, AllocError> {
+fn warnings_to_depth(alloc: Global, bytes: &[u8], depth: u32) -> Result<Warned, AllocError> {
     warnings(alloc, bytes, limits(131_072, depth), 131_072, CLIENT_LEVELS)
 }
 
@@ -235,14 +235,20 @@ fn many_keys(alloc: Global) -> Result<Vec<u8>, AllocError> {
 #[test]
 fn keys_are_looked_at(rt: HostRuntime) -> Result<(), AllocError> {
     for (bytes, repeated, not_utf8) in KEYS {
-        let seen = warned(rt.alloc(), bytes, 64)?;
+        let seen = warnings_to_depth(rt.alloc(), bytes, 64)?;
         assert_eq!(rt; seen.repeated_key, repeated);
         assert_eq!(rt; seen.key_not_utf8, not_utf8);
         assert!(rt; !seen.exceeds_frame);
     }
     let nested = b"A\0\0\0\x0bF\0\0\0\x06\x01xV\x01xV";
-    assert_eq!(rt; warned(rt.alloc(), nested, 2)?.repeated_key, Some(13));
-    assert_eq!(rt; warned(rt.alloc(), nested, 1)?.repeated_key, None);
+    assert_eq!(rt;
+        warnings_to_depth(rt.alloc(), nested, 2)?.repeated_key,
+        Some(13)
+    );
+    assert_eq!(rt;
+        warnings_to_depth(rt.alloc(), nested, 1)?.repeated_key,
+        None
+    );
     let table = b"\0\0\0\x06\x01\xffV\x01\xffV";
     let seen = warnings_in_table(rt.alloc(), table, LIMITS, 0, CLIENT_LEVELS)?;
     assert_eq!(rt; seen.repeated_key, Some(7));
@@ -253,7 +259,7 @@ fn keys_are_looked_at(rt: HostRuntime) -> Result<(), AllocError> {
 #[test]
 fn empty_keys_are_found(rt: HostRuntime) -> Result<(), AllocError> {
     for (bytes, empty) in EMPTY_KEYS {
-        assert_eq!(rt; warned(rt.alloc(), bytes, 64)?.empty_key, empty);
+        assert_eq!(rt; warnings_to_depth(rt.alloc(), bytes, 64)?.empty_key, empty);
     }
     let table = b"\0\0\0\x04\0V\0V";
     let seen = warnings_in_table(rt.alloc(), table, LIMITS, 0, CLIENT_LEVELS)?;
@@ -284,7 +290,10 @@ fn a_frame_has_eight_bytes_more(rt: HostRuntime) -> Result<(), AllocError> {
     for (len, exceeds) in [(131_064, false), (131_065, true)] {
         let bytes = table_of(rt.alloc(), len)?;
         assert_eq!(rt; bytes.len(), 1 + len as usize);
-        assert_eq!(rt; warned(rt.alloc(), &bytes, 1)?.exceeds_frame, exceeds);
+        assert_eq!(rt;
+            warnings_to_depth(rt.alloc(), &bytes, 1)?.exceeds_frame,
+            exceeds
+        );
         let seen = warnings_in_table(rt.alloc(), &bytes[1..], LIMITS, 131_072, CLIENT_LEVELS)?;
         assert_eq!(rt; seen.exceeds_frame, exceeds);
         let seen = warnings_in_table(rt.alloc(), &bytes[1..], LIMITS, 0, CLIENT_LEVELS)?;
@@ -296,7 +305,7 @@ fn a_frame_has_eight_bytes_more(rt: HostRuntime) -> Result<(), AllocError> {
 #[test]
 fn many_keys_take_seconds(rt: HostRuntime) -> Result<(), AllocError> {
     let bytes = many_keys(rt.alloc())?;
-    let seen = warned(rt.alloc(), &bytes, 1)?;
+    let seen = warnings_to_depth(rt.alloc(), &bytes, 1)?;
     assert_eq!(rt; seen.repeated_key, Some(120_005));
     Ok(())
 }

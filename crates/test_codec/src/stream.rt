@@ -1,14 +1,14 @@
 //! Values within limits, from inputs and from readers, by the format's own numbers.
 
 mod deep;
-mod joined;
 mod large;
 mod limits;
 mod memory;
 mod reader;
 mod requests;
+mod sequence;
 mod texts;
-mod untagged;
+mod without_tag;
 
 use amq_protocol_types::AMQPValue;
 use amq_protocol_types::parsing::{ErrorKind, SliceInput, parse_value};
@@ -46,7 +46,7 @@ impl<'a> Script<'a> {
     }
 
     // What it would yield next.
-    fn left(&self) -> &[u8] {
+    fn next_bytes(&self) -> &[u8] {
         match self.events.get(self.done) {
             Some(Event::Gives(bytes)) => bytes.split_at(self.given.min(bytes.len())).1,
             _ => &[],
@@ -155,8 +155,8 @@ fn holds_for(rt: &impl Abort, alloc: Global, row: Row<'_>, most: usize) {
             row.says
         );
     }
-    assert_eq!(rt; owner.into_inner().left(), row.left, "{}", row.says);
-    assert_eq!(rt; reader.left(), row.left, "{}", row.says);
+    assert_eq!(rt; owner.into_inner().next_bytes(), row.left, "{}", row.says);
+    assert_eq!(rt; reader.next_bytes(), row.left, "{}", row.says);
 }
 
 // Both return what the case has, however the reader cuts what it yields.

@@ -30,7 +30,7 @@ fn put(alloc: Global, table: &mut FieldTable, name: &str, value: AMQPValue) -> R
 }
 
 // an array of an array and a number, value by value
-fn pushed(alloc: Global) -> Result<FieldArray, AllocError> {
+fn array_by_push(alloc: Global) -> Result<FieldArray, AllocError> {
     let mut inner = FieldArray::new_in(alloc);
     inner.push(AMQPValue::Boolean(true))?;
     let mut outer = FieldArray::new_in(alloc);
@@ -40,7 +40,7 @@ fn pushed(alloc: Global) -> Result<FieldArray, AllocError> {
 }
 
 // that array, made of vectors
-fn collected(alloc: Global) -> Result<FieldArray, AllocError> {
+fn array_of_vectors(alloc: Global) -> Result<FieldArray, AllocError> {
     let inner = FieldArray::from(vec![in alloc; AMQPValue::Boolean(true)]?);
     let values = vec![in alloc; AMQPValue::FieldArray(inner), AMQPValue::ShortShortInt(-1)]?;
     Ok(FieldArray::from(values))
@@ -48,9 +48,9 @@ fn collected(alloc: Global) -> Result<FieldArray, AllocError> {
 
 #[test]
 fn an_array_takes_values(rt: HostRuntime) -> Result<(), Fail> {
-    let array = pushed(rt.alloc())?;
+    let array = array_by_push(rt.alloc())?;
     assert_eq!(rt; array.as_slice().len(), 2);
-    assert!(rt; array == collected(rt.alloc())?);
+    assert!(rt; array == array_of_vectors(rt.alloc())?);
     Ok(())
 }
 
@@ -89,7 +89,7 @@ fn short_strings_are_ordered_by_their_bytes(rt: HostRuntime) -> Result<(), Fail>
 }
 
 // a table in which a value at the key b took another's place
-fn inserted(alloc: Global) -> Result<FieldTable, Fail> {
+fn table_by_insert(alloc: Global) -> Result<FieldTable, Fail> {
     let mut table = FieldTable::new_in(alloc);
     let lent = table.insert(key(alloc, "b")?, AMQPValue::Void)?;
     lent.insert(key(alloc, "b")?, AMQPValue::LongUInt(2))?;
@@ -98,7 +98,7 @@ fn inserted(alloc: Global) -> Result<FieldTable, Fail> {
 }
 
 // that table, of one value at each key
-fn placed(alloc: Global) -> Result<FieldTable, Fail> {
+fn table_by_place(alloc: Global) -> Result<FieldTable, Fail> {
     let mut table = FieldTable::new_in(alloc);
     put(alloc, &mut table, "B", AMQPValue::Boolean(true))?;
     put(alloc, &mut table, "b", AMQPValue::LongUInt(2))?;
@@ -116,13 +116,13 @@ fn keys_of(alloc: Global, table: &FieldTable) -> Result<String, AllocError> {
 
 #[test]
 fn a_table_keeps_one_value_at_a_key(rt: HostRuntime) -> Result<(), Fail> {
-    let table = inserted(rt.alloc())?;
+    let table = table_by_insert(rt.alloc())?;
     assert!(rt; table.contains_key("b") && !table.contains_key("c"));
     for (_, v) in &table {
         assert!(rt; *v != AMQPValue::Void);
     }
     assert_eq!(rt; keys_of(rt.alloc(), &table)?.as_str(), "Bb");
-    assert!(rt; table == placed(rt.alloc())?);
+    assert!(rt; table == table_by_place(rt.alloc())?);
     Ok(())
 }
 
@@ -291,7 +291,7 @@ fn large_containers_are_made_and_copied(rt: HostRuntime) -> Result<(), Fail> {
 }
 
 // a table with a list in it
-fn nested(alloc: Global) -> Result<FieldTable, Fail> {
+fn table_with_list(alloc: Global) -> Result<FieldTable, Fail> {
     let mut list = FieldArray::new_in(alloc);
     list.push(AMQPValue::LongString(LongString::from_text(alloc, "test")?))?;
     list.push(AMQPValue::Void)?;
@@ -302,7 +302,7 @@ fn nested(alloc: Global) -> Result<FieldTable, Fail> {
 
 #[test]
 fn a_copy_equals_what_is_copied(rt: HostRuntime) -> Result<(), Fail> {
-    let value = AMQPValue::from(nested(rt.alloc())?);
+    let value = AMQPValue::from(table_with_list(rt.alloc())?);
     let copy = value.clone(rt.alloc())?;
     assert!(rt; copy == value);
     assert!(rt; copy != AMQPValue::from(FieldTable::new_in(rt.alloc())));

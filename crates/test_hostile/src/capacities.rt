@@ -9,7 +9,7 @@ use std::alloc::Global;
 use std::io;
 
 /// What a generator returned, as a string.
-fn said(alloc: Global, outcome: GenResult) -> io::Result<String> {
+fn result_text(alloc: Global, outcome: GenResult) -> io::Result<String> {
     Ok(format!(in alloc; "{outcome:?}")?)
 }
 
@@ -24,7 +24,7 @@ fn in_capacity<P: Print>(
 ) -> io::Result<()> {
     let mut slice = vec![in alloc; 170; before.len().saturating_add(capacity)]?;
     let mut x = WriteContext::from(SliceOutput::new(slice.as_mut_slice()));
-    x.put(before).map_err(crate::unmade)?;
+    x.put(before).map_err(crate::preparation_error)?;
     let outcome = gen_value(value, &mut x);
     let (output, position) = x.into_inner();
     let put = shown::bytes(alloc, output.written())?;
@@ -54,14 +54,14 @@ fn puts_and_refuses<W: BackToTheBuffer>(x: &mut WriteContext<W>) -> GenResult {
 /// Prints what is left of a vector and of a slice if what has a length fails.
 fn with_length<P: Print>(rt: &P, alloc: Global) -> io::Result<()> {
     let mut x = WriteContext::from(Vec::from_slice(alloc, &[9])?);
-    let outcome = said(alloc, puts_and_refuses(&mut x))?;
+    let outcome = result_text(alloc, puts_and_refuses(&mut x))?;
     let (vector, count) = x.into_inner();
     let put = shown::bytes(alloc, vector.as_slice())?;
     println!(rt; "an error after a length: {outcome} position {count} put {put}")?;
     let mut buffer = [0; 20];
     let mut x = WriteContext::from(SliceOutput::new(&mut buffer));
-    x.put(&[9]).map_err(crate::unmade)?;
-    let outcome = said(alloc, puts_and_refuses(&mut x))?;
+    x.put(&[9]).map_err(crate::preparation_error)?;
+    let outcome = result_text(alloc, puts_and_refuses(&mut x))?;
     let (output, count) = x.into_inner();
     let put = shown::bytes(alloc, output.written())?;
     println!(rt; "an error after a length: {outcome} position {count} put {put}")

@@ -4,7 +4,7 @@
 //!
 //! `tests/memory/sizes` runs it, by a word for what standard input has.
 
-use crate::unmade;
+use crate::preparation_error;
 use amq_protocol_types::flags::AMQPFlags;
 use amq_protocol_types::generation::{
     BackToTheBuffer, GenError, GenResult, Output, WriteContext, gen_byte_array, gen_field_array,
@@ -92,7 +92,7 @@ fn read<I: ParsableInput, T: Drop>(parsed: ParserResult<I, T>) -> Result<T, Pars
 }
 
 /// What a generator wrote.
-fn written(done: GenResult, x: WriteContext<Vec<u8>>) -> Result<Vec<u8>, GenError> {
+fn bytes_written(done: GenResult, x: WriteContext<Vec<u8>>) -> Result<Vec<u8>, GenError> {
     done?;
     let (bytes, _) = x.into_inner();
     Ok(bytes)
@@ -106,8 +106,8 @@ fn payload_of(bytes: &[u8]) -> &[u8] {
 /// Calls on the canonical encoding of a string or of a byte array.
 fn of_bytes<P: Print>(rt: &P, alloc: Global, bytes: &[u8]) -> io::Result<()> {
     let payload = payload_of(bytes);
-    let value = read(parse_value(alloc, SliceInput::new(bytes))).map_err(unmade)?;
-    tell(rt, "ValueRef::to_owned", owned(alloc, bytes), &value)?;
+    let value = read(parse_value(alloc, SliceInput::new(bytes))).map_err(preparation_error)?;
+    tell(rt, "ValueRef::to_owned", owned_value(alloc, bytes), &value)?;
     match &value {
         AMQPValue::LongString(s) => of_string(rt, alloc, payload, s),
         AMQPValue::ByteArray(a) => of_byte_array(rt, alloc, payload, a),
@@ -117,9 +117,9 @@ fn of_bytes<P: Print>(rt: &P, alloc: Global, bytes: &[u8]) -> io::Result<()> {
 
 /// Calls on the canonical encoding of an array or of a table.
 fn of_container<P: Print>(rt: &P, alloc: Global, bytes: &[u8]) -> io::Result<()> {
-    let value = read(parse_value(alloc, SliceInput::new(bytes))).map_err(unmade)?;
-    parsed(rt, alloc, bytes, &value)?;
-    generated(rt, alloc, bytes, &value)?;
+    let value = read(parse_value(alloc, SliceInput::new(bytes))).map_err(preparation_error)?;
+    tell_reading(rt, alloc, bytes, &value)?;
+    tell_writing(rt, alloc, bytes, &value)?;
     match &value {
         AMQPValue::FieldArray(a) => of_array(rt, alloc, bytes, a),
         AMQPValue::FieldTable(t) => of_table(rt, alloc, payload_of(bytes), t),
@@ -128,7 +128,12 @@ fn of_container<P: Print>(rt: &P, alloc: Global, bytes: &[u8]) -> io::Result<()>
 }
 
 /// It is read by each reader of values.
-fn parsed<P: Print>(rt: &P, alloc: Global, bytes: &[u8], value: &AMQPValue) -> io::Result<()> {
+fn tell_reading<P: Print>(
+    rt: &P,
+    alloc: Global,
+    bytes: &[u8],
+    value: &AMQPValue,
+) -> io::Result<()> {
     let (first, second) = bytes.split_at(bytes.len() / 2);
     let in_two = parse_value(alloc, SplitInput::new(first, second));
     tell(rt, "parse_value", read(in_two), value)?;
@@ -143,7 +148,7 @@ fn parsed<P: Print>(rt: &P, alloc: Global, bytes: &[u8], value: &AMQPValue) -> i
         next_of(alloc, bytes),
         &Some(value.clone(alloc)?),
     )?;
-    tell(rt, "ValueRef::to_owned", owned(alloc, bytes), value)
+    tell(rt, "ValueRef::to_owned", owned_value(alloc, bytes), value)
 }
 
 /// The first value of a stream.
@@ -152,7 +157,7 @@ fn next_of(alloc: Global, bytes: &[u8]) -> Result<Option<AMQPValue>, StreamError
 }
 
 /// A value that is read in place, and copied.
-fn owned(alloc: Global, bytes: &[u8]) -> Result<AMQPValue, AllocError> {
+fn owned_value(alloc: Global, bytes: &[u8]) -> Result<AMQPValue, AllocError> {
     match read_in_place(bytes, WIDE) {
         Ok((it, _)) => it.to_owned(alloc),
         Err(_) => Ok(AMQPValue::Void),
@@ -160,13 +165,23 @@ fn owned(alloc: Global, bytes: &[u8]) -> Result<AMQPValue, AllocError> {
 }
 
 /// It is written, copied, and taken apart.
-fn generated<P: Print>(rt: &P, alloc: Global, bytes: &[u8], value: &AMQPValue) -> io::Result<()> {
+fn tell_writing<P: Print>(
+    rt: &P,
+    alloc: Global,
+    bytes: &[u8],
+    value: &AMQPValue,
+) -> io::Result<()> {
     let mut x = WriteContext::from(Vec::new(alloc));
     let done = gen_value(value, &mut x);
-    tell_bytes(rt, "gen_value", written(done, x), bytes)?;
+    tell_bytes(rt, "gen_value", bytes_written(done, x), bytes)?;
     let mut x = WriteContext::from(Vec::new(alloc));
     let done = gen_raw_value(value, &mut x);
-    tell_bytes(rt, "gen_raw_value", written(done, x), payload_of(bytes))?;
+    tell_bytes(
+        rt,
+        "gen_raw_value",
+        bytes_written(done, x),
+        payload_of(bytes),
+    )?;
     tell(rt, "clone", value.clone(alloc), value)?;
     let dissection = dissect(alloc, bytes, WIDE)?;
     println!(rt;
@@ -187,7 +202,7 @@ fn generated<P: Print>(rt: &P, alloc: Global, bytes: &[u8], value: &AMQPValue) -
 /// Calls on a string of letters and on its payload.
 fn of_string<P: Print>(rt: &P, alloc: Global, payload: &[u8], s: &LongString) -> io::Result<()> {
     let bytes = s.as_bytes();
-    let text = str::from_utf8(bytes).map_err(unmade)?;
+    let text = str::from_utf8(bytes).map_err(preparation_error)?;
     let read_again = parse_long_string(alloc, SliceInput::new(payload));
     tell(rt, "parse_long_string", read(read_again), s)?;
     tell(rt, "LongString::clone", s.clone(alloc), s)?;
@@ -205,11 +220,11 @@ fn of_string<P: Print>(rt: &P, alloc: Global, payload: &[u8], s: &LongString) ->
     )?;
     let mut x = WriteContext::from(Vec::new(alloc));
     let done = gen_long_string(bytes, &mut x);
-    tell_bytes(rt, "gen_long_string", written(done, x), payload)?;
+    tell_bytes(rt, "gen_long_string", bytes_written(done, x), payload)?;
     let mut x = WriteContext::from(Vec::new(alloc));
     let done = gen_counted(bytes, &mut x);
-    tell_bytes(rt, "gen_with_len", written(done, x), payload)?;
-    tell_bytes(rt, "escape", escaped(alloc, bytes), bytes)?;
+    tell_bytes(rt, "gen_with_len", bytes_written(done, x), payload)?;
+    tell_bytes(rt, "escape", escaped_bytes(alloc, bytes), bytes)?;
     let json = Value::String(String::from_str(alloc, text)?);
     let made = AMQPValue::try_from(alloc, &json, AMQPType::LongString);
     tell(
@@ -226,7 +241,7 @@ fn gen_counted<W: BackToTheBuffer>(bytes: &[u8], x: &mut WriteContext<W>) -> Gen
 }
 
 /// The bytes of an escaped string.
-fn escaped(alloc: Global, bytes: &[u8]) -> Result<Vec<u8>, AllocError> {
+fn escaped_bytes(alloc: Global, bytes: &[u8]) -> Result<Vec<u8>, AllocError> {
     Ok(escape(alloc, bytes)?.into_bytes())
 }
 
@@ -243,7 +258,7 @@ fn of_byte_array<P: Print>(rt: &P, alloc: Global, payload: &[u8], a: &ByteArray)
     )?;
     let mut x = WriteContext::from(Vec::new(alloc));
     let done = gen_byte_array(a, &mut x);
-    tell_bytes(rt, "gen_byte_array", written(done, x), payload)
+    tell_bytes(rt, "gen_byte_array", bytes_written(done, x), payload)
 }
 
 /// Calls on an array and on its encoding.
@@ -254,7 +269,7 @@ fn of_array<P: Print>(rt: &P, alloc: Global, bytes: &[u8], a: &FieldArray) -> io
     let within = parse_field_array_within(alloc, SliceInput::new(payload), WIDE);
     tell(rt, "parse_field_array_within", read(within), a)?;
     tell(rt, "FieldArray::clone", a.clone(alloc), a)?;
-    tell(rt, "FieldArray::push", pushed(alloc, a), a)?;
+    tell(rt, "FieldArray::push", array_by_push(alloc, a), a)?;
     tell(rt, "ArrayRef::to_owned", owned_array(alloc, bytes), a)?;
     println!(rt;
         "warnings {:?}",
@@ -262,11 +277,11 @@ fn of_array<P: Print>(rt: &P, alloc: Global, bytes: &[u8], a: &FieldArray) -> io
     )?;
     let mut x = WriteContext::from(Vec::new(alloc));
     let done = gen_field_array(a, &mut x);
-    tell_bytes(rt, "gen_field_array", written(done, x), payload)
+    tell_bytes(rt, "gen_field_array", bytes_written(done, x), payload)
 }
 
 /// An array whose values are pushed one by one.
-fn pushed(alloc: Global, from: &FieldArray) -> Result<FieldArray, AllocError> {
+fn array_by_push(alloc: Global, from: &FieldArray) -> Result<FieldArray, AllocError> {
     let mut array = FieldArray::new_in(alloc);
     for value in from.as_slice() {
         array.push(value.clone(alloc)?)?;
@@ -289,18 +304,18 @@ fn of_table<P: Print>(rt: &P, alloc: Global, payload: &[u8], t: &FieldTable) -> 
     let within = parse_field_table_within(alloc, SliceInput::new(payload), WIDE);
     tell(rt, "parse_field_table_within", read(within), t)?;
     tell(rt, "FieldTable::clone", t.clone(alloc), t)?;
-    tell(rt, "FieldTable::insert", inserted(alloc, t), t)?;
-    tell(rt, "FieldTable::place", placed(alloc, t), t)?;
-    tell(rt, "FieldTable::from_pairs", gathered(alloc, t), t)?;
+    tell(rt, "FieldTable::insert", table_by_insert(alloc, t), t)?;
+    tell(rt, "FieldTable::place", table_by_place(alloc, t), t)?;
+    tell(rt, "FieldTable::from_pairs", table_of_pairs(alloc, t), t)?;
     tell_entries(rt, alloc, t)?;
     tell(rt, "TableRef::to_owned", owned_table(alloc, payload), t)?;
     let mut x = WriteContext::from(Vec::new(alloc));
     let done = gen_field_table(t, &mut x);
-    tell_bytes(rt, "gen_field_table", written(done, x), payload)
+    tell_bytes(rt, "gen_field_table", bytes_written(done, x), payload)
 }
 
 /// A table whose pairs are inserted one by one.
-fn inserted(alloc: Global, from: &FieldTable) -> Result<FieldTable, AllocError> {
+fn table_by_insert(alloc: Global, from: &FieldTable) -> Result<FieldTable, AllocError> {
     let mut table = FieldTable::new_in(alloc);
     for (key, value) in from {
         table.insert(key.clone(alloc)?, value.clone(alloc)?)?;
@@ -309,7 +324,7 @@ fn inserted(alloc: Global, from: &FieldTable) -> Result<FieldTable, AllocError> 
 }
 
 /// A table whose pairs are inserted one by one with `place`.
-fn placed(alloc: Global, from: &FieldTable) -> Result<FieldTable, AllocError> {
+fn table_by_place(alloc: Global, from: &FieldTable) -> Result<FieldTable, AllocError> {
     let mut table = FieldTable::new_in(alloc);
     for (key, value) in from {
         table.place(key.clone(alloc)?, value.clone(alloc)?)?;
@@ -318,7 +333,7 @@ fn placed(alloc: Global, from: &FieldTable) -> Result<FieldTable, AllocError> {
 }
 
 /// A table that `from_pairs` makes of all pairs.
-fn gathered(alloc: Global, from: &FieldTable) -> Result<FieldTable, AllocError> {
+fn table_of_pairs(alloc: Global, from: &FieldTable) -> Result<FieldTable, AllocError> {
     let mut pairs: Vec<(ShortString, AMQPValue)> = Vec::new(alloc);
     for (key, value) in from {
         pairs.push((key.clone(alloc)?, value.clone(alloc)?))?;
@@ -329,11 +344,11 @@ fn gathered(alloc: Global, from: &FieldTable) -> Result<FieldTable, AllocError> 
 /// Prints whether `from_entries` makes a table of one entry: a key of 255 bytes, and a table.
 fn tell_entries<P: Print>(rt: &P, alloc: Global, inner: &FieldTable) -> io::Result<()> {
     let letters = vec![in alloc; b'k'; 255]?;
-    let key = str::from_utf8(letters.as_slice()).map_err(unmade)?;
+    let key = str::from_utf8(letters.as_slice()).map_err(preparation_error)?;
     let entries = [(key, AMQPValue::from(inner.clone(alloc)?))];
     let made = FieldTable::from_entries(alloc, entries);
     let mut table = FieldTable::new_in(alloc);
-    let key = ShortString::try_copy(alloc, key).map_err(unmade)?;
+    let key = ShortString::try_copy(alloc, key).map_err(preparation_error)?;
     table.place(key, AMQPValue::from(inner.clone(alloc)?))?;
     tell(rt, "FieldTable::from_entries", made, &table)
 }
@@ -348,7 +363,7 @@ fn owned_table(alloc: Global, payload: &[u8]) -> Result<FieldTable, AllocError> 
 
 /// Calls between a canonical encoding and JSON.
 fn of_json<P: Print>(rt: &P, alloc: Global, bytes: &[u8]) -> io::Result<()> {
-    let value = read(parse_value(alloc, SliceInput::new(bytes))).map_err(unmade)?;
+    let value = read(parse_value(alloc, SliceInput::new(bytes))).map_err(preparation_error)?;
     let document = to_value(alloc, &value)?;
     tell(rt, "from_value", from_value(alloc, &document), &value)?;
     drop(document);
@@ -417,14 +432,14 @@ fn of_flags<P: Print>(rt: &P, alloc: Global, bytes: &[u8]) -> io::Result<()> {
     let parsed = parse_flags(alloc, SliceInput::new(bytes), names);
     tell(rt, "parse_flags", read(parsed), &flags)?;
     tell(rt, "AMQPFlags::clone", flags.clone(alloc), &flags)?;
-    tell(rt, "add_flag", added(alloc, &flags), &flags)?;
+    tell(rt, "add_flag", flags_by_add(alloc, &flags), &flags)?;
     let mut x = WriteContext::from(Vec::new(alloc));
     let done = gen_flags(&flags, &mut x);
-    tell_bytes(rt, "gen_flags", written(done, x), bytes)
+    tell_bytes(rt, "gen_flags", bytes_written(done, x), bytes)
 }
 
 /// Flags that are added one by one.
-fn added(alloc: Global, from: &AMQPFlags) -> Result<AMQPFlags, AllocError> {
+fn flags_by_add(alloc: Global, from: &AMQPFlags) -> Result<AMQPFlags, AllocError> {
     let mut flags = AMQPFlags::new_in(alloc);
     for (name, flag) in from.as_slice() {
         flags.add_flag(String::from_str(alloc, name.as_str())?, *flag)?;

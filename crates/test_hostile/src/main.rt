@@ -12,7 +12,7 @@
 mod capacities;
 mod devices;
 mod large;
-mod nested;
+mod nesting;
 mod shown;
 #[cfg(test)]
 mod tests;
@@ -38,9 +38,9 @@ fn run(rt: &HostRuntime) -> io::Result<()> {
     let mut input = rt.stdin();
     match (words.next(), words.next(), words.next()) {
         (Some(kind), Some(name), Some(depth)) => {
-            let depth = depth.parse().map_err(unmade)?;
+            let depth = depth.parse().map_err(preparation_error)?;
             let call = (kind.as_str(), name.as_str());
-            nested::run(rt, rt.alloc(), call, depth, &mut input)
+            nesting::run(rt, rt.alloc(), call, depth, &mut input)
         }
         (Some(kind), None, None) => large::run(rt, rt.alloc(), kind.as_str(), &mut input),
         _ => run_all(rt, rt.alloc(), &mut input),
@@ -50,10 +50,12 @@ fn run(rt: &HostRuntime) -> io::Result<()> {
 /// Prints all of it.
 fn run_all<P: Print, R: Read>(rt: &P, alloc: Global, input: &mut R) -> io::Result<()> {
     let bytes = encoding(alloc, input)?;
-    wires::built(rt, alloc)?;
+    wires::built_inputs(rt, alloc)?;
     wires::prefixes(rt, alloc, bytes.as_slice())?;
-    wires::replaced(rt, alloc, bytes.as_slice())?;
-    let (_, value) = parse_value(alloc, SliceInput::new(bytes.as_slice())).map_err(unmade)?;
+    wires::replacements(rt, alloc, bytes.as_slice())?;
+    let (_, value) = parse_value(alloc, SliceInput::new(bytes.as_slice())).map_err(
+        preparation_error,
+    )?;
     capacities::run(rt, alloc, &value)?;
     devices::run(rt, alloc)
 }
@@ -62,10 +64,10 @@ fn run_all<P: Print, R: Read>(rt: &P, alloc: Global, input: &mut R) -> io::Resul
 fn encoding<R: Read>(alloc: Global, input: &mut R) -> io::Result<Vec<u8>> {
     let mut text = Vec::new(alloc);
     input.read_to_end(&mut text)?;
-    hex::decode(alloc, text.as_slice().trim_ascii()).map_err(unmade)
+    hex::decode(alloc, text.as_slice().trim_ascii()).map_err(preparation_error)
 }
 
 /// A preparation failed.
-fn unmade<E: Drop>(_error: E) -> io::Error {
+fn preparation_error<E: Drop>(_error: E) -> io::Error {
     io::Error::from(ErrorKind::InvalidData)
 }

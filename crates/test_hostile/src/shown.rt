@@ -32,7 +32,7 @@ fn are_read_as(alloc: Global, bytes: &[u8], value: &AMQPValue) -> bool {
 }
 
 /// A value that was read from n bytes is written to a buffer of n bytes, and read again.
-fn written(alloc: Global, value: &AMQPValue, taken: usize) -> io::Result<String> {
+fn text_of_value(alloc: Global, value: &AMQPValue, taken: usize) -> io::Result<String> {
     let mut buffer = vec![in alloc; 0; taken]?;
     let mut x = WriteContext::from(SliceOutput::new(buffer.as_mut_slice()));
     if let Err(e) = gen_value(value, &mut x) {
@@ -52,7 +52,7 @@ fn outcome<I: ParsableInput>(alloc: Global, input: I) -> io::Result<String> {
     match parse_value(alloc, input) {
         Ok((rest, value)) => {
             let left = rest.input_len();
-            let text = written(alloc, &value, count.saturating_sub(left))?;
+            let text = text_of_value(alloc, &value, count.saturating_sub(left))?;
             Ok(format!(in alloc; "{text} rest {left}")?)
         }
         Err(Err::Incomplete(Needed::Size(n))) => Ok(format!(in alloc; "more {n}")?),

@@ -35,7 +35,13 @@ fn tables(alloc: Global) -> io::Result<Vec<u8>> {
 }
 
 /// A type tag, a length and n times the same bytes.
-fn repeated(alloc: Global, id: u8, length: u32, times: usize, part: &[u8]) -> io::Result<Vec<u8>> {
+fn repeated_parts(
+    alloc: Global,
+    id: u8,
+    length: u32,
+    times: usize,
+    part: &[u8],
+) -> io::Result<Vec<u8>> {
     let mut bytes = Vec::new(alloc);
     bytes.push(id)?;
     bytes.extend_from_slice(&length.to_be_bytes())?;
@@ -46,7 +52,7 @@ fn repeated(alloc: Global, id: u8, length: u32, times: usize, part: &[u8]) -> io
 }
 
 /// Prints what built input results in.
-pub fn built<P: Print>(rt: &P, alloc: Global) -> io::Result<()> {
+pub fn built_inputs<P: Print>(rt: &P, alloc: Global) -> io::Result<()> {
     let nested = arrays(alloc, &[])?;
     tell(rt, alloc, "200 arrays", nested.as_slice())?;
     tell(
@@ -58,21 +64,21 @@ pub fn built<P: Print>(rt: &P, alloc: Global) -> io::Result<()> {
     let spoilt = arrays(alloc, &[122])?;
     tell(rt, alloc, "200 arrays, no value inside", spoilt.as_slice())?;
     tell(rt, alloc, "200 tables", tables(alloc)?.as_slice())?;
-    let equal = repeated(alloc, 70, 12_000, 4000, &[1, 97, 86])?;
+    let equal = repeated_parts(alloc, 70, 12_000, 4000, &[1, 97, 86])?;
     tell(rt, alloc, "4000 equal keys", equal.as_slice())?;
     for id in [83, 120, 65, 70] {
         tell(
             rt,
             alloc,
             "the greatest length",
-            repeated(alloc, id, u32::MAX, 0, &[])?.as_slice(),
+            repeated_parts(alloc, id, u32::MAX, 0, &[])?.as_slice(),
         )?;
     }
     for id in [83, 120] {
-        let long = repeated(alloc, id, 70_000, 70_000, &[7])?;
+        let long = repeated_parts(alloc, id, 70_000, 70_000, &[7])?;
         tell(rt, alloc, "70000 bytes", long.as_slice())?;
     }
-    let inside = repeated(alloc, 65, 5, 1, &[83, 255, 255, 255, 255])?;
+    let inside = repeated_parts(alloc, 65, 5, 1, &[83, 255, 255, 255, 255])?;
     tell(rt, alloc, "the greatest length inside", inside.as_slice())
 }
 
@@ -86,7 +92,7 @@ pub fn prefixes<P: Print>(rt: &P, alloc: Global, bytes: &[u8]) -> io::Result<()>
 }
 
 /// Prints what some bytes result in, each of them replaced in turn.
-pub fn replaced<P: Print>(rt: &P, alloc: Global, bytes: &[u8]) -> io::Result<()> {
+pub fn replacements<P: Print>(rt: &P, alloc: Global, bytes: &[u8]) -> io::Result<()> {
     for at in 0..bytes.len() {
         for byte in [0, 122, 255] {
             let mut damaged = Vec::from_slice(alloc, bytes)?;

@@ -23,8 +23,8 @@ abbrev pub lacks : ℕ → Refusal
 lacks n = Incomplete (Size n)
 
 -- the input isn't what the parser reads
-abbrev pub refused : ErrorKind → Refusal
-refused kind = Error kind
+abbrev pub error_of_kind : ErrorKind → Refusal
+error_of_kind kind = Error kind
 
 -- an allocation failed
 abbrev pub out_of_memory : Refusal

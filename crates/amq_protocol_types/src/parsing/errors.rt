@@ -1,7 +1,7 @@
 //! The errors of parsers.
 
 ghost use Rattle.std.specs.Prelude.{◌≡◌, Some};
-ghost use Rattle.amq_protocol_types.specs.parsing.Refusals.{lacks, refused, out_of_memory, inside};
+ghost use Rattle.amq_protocol_types.specs.parsing.Refusals.{lacks, error_of_kind, out_of_memory, inside};
 
 use std::alloc::AllocError;
 use std::error::Error;
@@ -121,8 +121,8 @@ pub fn refusal(kind: ErrorKind) -> ParserErrors
 }
 
 /// Makes `Error`: the input is invalid.
-pub fn refused(kind: ErrorKind) -> ParserError
-    ensures { result ≡ refused kind }
+pub fn error_of_kind(kind: ErrorKind) -> ParserError
+    ensures { result ≡ error_of_kind kind }
 {
     Err::Error(ParserErrors { kind })
 }
@@ -150,6 +150,6 @@ pub(crate) fn inside(e: ParserError) -> ParserError
 {
     match e {
         Err::Failure(e) => Err::Failure(e),
-        Err::Incomplete(_) | Err::Error(_) => refused(ErrorKind::Eof),
+        Err::Incomplete(_) | Err::Error(_) => error_of_kind(ErrorKind::Eof),
     }
 }

@@ -10,7 +10,7 @@ ghost use Rattle.amq_protocol_types.specs.parsing.ParseResults.{IsRefusal};
 ghost use Rattle.amq_protocol_types.specs.parsing.PayloadResults.{IsType, IsNoType};
 ghost use Rattle.amq_protocol_types.specs.parsing.Scalars.{ReadsUnsigned, ReadsScalar, ReadsNumber};
 
-use super::errors::{ErrorKind, ParserResult, lacks, refused};
+use super::errors::{ErrorKind, ParserResult, error_of_kind, lacks};
 use super::traits::ParsableInput;
 use amqp_value_core::types::{
     AMQPType, Boolean, DecimalValue, Double, Float, Identifier, LongInt, LongLongInt, LongLongUInt,
@@ -28,7 +28,7 @@ pub fn parse_type<I: ParsableInput>(i: I) -> ParserResult<I, AMQPType>
     let (i, id) = parse_short_short_uint(i)?;
     match AMQPType::from_id(char::from(id)) {
         Some(amqp_type) => Ok((i, amqp_type)),
-        None => Err(refused(ErrorKind::MapOpt)),
+        None => Err(error_of_kind(ErrorKind::MapOpt)),
     }
 }
 

@@ -11,7 +11,7 @@ ghost use Rattle.amq_protocol_types.specs.parsing.PayloadResults.{OnlyLacks, Raw
 ghost use Rattle.amq_protocol_types.specs.parsing.Bodies.{IsLengthPrefixed, IsCutLengthPrefixed};
 
 use super::bytes::{copy_by_chunks, copy_of};
-use super::errors::{ErrorKind, ParserError, ParserResult, lacks, out_of_memory, refused};
+use super::errors::{ErrorKind, ParserError, ParserResult, error_of_kind, lacks, out_of_memory};
 use super::scalars::{parse_long_uint, parse_short_short_uint};
 use super::traits::ParsableInput;
 use amqp_value_core::types::{AMQPType, ByteArray, LongString, ShortString, TryCopyError};
@@ -52,7 +52,7 @@ fn short_string(alloc: Global, bytes: &[u8]) -> Result<ShortString, ParserError>
         (λ _. ⊥) (0 < length bytes.now)) }
 {
     let Some(text) = text_of(bytes) else {
-        return Err(refused(ErrorKind::MapRes));
+        return Err(error_of_kind(ErrorKind::MapRes));
     };
     match ShortString::try_copy(alloc, text) {
         Ok(text) => Ok(text),

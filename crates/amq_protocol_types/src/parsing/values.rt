@@ -12,7 +12,7 @@ ghost use Rattle.amq_protocol_types.specs.parsing.ParseResults.{IsRefusal, HasOn
 ghost use Rattle.amq_protocol_types.specs.parsing.PayloadResults.{RawRefuses};
 ghost use Rattle.amq_protocol_types.specs.parsing.Bodies.{IsNoBody, IsTable, IsNoTable};
 
-use super::errors::{ErrorKind, ParserError, ParserResult, inside, refused};
+use super::errors::{ErrorKind, ParserError, ParserResult, error_of_kind, inside};
 use super::pairs::TableBuilder;
 use super::scalars::{
     parse_boolean, parse_decimal_value, parse_double, parse_float, parse_long_int,
@@ -208,7 +208,7 @@ pub(crate) fn array_within<I: ParsableInput>(
 {
     let (i, body) = parse_length_prefixed(i)?;
     if depth == 0 {
-        return Err(refused(ErrorKind::Eof));
+        return Err(error_of_kind(ErrorKind::Eof));
     }
     let array = parse_array_body(alloc, body, depth - 1)?;
     Ok((i, array))
@@ -270,7 +270,7 @@ pub(crate) fn table_within<I: ParsableInput>(
 {
     let (i, body) = parse_length_prefixed(i)?;
     if depth == 0 {
-        return Err(refused(ErrorKind::Eof));
+        return Err(error_of_kind(ErrorKind::Eof));
     }
     let table = parse_table_body(alloc, body, depth - 1)?;
     Ok((i, table))

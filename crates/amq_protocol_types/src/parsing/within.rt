@@ -9,7 +9,7 @@ ghost use Rattle.amqp_value_core.specs.Containers.{array_view, table_view};
 ghost use Rattle.amq_protocol_types.specs.parsing.Limits.{Within, RefusesWithin, LawsWithin, IsReadWithin};
 ghost use Rattle.amq_protocol_types.specs.parsing.Untagged.{tagged, UntaggedWithin, RefusesUntagged, IsPayloadWithin, ReadsPayloadsBack};
 
-use super::errors::{ErrorKind, ParserResult, lacks, refused};
+use super::errors::{ErrorKind, ParserResult, error_of_kind, lacks};
 use super::header::{Header, counted_len, header_of};
 use super::limits::Limits;
 use super::traits::ParsableInput;
@@ -49,8 +49,8 @@ fn read_within<I: ParsableInput>(alloc: Global, i: I, limits: Limits) -> ParserR
     ensures bytes { IsBytes (I.bytes i) }
 {
     match header_of(i, limits.frame) {
-        Header::Unknown => Err(refused(ErrorKind::MapOpt)),
-        Header::TooLarge => Err(refused(ErrorKind::TooLarge)),
+        Header::Unknown => Err(error_of_kind(ErrorKind::MapOpt)),
+        Header::TooLarge => Err(error_of_kind(ErrorKind::TooLarge)),
         Header::Lacks(n) => Err(lacks(n)),
         Header::Whole => value_within(alloc, i, limits.depth as usize),
     }
@@ -92,7 +92,7 @@ fn read_array_within<I: ParsableInput>(
     ensures bytes { IsBytes (I.bytes i) }
 {
     if counted_len(i) >= limits.frame as usize {
-        return Err(refused(ErrorKind::TooLarge));
+        return Err(error_of_kind(ErrorKind::TooLarge));
     }
     array_within(alloc, i, limits.depth as usize)
 }
@@ -134,7 +134,7 @@ fn read_table_within<I: ParsableInput>(
     ensures bytes { IsBytes (I.bytes i) }
 {
     if counted_len(i) >= limits.frame as usize {
-        return Err(refused(ErrorKind::TooLarge));
+        return Err(error_of_kind(ErrorKind::TooLarge));
     }
     table_within(alloc, i, limits.depth as usize)
 }

@@ -77,7 +77,7 @@ impl Values {
                 Header::Whole => return self.whole(),
                 Header::Lacks(n) => {
                     if self.pending.fill_from(reader, n)? == 0 {
-                        return self.ended();
+                        return self.result_at_end();
                     }
                 }
             }
@@ -112,7 +112,7 @@ impl Values {
     }
 
     // What is returned if the reader ended.
-    fn ended(&mut self) -> Result<Option<AMQPValue>, StreamError>
+    fn result_at_end(&mut self) -> Result<Option<AMQPValue>, StreamError>
         requires not_failed { has_failed self.old ≡ false }
         requires wants { 0 < wanted (kept self.old) }
         requires within { extent (kept self.old) ≤ self.old.limits.frame }

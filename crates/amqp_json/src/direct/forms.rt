@@ -62,7 +62,7 @@ pub(crate) fn value_in(slots: &mut Slots<'_>) -> Result<AMQPValue, JsonError>
         → IsObjectRead (Ok tt) slots.old.object read rest
         → IsValueRead result (parse_map object read) rest }
 {
-    match taken(&mut slots.object) {
+    match take_object(&mut slots.object) {
         Object::Table(table) => Ok(AMQPValue::FieldTable(table)),
         Object::Named(_, forms) => match named_of(forms) {
             Ok(v) => Ok(v),
@@ -178,7 +178,7 @@ pub(crate) fn object_forms(
 {
     match read {
         Ok(()) => {
-            slots.forms = forms_of(alloc, taken(&mut slots.object), at)?;
+            slots.forms = forms_of(alloc, take_object(&mut slots.object), at)?;
             Ok(())
         }
         Err(JsonError::NotAValue(at)) => {
@@ -193,7 +193,7 @@ pub(crate) fn object_forms(
 }
 
 // What an object was, which is no more there.
-fn taken<'a>(found: &mut Object<'a>) -> Object<'a>
+fn take_object<'a>(found: &mut Object<'a>) -> Object<'a>
     ensures { result ≡ found.old }
 {
     mem::replace(found, Object::Named("", no_forms()))
@@ -249,7 +249,7 @@ pub(crate) fn plain_forms(
 {
     match plain {
         Ok(v) => {
-            let named = named(alloc, amqp_type, &v, at)?;
+            let named = form_under_type(alloc, amqp_type, &v, at)?;
             *forms = Forms {
                 plain: Ok(v),
                 named,
@@ -268,7 +268,7 @@ pub(crate) fn plain_forms(
 }
 
 // The value of a type whose JSON, under the type's name, is that of `inner`.
-fn named(
+fn form_under_type(
     alloc: Global,
     amqp_type: AMQPType,
     inner: &AMQPValue,

@@ -1,3 +1,5 @@
+// The tactic at the function names the lemma that bytes after bytes are bytes.
+
 ghost use Rattle.std.specs.Prelude.{◌≡◌, ◌+◌, ◌-◌, ◌^◌, ◌<◌, ◌≤◌, ◌++◌, length, take, drop};
 
 use crate::input::{ParsableInput, length_of};

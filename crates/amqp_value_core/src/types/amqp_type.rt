@@ -1,5 +1,7 @@
 //! The type of an AMQP value, and its type tag.
 
+// The tactic at the function names the lemma that a type that a type tag denotes is read back as itself.
+
 ghost use Rattle.std.specs.Prelude.{◌≡◌, Some, IfSome};
 ghost use Rattle.amqp_value_core.specs.Ids.{kind, id_of};
 ghost use Rattle.amqp_value_core.specs.Names.{read_as};

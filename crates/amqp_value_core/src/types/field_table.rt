@@ -1,3 +1,5 @@
+// The tactic at the function names the lemma that a map of pairs is the table that they result in.
+
 ghost use Rattle.std.specs.Prelude.{◌≡◌, ◌≤◌, [], ◌∷◌, length, OnOk, OnErr, IfOk, IfErr, IsOk};
 ghost use Rattle.std.specs.Borrow.{sem};
 ghost use Rattle.amqp_value_core.specs.Values.{no_entries, insert, insert_all};
@@ -37,7 +39,7 @@ fn bare(lent: Result<Lent<'_>, AllocError>) -> Result<&mut FieldTable, AllocErro
 }
 
 // the entries as a `Vec`
-fn listed<K: Drop, const N: usize>(
+fn list_of<K: Drop, const N: usize>(
     alloc: Global,
     pairs: [(K, AMQPValue); N],
 ) -> Result<Vec<(K, AMQPValue)>, AllocError>
@@ -118,7 +120,7 @@ impl FieldTable {
         if N == 0 {
             return Ok(FieldTable::new_in(alloc));
         }
-        FieldTable::from_named(alloc, listed(alloc, pairs)?)
+        FieldTable::from_named(alloc, list_of(alloc, pairs)?)
     }
 
     fn from_named<K: AsStr + Drop>(

@@ -67,13 +67,13 @@ pub fn with_len(alloc: Global, capacity: usize, bytes: &[u8]) -> Returned {
 pub fn value(alloc: Global, call: &str, capacity: usize, value: &AMQPValue) -> Returned {
     let mut buffer = vec![in alloc; 0; capacity]?;
     let mut x = WriteContext::from(SliceOutput::new(buffer.as_mut_slice()));
-    match generated(call, value, &mut x) {
+    match generator_result(call, value, &mut x) {
         Some(made) => result_of(alloc, made, x),
         None => Err(Trouble::Unknown),
     }
 }
 
-fn generated(call: &str, value: &AMQPValue, x: &mut Context<'_>) -> Option<GenResult> {
+fn generator_result(call: &str, value: &AMQPValue, x: &mut Context<'_>) -> Option<GenResult> {
     Some(match call {
         "gen_value" => gen_value(value, x),
         "gen_raw_value" => gen_raw_value(value, x),

@@ -15,7 +15,7 @@ pub fn result_of(alloc: Global, value: AMQPValue) -> Returned {
     write!(text, "{amqp_type}")?;
     push_numbers(&mut text, &value)?;
     push_others(alloc, &mut text, &value)?;
-    let again = value_text(alloc, &made_again(value))?;
+    let again = value_text(alloc, &value_by_conversion(value))?;
     write!(text, " {again}")?;
     Ok(text)
 }
@@ -70,7 +70,7 @@ fn push_others(alloc: Global, text: &mut String, value: &AMQPValue) -> Result<()
 }
 
 /// The value, by the conversion from what it holds.
-fn made_again(value: AMQPValue) -> AMQPValue {
+fn value_by_conversion(value: AMQPValue) -> AMQPValue {
     match value {
         AMQPValue::Boolean(it) => AMQPValue::from(it),
         AMQPValue::ShortShortInt(it) => AMQPValue::from(it),

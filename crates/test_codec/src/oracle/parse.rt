@@ -57,7 +57,7 @@ fn result_of<I: ParsableInput>(alloc: Global, held: &str, rest: I) -> Returned {
     Ok(format!(in alloc; "ok {held} rest {rest}")?)
 }
 
-fn refused(alloc: Global, error: ParserError) -> Returned {
+fn error_text(alloc: Global, error: ParserError) -> Returned {
     match error {
         Err::Incomplete(Needed::Size(count)) => Ok(format!(in alloc; "incomplete {count}")?),
         Err::Incomplete(Needed::Unknown) => Ok(format!(in alloc; "incomplete unknown")?),
@@ -69,7 +69,7 @@ fn refused(alloc: Global, error: ParserError) -> Returned {
 fn raw_from<I: ParsableInput>(alloc: Global, amqp_type: AMQPType, input: I) -> Returned {
     match parse_raw_value(alloc, amqp_type, input) {
         Ok((rest, value)) => result_of(alloc, value_text(alloc, &value)?.as_str(), rest),
-        Err(error) => refused(alloc, error),
+        Err(error) => error_text(alloc, error),
     }
 }
 
@@ -80,7 +80,7 @@ fn plain<I: ParsableInput, T: Display + Drop>(
 ) -> Returned {
     match parsed {
         Ok((rest, it)) => result_of(alloc, format!(in alloc; "{it}")?.as_str(), rest),
-        Err(error) => refused(alloc, error),
+        Err(error) => error_text(alloc, error),
     }
 }
 
@@ -106,39 +106,39 @@ fn parse_other<I: ParsableInput>(alloc: Global, call: &str, input: I) -> Returne
     let (held, rest) = match call {
         "parse_value" => match parse_value(alloc, input) {
             Ok((rest, it)) => (value_text(alloc, &it)?, rest),
-            Err(error) => return refused(alloc, error),
+            Err(error) => return error_text(alloc, error),
         },
         "parse_float" => match parse_float(input) {
             Ok((rest, it)) => (format!(in alloc; "{}", it.to_bits())?, rest),
-            Err(error) => return refused(alloc, error),
+            Err(error) => return error_text(alloc, error),
         },
         "parse_double" => match parse_double(input) {
             Ok((rest, it)) => (format!(in alloc; "{}", it.to_bits())?, rest),
-            Err(error) => return refused(alloc, error),
+            Err(error) => return error_text(alloc, error),
         },
         "parse_decimal_value" => match parse_decimal_value(input) {
             Ok((rest, it)) => (decimal_text(alloc, it)?, rest),
-            Err(error) => return refused(alloc, error),
+            Err(error) => return error_text(alloc, error),
         },
         "parse_short_string" => match parse_short_string(alloc, input) {
             Ok((rest, it)) => (digits(alloc, it.as_str().as_bytes())?, rest),
-            Err(error) => return refused(alloc, error),
+            Err(error) => return error_text(alloc, error),
         },
         "parse_long_string" => match parse_long_string(alloc, input) {
             Ok((rest, it)) => (digits(alloc, it.as_bytes())?, rest),
-            Err(error) => return refused(alloc, error),
+            Err(error) => return error_text(alloc, error),
         },
         "parse_byte_array" => match parse_byte_array(alloc, input) {
             Ok((rest, it)) => (digits(alloc, it.as_slice())?, rest),
-            Err(error) => return refused(alloc, error),
+            Err(error) => return error_text(alloc, error),
         },
         "parse_field_array" => match parse_field_array(alloc, input) {
             Ok((rest, it)) => (array_text(alloc, &it)?, rest),
-            Err(error) => return refused(alloc, error),
+            Err(error) => return error_text(alloc, error),
         },
         "parse_field_table" => match parse_field_table(alloc, input) {
             Ok((rest, it)) => (table_text(alloc, &it)?, rest),
-            Err(error) => return refused(alloc, error),
+            Err(error) => return error_text(alloc, error),
         },
         _ => return Err(Trouble::Unknown),
     };
@@ -146,7 +146,7 @@ fn parse_other<I: ParsableInput>(alloc: Global, call: &str, input: I) -> Returne
 }
 
 /// The names as they are passed.
-fn listed<'a>(alloc: Global, names: &'a [String]) -> Result<Vec<&'a str>, AllocError> {
+fn name_list<'a>(alloc: Global, names: &'a [String]) -> Result<Vec<&'a str>, AllocError> {
     let mut list = Vec::new(alloc);
     for name in names {
         list.push(name.as_str())?;
@@ -157,7 +157,7 @@ fn listed<'a>(alloc: Global, names: &'a [String]) -> Result<Vec<&'a str>, AllocE
 /// What `parse_flags` returns, of one slice and of two.
 pub fn parse_named(alloc: Global, names: &str, bytes: &[u8]) -> Returned {
     let names = names_of(alloc, names)?;
-    let names = listed(alloc, names.as_slice())?;
+    let names = name_list(alloc, names.as_slice())?;
     let whole = flags_from(alloc, SliceInput::new(bytes), names.as_slice())?;
     let (first, second) = bytes.split_at(bytes.len() / 2);
     let split = flags_from(alloc, SplitInput::new(first, second), names.as_slice())?;
@@ -173,24 +173,24 @@ fn flags_from<I: ParsableInput>(alloc: Global, input: I, names: &[&str]) -> Retu
             let held = flags_text(alloc, &flags, names)?;
             result_of(alloc, held.as_str(), rest)
         }
-        Err(error) => refused(alloc, error),
+        Err(error) => error_text(alloc, error),
     }
 }
 
 /// What `AMQPFlags::from_bytes` returns, of one slice and of two.
 pub fn flags_from_bytes(alloc: Global, names: &str, bytes: &[u8]) -> Returned {
     let names = names_of(alloc, names)?;
-    let names = listed(alloc, names.as_slice())?;
-    let whole = unpacked(alloc, SliceInput::new(bytes), names.as_slice())?;
+    let names = name_list(alloc, names.as_slice())?;
+    let whole = packed_flags_text(alloc, SliceInput::new(bytes), names.as_slice())?;
     let (first, second) = bytes.split_at(bytes.len() / 2);
-    let split = unpacked(alloc, SplitInput::new(first, second), names.as_slice())?;
+    let split = packed_flags_text(alloc, SplitInput::new(first, second), names.as_slice())?;
     if split.as_str() != whole.as_str() {
         return both(alloc, whole.as_str(), split.as_str());
     }
     Ok(whole)
 }
 
-fn unpacked<I: ParsableInput>(alloc: Global, input: I, names: &[&str]) -> Returned {
+fn packed_flags_text<I: ParsableInput>(alloc: Global, input: I, names: &[&str]) -> Returned {
     let flags = AMQPFlags::from_bytes(alloc, names, input)?;
     Ok(flags_text(alloc, &flags, names)?)
 }

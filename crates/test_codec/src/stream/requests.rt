@@ -1,6 +1,6 @@
 //! How many bytes a reader is asked for.
 
-use super::joined::joined;
+use super::sequence::joined_bytes;
 use super::*;
 use std::test::Fail;
 
@@ -159,7 +159,7 @@ fn are_modest_for_values(rt: HostRuntime) -> Result<(), Fail> {
         };
         asks_modestly(&rt, rt.alloc(), bytes, limits, *count);
     }
-    let wires = joined(rt.alloc())?;
+    let wires = joined_bytes(rt.alloc())?;
     let limits = Limits {
         frame: 199,
         depth: 2,

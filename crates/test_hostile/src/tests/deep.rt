@@ -13,7 +13,7 @@ const LEVELS: u32 = 5_000;
 
 // The containers, each after a key in the one around it if they are tables, and the innermost
 // empty.
-fn nested(alloc: Global, tag: u8, key: &[u8]) -> Result<Vec<u8>, Fail> {
+fn nested_containers(alloc: Global, tag: u8, key: &[u8]) -> Result<Vec<u8>, Fail> {
     let step = u32::try_from(key.len())?.saturating_add(5);
     let mut wire = Vec::new(alloc);
     for inside in 0..LEVELS {
@@ -51,7 +51,7 @@ fn go_everywhere(rt: &impl Abort, alloc: Global, wire: &[u8], parts: usize) -> R
 #[test]
 fn arrays_go_everywhere(rt: HostRuntime) -> Result<(), Fail> {
     let alloc = rt.alloc();
-    let wire = nested(alloc, b'A', b"")?;
+    let wire = nested_containers(alloc, b'A', b"")?;
     assert_eq!(rt; wire.len(), 25_000);
     go_everywhere(&rt, alloc, wire.as_slice(), 10_000)
 }
@@ -59,7 +59,7 @@ fn arrays_go_everywhere(rt: HostRuntime) -> Result<(), Fail> {
 #[test]
 fn tables_go_everywhere(rt: HostRuntime) -> Result<(), Fail> {
     let alloc = rt.alloc();
-    let wire = nested(alloc, b'F', b"\x01k")?;
+    let wire = nested_containers(alloc, b'F', b"\x01k")?;
     assert_eq!(rt; wire.len(), 34_998);
     go_everywhere(&rt, alloc, wire.as_slice(), 19_998)
 }

@@ -128,7 +128,7 @@ pub fn byte_arrays()
 
 /// A short string is written with a type tag that is not read, so that it is rejected outside, and
 /// inside an array as that array.
-pub fn short_strings_written()
+pub fn short_strings_are_written()
     ensures writes { text (short (codes "x")) ≡ hex "'_' 01 'x'" }
     ensures alone { outcome (hex "'_' 01 'x'") ≡ unknown }
     ensures writes_inside { text (array (trees_of (short (codes "x") ∷ []))) ≡ hex "'A' 00000003 '_' 01 'x'" }
@@ -138,7 +138,7 @@ pub fn short_strings_written()
 
 /// A short string is read only as a payload: at most 255 bytes of UTF-8 after their length.
 #[tactic(auto, using(crate::proofs::OnLiterals::empty_text, crate::proofs::OnLiterals::word_test, crate::proofs::OnLiterals::e_acute))]
-pub fn short_strings_read()
+pub fn short_strings_are_read()
     ensures empty { raw_outcome AMQPType.ShortString (hex "00 07") ≡ found (short []) (hex "07") }
     ensures word { raw_outcome AMQPType.ShortString (hex "04 'test'") ≡ found (short (codes "test")) [] }
     ensures two_bytes { raw_outcome AMQPType.ShortString (hex "02 c3a9") ≡ found (short (hex "c3a9")) [] }
@@ -147,7 +147,7 @@ pub fn short_strings_read()
 /// Bytes that aren't UTF-8 are rejected once they have come: a byte that is in no UTF-8, a
 /// character that is cut, an overlong form, a surrogate.
 #[tactic(auto, using(crate::proofs::OnLiterals::byte_255, crate::proofs::OnLiterals::cut_letter, crate::proofs::OnLiterals::overlong, crate::proofs::OnLiterals::surrogate))]
-pub fn short_strings_refused()
+pub fn short_strings_are_refused()
     ensures no_text { raw_outcome AMQPType.ShortString (hex "01 ff") ≡ malformed }
     ensures cut_letter { raw_outcome AMQPType.ShortString (hex "01 c3 a9") ≡ malformed }
     ensures overlong { raw_outcome AMQPType.ShortString (hex "02 c080") ≡ malformed }
@@ -279,7 +279,7 @@ pub fn other_keys()
 
 /// A complete table is malformed if a key isn't UTF-8, and if the body cuts a key or its value.
 #[tactic(auto, using(crate::proofs::OnLiterals::byte_255, crate::proofs::OnLiterals::letter_a))]
-pub fn keys_refused()
+pub fn keys_are_refused()
     ensures no_text { outcome (hex "'F' 00000003 01 ff 'V'") ≡ malformed }
     ensures cut { outcome (hex "'F' 00000002 02 'aa' 'V'") ≡ malformed }
     ensures no_value { outcome (hex "'F' 00000002 01 'a' 'V'") ≡ malformed }
@@ -289,7 +289,7 @@ pub fn keys_refused()
 
 /// A new key goes to its place in the order of bytes, in which a prefix comes first; an equal key
 /// takes the value.
-pub fn keys_put()
+pub fn keys_are_put()
     ensures first { insert (codes "a") (scalar void) (entries_of ((codes "aa", scalar void) ∷ []))
         ≡ entries_of ((codes "a", scalar void) ∷ (codes "aa", scalar void) ∷ []) }
     ensures between { insert (codes "az") (scalar void) (entries_of ((codes "a", scalar void) ∷ (codes "b", scalar void) ∷ []))
@@ -301,7 +301,7 @@ pub fn keys_put()
 {}
 
 /// A value is found only at its key.
-pub fn keys_looked_up()
+pub fn keys_are_looked_up()
     ensures there { value_at (codes "b") (entries_of ((codes "a", scalar void) ∷ (codes "b", long (codes "c")) ∷ []))
         ≡ Some (long (codes "c")) }
     ensures not_there { value_at (codes "c") (entries_of ((codes "a", scalar void) ∷ (codes "b", long (codes "c")) ∷ []))
@@ -457,7 +457,7 @@ pub fn ids()
 {}
 
 /// The type tag that is written for each type.
-pub fn ids_written()
+pub fn ids_are_written()
     ensures boolean { id_of AMQPType.Boolean ≡ byte "t" }
     ensures short_short_int { id_of AMQPType.ShortShortInt ≡ byte "b" }
     ensures short_short_uint { id_of AMQPType.ShortShortUInt ≡ byte "B" }

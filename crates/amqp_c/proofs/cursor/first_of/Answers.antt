@@ -10,7 +10,7 @@ returns-clause-entry c = λ v rest x.
     let s = c.args.bytes.now in
     let is = c.part.ensures in
     let e = c.in-Ok.entry in
-    rw (c.moved.ensures, c.moved-2.ensures)
+    rw (c.span_after.ensures, c.span_after-2.ensures)
     (first_given s c.args.left c.args.key e c.requires.left
     (subst (λ (t : List ℕ). EntryIsIn (length t) e) is c.in-Ok.ensures.inside) v rest x
     (subst (λ (t : List ℕ). GivesFirst t v rest (Ok e)) is
@@ -21,7 +21,7 @@ returns-clause-typed c =
     let s = c.args.bytes.now in
     let is = c.part.ensures in
     let e = c.in-Ok.entry in
-    rw (c.moved.ensures, c.moved-2.ensures)
+    rw (c.span_after.ensures, c.span_after-2.ensures)
     (tagged_placed s c.args.left c.args.key e c.requires.left (subst (λ (t : List ℕ). EntryIsIn (length t) e) is c.in-Ok.ensures.inside) (subst (λ (t : List ℕ). IsEntryAtStart t e) is c.in-Ok.ensures.at_start))
 
 pub returns-clause-faithful : goal.returns-clause-faithful
@@ -30,7 +30,7 @@ returns-clause-faithful c =
     let is = c.part.ensures in
     let e = c.in-Ok.entry in
     let at_start = subst (λ (t : List ℕ). IsEntryAtStart t e) is c.in-Ok.ensures.at_start in
-    rw (c.moved.ensures, c.moved-2.ensures)
+    rw (c.span_after.ensures, c.span_after-2.ensures)
     (faithful_placed s c.args.left c.args.key e c.requires.left (subst (λ (t : List ℕ). EntryIsIn (length t) e) is c.in-Ok.ensures.inside) at_start.1
     (λ v rest x. subst (λ (t : List ℕ). GivesFirst t v rest (Ok e)) is
     (c.in-Ok.ensures.faithful v rest (subst (λ (t : List ℕ). Outcome t (found v rest)) (sym is) x))))

@@ -19,18 +19,18 @@ returns-in-Err-encoding_of_json-clause-written c =
     let t = c.args.text.now in
     let e = c.in-Err-encoding_of_json.error in
     let refused = subst (λ (s : List ℕ). IsRefused s e) c.in-Ok.ensures.cases.0 c.in-Err-encoding_of_json.ensures.refused in
-    rw c.refused.ensures.done (reported_text c.args.nesting t (length c.args.buffer.now) e c.in-Ok.ensures.cases.1 refused)
+    rw c.failure_of.ensures.done (reported_text c.args.nesting t (length c.args.buffer.now) e c.in-Ok.ensures.cases.1 refused)
 
 pub returns-in-Err-encoding_of_json-clause-told : goal.returns-in-Err-encoding_of_json-clause-told
 returns-in-Err-encoding_of_json-clause-told c =
-    rw (c.refused.ensures.done, c.refused.ensures.problem) (told_of_text c.in-Err-encoding_of_json.error (length c.args.text.now))
+    rw (c.failure_of.ensures.done, c.failure_of.ensures.problem) (told_of_text c.in-Err-encoding_of_json.error (length c.args.text.now))
 
 pub returns-in-Err-encoding_of_json-clause-right : goal.returns-in-Err-encoding_of_json-clause-right
 returns-in-Err-encoding_of_json-clause-right c =
     let t = c.args.text.now in
     let e = c.in-Err-encoding_of_json.error in
     let refused = subst (λ (s : List ℕ). IsRefused s e) c.in-Ok.ensures.cases.0 c.in-Err-encoding_of_json.ensures.refused in
-    rw c.refused.ensures.problem (right_of_text c.args.nesting t e c.in_default.ensures c.in-Ok.ensures.cases.1 refused)
+    rw c.failure_of.ensures.problem (right_of_text c.args.nesting t e c.in_default.ensures c.in-Ok.ensures.cases.1 refused)
 
 pub returns-in-Err-encoding_of_json-clause-inside : goal.returns-in-Err-encoding_of_json-clause-inside
-returns-in-Err-encoding_of_json-clause-inside c = rw c.refused.ensures.problem (inside_of_text c.in-Err-encoding_of_json.error (length c.args.text.now))
+returns-in-Err-encoding_of_json-clause-inside c = rw c.failure_of.ensures.problem (inside_of_text c.in-Err-encoding_of_json.error (length c.args.text.now))

@@ -2,8 +2,8 @@ use Rattle.std.proofs.Common.{◌≡◌, ◌-◌, ℕ, length, drop, ap, ◌∙�
 use Rattle.amqp_in_place.proofs.Measuring.{rest_dropped, measured_bytes, measured_values, measured_levels, measured_tree}
 use Rattle.amqp_in_place.proofs.measure.measure_value.Goals as goal
 
-pub held_by_value-requires : goal.held_by_value-requires
-held_by_value-requires c =
+pub counts_of_value-requires : goal.counts_of_value-requires
+counts_of_value-requires c =
     let read = c.in_ok-value.ensures.within in
     (c.args.bytes.now, c.in_ok-value.rest.now, read.0, c.in_ok-value.ensures.inside, read.1)
 
@@ -21,28 +21,28 @@ pub returns-clause-bytes : goal.returns-clause-bytes
 returns-clause-bytes c =
     let s = c.args.bytes.now in
     let rest = c.in_ok-value.rest.now in
-    let held = c.held_by_value.result in
-    let h = c.held_by_value.ensures s rest c.in_ok-value.ensures.inside in
+    let held = c.counts_of_value.result in
+    let h = c.counts_of_value.ensures s rest c.in_ok-value.ensures.inside in
     (omega (arith, c.in_bytes.ensures.bytes), λ w left v p e. omega (arith, c.in_bytes.ensures.bytes, measured_bytes s rest held.values held.levels h w left v p e))
 
 pub returns-clause-values : goal.returns-clause-values
 returns-clause-values c = λ w left v p e.
     let s = c.args.bytes.now in
     let rest = c.in_ok-value.rest.now in
-    let held = c.held_by_value.result in
-    c.in_bytes.ensures.values ∙ measured_values s rest held.values held.levels (c.held_by_value.ensures s rest c.in_ok-value.ensures.inside) w left v p e
+    let held = c.counts_of_value.result in
+    c.in_bytes.ensures.values ∙ measured_values s rest held.values held.levels (c.counts_of_value.ensures s rest c.in_ok-value.ensures.inside) w left v p e
 
 pub returns-clause-levels : goal.returns-clause-levels
 returns-clause-levels c = λ w left v p e.
     let s = c.args.bytes.now in
     let rest = c.in_ok-value.rest.now in
-    let held = c.held_by_value.result in
-    c.in_bytes.ensures.levels ∙ measured_levels s rest held.values held.levels (c.held_by_value.ensures s rest c.in_ok-value.ensures.inside) w left v p e
+    let held = c.counts_of_value.result in
+    c.in_bytes.ensures.levels ∙ measured_levels s rest held.values held.levels (c.counts_of_value.ensures s rest c.in_ok-value.ensures.inside) w left v p e
 
 pub returns-clause-tree : goal.returns-clause-tree
 returns-clause-tree c = λ w left v p e.
     let s = c.args.bytes.now in
     let rest = c.in_ok-value.rest.now in
-    let held = c.held_by_value.result in
-    let t = measured_tree s rest held.values held.levels (c.held_by_value.ensures s rest c.in_ok-value.ensures.inside) w left v p e in
+    let held = c.counts_of_value.result in
+    let t = measured_tree s rest held.values held.levels (c.counts_of_value.ensures s rest c.in_ok-value.ensures.inside) w left v p e in
     (omega (arith, t.0, c.in_bytes.ensures.values), omega (arith, t.1, c.in_bytes.ensures.levels))

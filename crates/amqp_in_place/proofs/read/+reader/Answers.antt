@@ -86,28 +86,28 @@ value_within-returns-then-depth-eq0-clause-outcome t c =
     let s = slice_bytes c.args.i in
     let rest = slice_bytes c.in_ok-rest.rest in
     let h = subst (λ (h : Head). IsHead s h rest) c.in-FieldArray.is c.in_ok-rest.ensures in
-    rw c.refused.ensures (array_deep c.args.depth s c.in-FieldArray.body rest h c.if-depth-eq0.true)
+    rw c.error_of_kind.ensures (array_deep c.args.depth s c.in-FieldArray.body rest h c.if-depth-eq0.true)
 
 pub value_within-returns-then-not-are_values-clause-outcome : goal.value_within-returns-then-not-are_values-clause-outcome
 value_within-returns-then-not-are_values-clause-outcome t c =
     let s = slice_bytes c.args.i in
     let rest = slice_bytes c.in_ok-rest.rest in
     let h = subst (λ (h : Head). IsHead s h rest) c.in-FieldArray.is c.in_ok-rest.ensures in
-    rw c.refused-then-not-are_values.ensures (array_bad c.args.depth s c.in-FieldArray.body rest h (c.are_values.ensures.no (search rules)))
+    rw c.error_of_kind-then-not-are_values.ensures (array_bad c.args.depth s c.in-FieldArray.body rest h (c.are_values.ensures.no (search rules)))
 
 pub value_within-returns-then-depth-eq0-2-clause-outcome : goal.value_within-returns-then-depth-eq0-2-clause-outcome
 value_within-returns-then-depth-eq0-2-clause-outcome t c =
     let s = slice_bytes c.args.i in
     let rest = slice_bytes c.in_ok-rest.rest in
     let h = subst (λ (h : Head). IsHead s h rest) c.in-FieldTable.is c.in_ok-rest.ensures in
-    rw c.refused-then-depth-eq0-2.ensures (table_deep c.args.depth s c.in-FieldTable.body rest h c.if-depth-eq0-2.true)
+    rw c.error_of_kind-then-depth-eq0-2.ensures (table_deep c.args.depth s c.in-FieldTable.body rest h c.if-depth-eq0-2.true)
 
 pub value_within-returns-then-not-are_pairs-clause-outcome : goal.value_within-returns-then-not-are_pairs-clause-outcome
 value_within-returns-then-not-are_pairs-clause-outcome t c =
     let s = slice_bytes c.args.i in
     let rest = slice_bytes c.in_ok-rest.rest in
     let h = subst (λ (h : Head). IsHead s h rest) c.in-FieldTable.is c.in_ok-rest.ensures in
-    rw c.refused-then-not-are_pairs.ensures (table_bad c.args.depth s c.in-FieldTable.body rest h (c.are_pairs.ensures.no (search rules)))
+    rw c.error_of_kind-then-not-are_pairs.ensures (table_bad c.args.depth s c.in-FieldTable.body rest h (c.are_pairs.ensures.no (search rules)))
 
 pub value_within-returns-in-Plain-clause-outcome : goal.value_within-returns-in-Plain-clause-outcome
 value_within-returns-in-Plain-clause-outcome t c =

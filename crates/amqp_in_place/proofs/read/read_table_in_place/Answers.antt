@@ -13,7 +13,7 @@ pub returns-then-limits-eq0-clause-within : goal.returns-then-limits-eq0-clause-
 returns-then-limits-eq0-clause-within c =
     let s = slice_bytes c.new.result in
     let h = c.in_ok-rest.ensures in
-    rw c.refused.ensures
+    rw c.error_of_kind.ensures
     (subst (λ (t : List ℕ). UntaggedWithin c.args.limits amqp.FieldTable t malformed) c.new.ensures
     (untagged_deep c.args.limits s c.in_ok-rest.body (slice_bytes c.in_ok-rest.rest) h.body h.fits c.if-limits-eq0.true))
 
@@ -21,7 +21,7 @@ pub returns-then-not-are_pairs-clause-within : goal.returns-then-not-are_pairs-c
 returns-then-not-are_pairs-clause-within c =
     let s = slice_bytes c.new.result in
     let h = c.in_ok-rest.ensures in
-    rw c.refused-then-not-are_pairs.ensures
+    rw c.error_of_kind-then-not-are_pairs.ensures
     (subst (λ (t : List ℕ). UntaggedWithin c.args.limits amqp.FieldTable t malformed) c.new.ensures
     (untagged_bad c.args.limits s c.in_ok-rest.body (slice_bytes c.in_ok-rest.rest) h.body h.fits (c.are_pairs.ensures.no (search rules))))
 

@@ -1,4 +1,4 @@
-use Rattle.std.proofs.Common.{◌≡◌, ◌∙◌, subst, sym}
+use Rattle.std.proofs.Common.{◌∙◌, sym}
 use Rattle.amqp_show.proofs.Starts.{start_returned, status_returned}
 use Rattle.amqp_show.proofs.show.push_value.Goals as goal
 

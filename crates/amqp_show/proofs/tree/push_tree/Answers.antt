@@ -1,4 +1,4 @@
-use Rattle.std.proofs.Common.{◌≡◌, ◌∙◌}
+use Rattle.std.proofs.Common.{◌∙◌}
 use Rattle.amqp_show.proofs.Listed.{remarks}
 use Rattle.amqp_show.proofs.Nodes.{range_from, tree_more, tree_end}
 use Rattle.amqp_show.proofs.tree.push_tree.Goals as goal

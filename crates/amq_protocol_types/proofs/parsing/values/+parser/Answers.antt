@@ -108,12 +108,12 @@ value_within-returns g t c =
 
 pub array_within-returns-then-depth-eq0 : goal.array_within-returns-then-depth-eq0
 array_within-returns-then-depth-eq0 g t c =
-    rw c.refused.ensures
+    rw c.error_of_kind.ensures
     (array_too_deep c.args.depth (g.I.ParsableInput.bytes c.args.i) (g.I.ParsableInput.bytes c.in_ok-i.body) (g.I.ParsableInput.bytes c.in_ok-i.i) c.in_ok-i.ensures c.if-depth-eq0.true)
 
 pub table_within-returns-then-depth-eq0 : goal.table_within-returns-then-depth-eq0
 table_within-returns-then-depth-eq0 g t c =
-    rw c.refused.ensures
+    rw c.error_of_kind.ensures
     (table_too_deep c.args.depth (g.I.ParsableInput.bytes c.args.i) (g.I.ParsableInput.bytes c.in_ok-i.body) (g.I.ParsableInput.bytes c.in_ok-i.i) c.in_ok-i.ensures c.if-depth-eq0.true)
 
 pub parse_array_body-entries-init : goal.parse_array_body-entries-init

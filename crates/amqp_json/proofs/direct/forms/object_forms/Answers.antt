@@ -10,7 +10,7 @@ use Rattle.amqp_json.proofs.direct.forms.object_forms.Goals as goal
 pub returns-in_ok-slots-in-Ok : goal.returns-in_ok-slots-in-Ok
 returns-in_ok-slots-in-Ok c members rest is =
     let found = subst (λ (r : Result (Unit {0}) JsonError). IsObjectRead r c.args.slots.now.object members rest) c.in-Ok.is is in
-    (object found.0, ap (parse_map object) found.1, c.in_ok-slots-in-Ok.ensures.ok found.0 (subst (λ o. IsObjectOf o found.0) (sym c.taken.ensures) found.2))
+    (object found.0, ap (parse_map object) found.1, c.in_ok-slots-in-Ok.ensures.ok found.0 (subst (λ o. IsObjectOf o found.0) (sym c.take_object.ensures) found.2))
 
 pub returns-in-Err-NotAValue : goal.returns-in-Err-NotAValue
 returns-in-Err-NotAValue c members rest is =

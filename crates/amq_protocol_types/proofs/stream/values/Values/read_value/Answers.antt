@@ -15,8 +15,8 @@ returns-then-branch-eq0-clause-outcome g c =
     let last = c.fill_from.new.reader in
     let fill = c.in_ok-fill_from-in-Lacks.ensures in
     let came = joined g.R.Source c.args.reader.now c.reads.reader last _ _ (kept c.args.self.now) (kept c.reads.self) c.fill_from.new.self c.reads.invariant.0 fill.ok in
-    reads_outcome g.R.Source c.args.self.now c.args.reader.now last _ c.fill_from.new.self c.ended.result c.ended.new.self
-    c.reads.invariant.2 came (c.ended.ensures.outcome (g.R.Source.remaining last) (fill.end c.if-branch-eq0.true))
+    reads_outcome g.R.Source c.args.self.now c.args.reader.now last _ c.fill_from.new.self c.result_at_end.result c.result_at_end.new.self
+    c.reads.invariant.2 came (c.result_at_end.ensures.outcome (g.R.Source.remaining last) (fill.end c.if-branch-eq0.true))
 
 pub returns-in-Whole-clause-outcome : goal.returns-in-Whole-clause-outcome
 returns-in-Whole-clause-outcome g c =
@@ -42,5 +42,5 @@ returns-in_err-fill_from-in-Lacks-clause-kind g c =
 
 pub returns-then-branch-eq0-clause-kind : goal.returns-then-branch-eq0-clause-kind
 returns-then-branch-eq0-clause-kind g c =
-    kept_by g.R.Source.goes g.R.Source.fails c.args.reader.now c.fill_from.new.reader c.ended.result c.ended.ensures.no_read
+    kept_by g.R.Source.goes g.R.Source.fails c.args.reader.now c.fill_from.new.reader c.result_at_end.result c.result_at_end.ensures.no_read
     (reaches_on g.R.Source.goes c.args.reader.now c.reads.reader c.fill_from.new.reader c.reads.invariant.3 c.in_ok-fill_from-in-Lacks.ensures.kind)

@@ -1,8 +1,8 @@
 use Rattle.std.proofs.Common.{arith, inl, inr, sym, ◌∙◌}
 use Rattle.amqp_c.specs.Needs.{IsKnownContainer}
 use Rattle.amqp_c.proofs.Needs.{array_name, table_name, too_large}
-use Rattle.amqp_c.proofs.container.Container.needed_after.Goals as goal
-use Rattle.amqp_c.proofs.container.Container.needed_after.Goals.{in-65, in-70}
+use Rattle.amqp_c.proofs.container.Container.needed_capacity_after.Goals as goal
+use Rattle.amqp_c.proofs.container.Container.needed_capacity_after.Goals.{in-65, in-70}
 
 pub returns-then-needed : goal.returns-then-needed
 returns-then-needed c =

@@ -33,7 +33,7 @@ const ALL_RETURNED: &[Returned<'static>] = &[
 ];
 
 /// All encodings in one.
-pub(super) fn joined(alloc: Global) -> Result<Vec<u8>, AllocError> {
+pub(super) fn joined_bytes(alloc: Global) -> Result<Vec<u8>, AllocError> {
     let mut bytes = Vec::new(alloc);
     for wire in WIRES {
         bytes.extend_from_slice(wire)?;
@@ -62,7 +62,7 @@ fn are_returned(
 
 #[test]
 fn are_read_one_by_one(rt: HostRuntime) -> Result<(), Fail> {
-    let bytes = joined(rt.alloc())?;
+    let bytes = joined_bytes(rt.alloc())?;
     let wires = bytes.as_slice();
     assert_eq!(rt; wires.len(), 265);
     are_returned(&rt, rt.alloc(), wires, 199, ALL_RETURNED, &[]);
@@ -74,7 +74,7 @@ fn are_read_one_by_one(rt: HostRuntime) -> Result<(), Fail> {
 /// Each value is the one that is read of its encoding by itself.
 #[test]
 fn are_read_as_by_themselves(rt: HostRuntime) -> Result<(), Fail> {
-    let bytes = joined(rt.alloc())?;
+    let bytes = joined_bytes(rt.alloc())?;
     let mut reader = bytes.as_slice();
     let limits = Limits {
         frame: 199,

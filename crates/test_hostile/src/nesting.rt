@@ -50,14 +50,21 @@ pub fn run<P: Print, R: Read>(
         "values" => of_values(alloc, name, bytes, limits),
         "tree" => of_tree(alloc, name, &tree(alloc, bytes)?),
         "document" => of_document(alloc, name, &document(alloc, bytes)?),
-        "text" => of_text(alloc, name, str::from_utf8(bytes).map_err(crate::unmade)?),
+        "text" => of_text(
+            alloc,
+            name,
+            str::from_utf8(bytes).map_err(crate::preparation_error)?,
+        ),
         _ => unknown(),
     }?;
     println!(rt; "{outcome}")
 }
 
 /// "done" if a call succeeded, otherwise its error.
-fn said<T: Drop, E: Debug + Drop>(alloc: Global, outcome: Result<T, E>) -> io::Result<String> {
+fn result_text<T: Drop, E: Debug + Drop>(
+    alloc: Global,
+    outcome: Result<T, E>,
+) -> io::Result<String> {
     match outcome {
         Ok(_) => outcome_word(alloc, true),
         Err(e) => Ok(format!(in alloc; "{e:?}")?),
@@ -78,26 +85,26 @@ fn unknown() -> io::Result<String> {
 fn of_encoding(alloc: Global, name: &str, bytes: &[u8], limits: Limits) -> io::Result<String> {
     let input = SliceInput::new(bytes);
     match name {
-        "parse_value" => said(alloc, parse_value(alloc, input)),
-        "parse_value_within" => said(alloc, parse_value_within(alloc, input, limits)),
-        "SplitInput" => said(alloc, parse_value_within(alloc, in_two(bytes), limits)),
+        "parse_value" => result_text(alloc, parse_value(alloc, input)),
+        "parse_value_within" => result_text(alloc, parse_value_within(alloc, input, limits)),
+        "SplitInput" => result_text(alloc, parse_value_within(alloc, in_two(bytes), limits)),
         "ValueReader::next" => next_of(alloc, bytes, limits.depth),
-        "read_in_place" => said(alloc, read_in_place(bytes, limits)),
-        "read_in_place_unlimited" => said(alloc, read_in_place_unlimited(bytes)),
-        "to_owned" => owned(alloc, bytes, limits),
-        "iter" => iterated(alloc, bytes, limits),
-        "skip_value" => said(alloc, skip_value(bytes)),
+        "read_in_place" => result_text(alloc, read_in_place(bytes, limits)),
+        "read_in_place_unlimited" => result_text(alloc, read_in_place_unlimited(bytes)),
+        "to_owned" => outcome_of_owning(alloc, bytes, limits),
+        "iter" => outcome_of_iteration(alloc, bytes, limits),
+        "skip_value" => result_text(alloc, skip_value(bytes)),
         "is_canonical" => outcome_word(alloc, is_canonical(bytes, limits)),
         "canonical_len" => outcome_word(alloc, canonical_len(bytes, limits).is_some()),
-        "measure_value" => said(alloc, measure_value(bytes, limits)),
+        "measure_value" => result_text(alloc, measure_value(bytes, limits)),
         "first_problem" => outcome_word(alloc, first_problem(bytes, limits).is_none()),
         "warnings" => {
             let warned = warnings(alloc, bytes, limits, 0, u32::MAX)?;
             outcome_word(alloc, warned.too_deep.is_none())
         }
-        "dissect" => dissected(alloc, bytes, limits),
-        "dissect_partial" => dissected_in_part(alloc, bytes, limits),
-        "json_of_encoding" => said(alloc, json_of_encoding(alloc, bytes, limits)),
+        "dissect" => outcome_of_dissection(alloc, bytes, limits),
+        "dissect_partial" => outcome_of_partial(alloc, bytes, limits),
+        "json_of_encoding" => result_text(alloc, json_of_encoding(alloc, bytes, limits)),
         _ => unknown(),
     }
 }
@@ -106,12 +113,15 @@ fn of_encoding(alloc: Global, name: &str, bytes: &[u8], limits: Limits) -> io::R
 fn of_payload(alloc: Global, name: &str, bytes: &[u8], limits: Limits) -> io::Result<String> {
     let input = SliceInput::new(bytes);
     match name {
-        "parse_field_table" => said(alloc, parse_field_table(alloc, input)),
-        "parse_field_table_within" => said(alloc, parse_field_table_within(alloc, input, limits)),
-        "read_table_in_place" => said(alloc, read_table_in_place(bytes, limits)),
+        "parse_field_table" => result_text(alloc, parse_field_table(alloc, input)),
+        "parse_field_table_within" => result_text(
+            alloc,
+            parse_field_table_within(alloc, input, limits),
+        ),
+        "read_table_in_place" => result_text(alloc, read_table_in_place(bytes, limits)),
         "is_canonical_table" => outcome_word(alloc, is_canonical_table(bytes, limits)),
         "canonical_table_len" => outcome_word(alloc, canonical_table_len(bytes, limits).is_some()),
-        "measure_table" => said(alloc, measure_table(bytes, limits)),
+        "measure_table" => result_text(alloc, measure_table(bytes, limits)),
         "first_problem_in_table" => outcome_word(
             alloc,
             first_problem_in_table(bytes, limits).is_none(),
@@ -128,7 +138,10 @@ fn of_payload(alloc: Global, name: &str, bytes: &[u8], limits: Limits) -> io::Re
 fn of_values(alloc: Global, name: &str, bytes: &[u8], limits: Limits) -> io::Result<String> {
     let input = SliceInput::new(bytes);
     match name {
-        "parse_field_array_within" => said(alloc, parse_field_array_within(alloc, input, limits)),
+        "parse_field_array_within" => result_text(
+            alloc,
+            parse_field_array_within(alloc, input, limits),
+        ),
         _ => unknown(),
     }
 }
@@ -137,14 +150,14 @@ fn of_values(alloc: Global, name: &str, bytes: &[u8], limits: Limits) -> io::Res
 fn of_tree(alloc: Global, name: &str, value: &AMQPValue) -> io::Result<String> {
     match name {
         "drop" => outcome_word(alloc, true),
-        "clone" => said(alloc, value.clone(alloc)),
+        "clone" => result_text(alloc, value.clone(alloc)),
         "==" => outcome_word(alloc, *value == *value),
         "gen_value" => {
             let mut x = WriteContext::from(Vec::new(alloc));
-            said(alloc, gen_value(value, &mut x))
+            result_text(alloc, gen_value(value, &mut x))
         }
-        "to_value" => said(alloc, to_value(alloc, value)),
-        "to_json" => said(alloc, to_json(alloc, value)),
+        "to_value" => result_text(alloc, to_value(alloc, value)),
+        "to_json" => result_text(alloc, to_json(alloc, value)),
         _ => unknown(),
     }
 }
@@ -152,7 +165,7 @@ fn of_tree(alloc: Global, name: &str, value: &AMQPValue) -> io::Result<String> {
 /// Calls on a JSON value.
 fn of_document(alloc: Global, name: &str, value: &Value) -> io::Result<String> {
     match name {
-        "from_value" => said(alloc, from_value(alloc, value)),
+        "from_value" => result_text(alloc, from_value(alloc, value)),
         _ => unknown(),
     }
 }
@@ -160,8 +173,8 @@ fn of_document(alloc: Global, name: &str, value: &Value) -> io::Result<String> {
 /// Calls on a JSON text.
 fn of_text(alloc: Global, name: &str, text: &str) -> io::Result<String> {
     match name {
-        "from_json" => said(alloc, from_json(alloc, text)),
-        "encoding_of_json" => said(alloc, encoding_of_json(alloc, text)),
+        "from_json" => result_text(alloc, from_json(alloc, text)),
+        "encoding_of_json" => result_text(alloc, encoding_of_json(alloc, text)),
         _ => unknown(),
     }
 }
@@ -178,27 +191,27 @@ fn next_of(alloc: Global, bytes: &[u8], depth: u32) -> io::Result<String> {
         frame: FRAME,
         depth,
     };
-    said(alloc, ValueReader::new(alloc, bytes, limits).next())
+    result_text(alloc, ValueReader::new(alloc, bytes, limits).next())
 }
 
 /// Reads a value in place, and has it be owned.
-fn owned(alloc: Global, bytes: &[u8], limits: Limits) -> io::Result<String> {
+fn outcome_of_owning(alloc: Global, bytes: &[u8], limits: Limits) -> io::Result<String> {
     match read_in_place(bytes, limits) {
-        Ok((value, _)) => said(alloc, value.to_owned(alloc)),
-        Err(e) => said(alloc, Err::<(), _>(e)),
+        Ok((value, _)) => result_text(alloc, value.to_owned(alloc)),
+        Err(e) => result_text(alloc, Err::<(), _>(e)),
     }
 }
 
 /// Reads a value in place, and goes inwards.
-fn iterated(alloc: Global, bytes: &[u8], limits: Limits) -> io::Result<String> {
+fn outcome_of_iteration(alloc: Global, bytes: &[u8], limits: Limits) -> io::Result<String> {
     match read_in_place(bytes, limits) {
-        Ok((value, _)) => walked(alloc, value, limits.depth),
-        Err(e) => said(alloc, Err::<(), _>(e)),
+        Ok((value, _)) => outcome_of_walk(alloc, value, limits.depth),
+        Err(e) => result_text(alloc, Err::<(), _>(e)),
     }
 }
 
 /// The end of a dissection.
-fn dissected(alloc: Global, bytes: &[u8], limits: Limits) -> io::Result<String> {
+fn outcome_of_dissection(alloc: Global, bytes: &[u8], limits: Limits) -> io::Result<String> {
     match dissect(alloc, bytes, limits)?.end {
         End::Value => outcome_word(alloc, true),
         end => Ok(format!(in alloc; "{end:?}")?),
@@ -206,7 +219,7 @@ fn dissected(alloc: Global, bytes: &[u8], limits: Limits) -> io::Result<String> 
 }
 
 /// The end of the parts of an encoding without its last byte.
-fn dissected_in_part(alloc: Global, bytes: &[u8], limits: Limits) -> io::Result<String> {
+fn outcome_of_partial(alloc: Global, bytes: &[u8], limits: Limits) -> io::Result<String> {
     let input = &bytes[..bytes.len().saturating_sub(1)];
     match dissect_partial(alloc, input, limits)?.problem {
         None => outcome_word(alloc, true),
@@ -233,7 +246,7 @@ fn array_of(alloc: Global, value: AMQPValue) -> Result<AMQPValue, AllocError> {
 }
 
 fn table_of(alloc: Global, value: AMQPValue) -> io::Result<AMQPValue> {
-    let key = ShortString::try_copy(alloc, KEY).map_err(crate::unmade)?;
+    let key = ShortString::try_copy(alloc, KEY).map_err(crate::preparation_error)?;
     let mut table = FieldTable::new_in(alloc);
     table.place(key, value)?;
     Ok(AMQPValue::FieldTable(table))
@@ -258,7 +271,7 @@ fn object_of(alloc: Global, value: Value) -> Result<Value, AllocError> {
 }
 
 /// Enters n containers by the last entry of each, which it looks up too.
-fn walked(alloc: Global, value: ValueRef<'_>, depth: u32) -> io::Result<String> {
+fn outcome_of_walk(alloc: Global, value: ValueRef<'_>, depth: u32) -> io::Result<String> {
     let mut inner = Some(value);
     for _ in 0..depth {
         inner = match inner {

@@ -63,7 +63,7 @@ const CASES: &[(u32, u32, &[u8], Outcome<'static>)] = &[
 ];
 
 // The bytes after the tag are read as the value that they are with it.
-fn untagged<I: ParsableInput>(
+fn result_without_tag<I: ParsableInput>(
     alloc: Global,
     tag: u8,
     i: I,
@@ -84,14 +84,14 @@ fn both_come_to(rt: &impl Abort, alloc: Global, tagged: &[u8], limits: Limits, w
         return;
     };
     let whole = parse_value_within(alloc, SliceInput::new(tagged), limits);
-    let part = untagged(alloc, *tag, SliceInput::new(bytes), limits);
+    let part = result_without_tag(alloc, *tag, SliceInput::new(bytes), limits);
     assert!(rt;
         comes_to(alloc, whole, want) && comes_to(alloc, part, want),
         "{tagged:?} within {limits:?}"
     );
     for at in 0..bytes.len() + 1 {
         let (first, second) = bytes.split_at(at);
-        let part = untagged(alloc, *tag, SplitInput::new(first, second), limits);
+        let part = result_without_tag(alloc, *tag, SplitInput::new(first, second), limits);
         assert!(rt;
             comes_to(alloc, part, want),
             "{tagged:?} within {limits:?}, cut after {at}"

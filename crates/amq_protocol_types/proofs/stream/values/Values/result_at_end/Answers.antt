@@ -3,7 +3,7 @@ use Rattle.amqp_value_core.specs.Nesting.{WireWithin}
 use Rattle.amq_protocol_types.specs.parsing.Headers.{wanted}
 use Rattle.amq_protocol_types.specs.stream.Readers.{kept}
 use Rattle.amq_protocol_types.proofs.ParsingLaws.{more_wanted}
-use Rattle.amq_protocol_types.proofs.stream.values.Values.ended.Goals as goal
+use Rattle.amq_protocol_types.proofs.stream.values.Values.result_at_end.Goals as goal
 
 pub returns-clause-outcome : goal.returns-clause-outcome
 returns-clause-outcome c = λ left end.
