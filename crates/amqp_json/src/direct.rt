@@ -24,7 +24,7 @@ mod forms;
 use crate::error::{JsonError, ValueError};
 use crate::names::type_of_name;
 use crate::numerals::number;
-use crate::pass::{next_key, pass_items};
+use crate::pass::{next_key, pass_end, pass_items};
 use crate::reading::{long_long_int, long_text};
 use amqp_value_core::types::{AMQPType, FieldArray, FieldTable};
 use amqp_value_core::value::AMQPValue;
@@ -55,27 +55,15 @@ pub(crate) fn value_of_text(alloc: Global, text: &str) -> Result<AMQPValue, Json
     };
     match read_value(alloc, &mut reader, &mut slots, MAX_DEPTH) {
         Ok(found) => {
-            end(&mut reader)?;
+            pass_end(&mut reader)?;
             Ok(found)
         }
         Err(JsonError::NotAValue(at)) => {
-            end(&mut reader)?;
+            pass_end(&mut reader)?;
             Err(JsonError::NotAValue(at))
         }
         Err(e) => Err(e),
     }
-}
-
-// Rejects what follows the value.
-fn end(reader: &mut Reader<'_>) -> Result<(), JsonError>
-    ensures { MatchResult result (λ _. reader.old ≡ [])
-        (λ e. (at : ℕ) × (e ≡ json_error.Syntax at) × (reader.old ≢ [])) }
-{
-    let at = reader.offset();
-    if reader.next().is_some() {
-        return Err(JsonError::Syntax(at));
-    }
-    Ok(())
 }
 
 // A number without a type's name.

@@ -13,7 +13,7 @@ ghost use Rattle.amqp_json.specs.Refusals.{IsErrorWithin};
 use crate::canonical::canonical_of;
 use crate::conversion_error::EncodeError;
 use crate::encoding::{Stop, encoding_of_text};
-use crate::text::from_json;
+use crate::text::{check_syntax, from_json};
 use amq_protocol_types::generation::{GenError, WriteContext, gen_value};
 use amqp_in_place::{Limits, is_canonical, read_in_place_unlimited};
 use amqp_value_core::value::AMQPValue;
@@ -43,6 +43,8 @@ pub fn encoding_of_json(alloc: Global, json: &str) -> Result<Vec<u8>, EncodeErro
         Err(Stop::OutOfMemory) => return Err(EncodeError::OutOfMemory),
         Err(Stop::NotHere) => {}
     }
+    // Most texts that are rejected are no JSON: then no value is made.
+    check_syntax(alloc, json)?;
     let value = from_json(alloc, json)?;
     encoding_of(alloc, &value)
 }

@@ -1,16 +1,45 @@
-//! Passing over a text's tokens: whether they are JSON that is read.
+//! Passing over a text, or what is left of its tokens: whether that is JSON.
 
-ghost use Rattle.std.specs.Prelude.{ℕ, ◌≡◌, ◌<◌, ◌≤◌, length, None, Some, IfOk, OnOk, MatchOption, MatchResult, option_map, is_some, true};
+ghost use Rattle.std.specs.Prelude.{ℕ, ◌≡◌, ◌≢◌, ◌<◌, ◌≤◌, [], length, None, Some, IfOk, IfErr, OnOk, MatchOption, MatchResult, option_map, is_some, true};
 ghost use Rattle.json.specs.Json.{value, items, members, read_key};
 ghost use Rattle.serde_json.specs.Data.{Members};
 ghost use Rattle.serde_json.specs.Read.{of_json, of_items, of_members, converted, read};
 ghost use Rattle.amqp_json.specs.Tokens.{Passes};
+ghost use Rattle.amqp_json.specs.Refusals.{IsJsonError};
+ghost use Rattle.amqp_json.specs.declared.error.JsonError.TheVariants as json_error;
 
+use crate::error::JsonError;
 use crate::numerals::number;
 use json::{Reader, Scratch, Token};
-use std::alloc::{AllocError, Global};
+use std::alloc::Global;
 
 const MAX_DEPTH: usize = 127;
+
+/// Passes a whole text: `Syntax` if it isn't JSON. Memory is asked for what the text's strings with
+/// escapes stand for.
+#[inline(never)]
+pub(crate) fn pass_text(alloc: Global, text: &str) -> Result<(), JsonError>
+    ensures { IfErr result (λ e. IsJsonError e (read text.now)) }
+{
+    let mut scratch = Scratch::new(alloc);
+    let mut reader = Reader::new(text, &mut scratch)?;
+    if let Err(at) = pass_value(&mut reader, MAX_DEPTH) {
+        return Err(JsonError::Syntax(at));
+    }
+    pass_end(&mut reader)
+}
+
+/// Rejects what follows the value.
+pub(crate) fn pass_end(reader: &mut Reader<'_>) -> Result<(), JsonError>
+    ensures { MatchResult result (λ _. reader.old ≡ [])
+        (λ e. (at : ℕ) × (e ≡ json_error.Syntax at) × (reader.old ≢ [])) }
+{
+    let at = reader.offset();
+    if reader.next().is_some() {
+        return Err(JsonError::Syntax(at));
+    }
+    Ok(())
+}
 
 // Passes the value that is next, or returns where that isn't JSON.
 #[cycle(pass)]

@@ -15,6 +15,7 @@ ghost use Rattle.amqp_json.specs.Refusals.{IsJsonError, IsWithin};
 use crate::direct::value_of_text;
 use crate::error::JsonError;
 use crate::owned::owned_text;
+use crate::pass::pass_text;
 use amqp_value_core::value::AMQPValue;
 use std::alloc::{AllocError, Global};
 
@@ -46,6 +47,17 @@ pub fn from_json(alloc: Global, text: &str) -> Result<AMQPValue, JsonError>
 {
     match value_of_text(alloc, text) {
         Ok(value) => Ok(value),
+        Err(e) => Err(within(e, text.len())),
+    }
+}
+
+/// Whether a text is JSON, without its value: `Syntax` if it isn't, as `from_json` returns it.
+pub(crate) fn check_syntax(alloc: Global, text: &str) -> Result<(), JsonError>
+    ensures refused { IfErr result (λ e. IsJsonError e (read text.now)) }
+    ensures within { IfErr result (λ e. IsWithin e (length text.now)) }
+{
+    match pass_text(alloc, text) {
+        Ok(()) => Ok(()),
         Err(e) => Err(within(e, text.len())),
     }
 }
