@@ -27,8 +27,8 @@ const UNLIMITED: Limits = Limits {
 
 /// Converts a JSON text to the canonical encoding of its value, which it reads as `from_json` does.
 /// The value is allocated only if the text isn't encoded as its tokens come: if it is rejected, has
-/// a table under the name of its type, a decimal whose number is before its scale or that isn't
-/// alone in its object, or a value that is none before another one of its key.
+/// a decimal whose number is before its scale or that isn't a value of its own, or a value that is
+/// none before another one of its key.
 pub fn encoding_of_json(alloc: Global, json: &str) -> Result<Vec<u8>, EncodeError>
     ensures encoding { IfOk result (λ bytes. IsEncodingOf json.now bytes.items) }
     ensures only { IfOk result (λ bytes. (v : Tree) → IsStored v → JsonTextMeans json.now v

@@ -10,13 +10,15 @@ ghost use Rattle.serde_json.specs.Data.{Data, array, number};
 ghost use Rattle.serde_json.specs.Read.{of_json, of_items, converted, number_of};
 ghost use Rattle.amqp_value_core.specs.Values.{Entries};
 ghost use Rattle.amqp_json.specs.InMemory.{EntriesStored};
-ghost use Rattle.amqp_json.specs.Encodes.{IsObject, IsEncodedMeaning, PutsEncodingOf, PutsValues, PutsPairs, AreEntriesRead, HasNoTypeName, IsLast, IsFieldRead};
+ghost use Rattle.amqp_json.specs.Encodes.{IsObject, IsEncodedMeaning, PutsEncodingOf, PutsValues, PutsPairs, AreEntriesRead, HasNoTypeName, IsLast, IsPending, IsNamedRead, IsFieldRead};
 ghost use Rattle.amqp_json.specs.Json.{json, items_json, under, decimal_json};
 ghost use Rattle.amqp_json.specs.Names.{type_named};
 
 mod last;
+mod leaf;
 mod lexer;
 mod named;
+mod object;
 pub(crate) mod put;
 
 use crate::error::ValueError;
@@ -24,9 +26,11 @@ use crate::names::type_of_name;
 use crate::numerals::{integer, natural_number};
 use amqp_value_core::types::{AMQPType, DecimalValue};
 use json::{Scratch, Token};
-use last::{Last, is_same, put_first, put_sole, take_back};
+use last::{Last, is_same, object_of, put_first, put_sole, take_back};
+use leaf::Leaf;
 use lexer::Lexer;
 use named::put_narrow;
+use object::{Object, TABLE};
 use put::{fill_length, put_boolean, put_head, put_key, put_long_long_int, put_text, put_void};
 use std::alloc::{AllocError, Global};
 
@@ -222,6 +226,52 @@ fn put_object(
     {
         return put_typed(alloc, reader, out, name, amqp_type, depth);
     }
+    put_table(alloc, reader, out, first, depth)
+}
+
+// What is after an opening brace under the name of a table's type: an object, of which nothing is put
+// yet if the name of a type is its only key.
+#[cycle(encode)]
+#[inline(never)]
+fn object_under_table<'a>(
+    alloc: Global,
+    reader: &mut Lexer<'a>,
+    out: &mut Vec<u8>,
+    depth: usize,
+) -> Result<Object<'a>, Stop>
+    ensures ok { IfOk result (λ object. (d : Data) × IsObject d (value depth) reader.old reader.new
+        × IsPending object d out.old.items out.new.items) }
+    ensures shorter { IfOk result (λ object. length reader.new < length reader.old) }
+{
+    let first = reader.next_key()?;
+    if let Some(name) = first
+        && let Some(amqp_type) = type_of_name(name)
+    {
+        let found = put_turns(alloc, reader, out, name, amqp_type, depth)?;
+        let Some(last) = found else {
+            return Ok(TABLE);
+        };
+        return object_of(amqp_type, last);
+    }
+    put_table(alloc, reader, out, first, depth)?;
+    Ok(TABLE)
+}
+
+// A table whose first key was read, and isn't the name of a type.
+#[cycle(encode)]
+#[inline(always)]
+fn put_table<'a>(
+    alloc: Global,
+    reader: &mut Lexer<'a>,
+    out: &mut Vec<u8>,
+    first: Option<&'a str>,
+    depth: usize,
+) -> Result<(), Stop>
+    ensures ok { OnOk result (IfSome first.entry (λ k. type_named k.now ≡ None)
+        → PutsEncodingOf (λ v. (ts : List SpecToken) → read_key ts ≡ Some (option_map (λ s. s.now) first.entry, reader.old)
+        → IsObject (json v) (value depth) ts reader.new) out.old.items out.new.items) }
+    ensures shorter { OnOk result (length reader.new ≤ length reader.old) }
+{
     let at = out.len() + 1;
     put_head(out, b'F')?;
     put_members(alloc, reader, out, first, depth)?;
@@ -275,8 +325,7 @@ fn put_typed<'a>(
     put_named(alloc, reader, out, name, amqp_type, depth)
 }
 
-// What is after a first key that is the name of a type. The key or the brace after the value says
-// whether it is the type of that, or the first key of a table.
+// What is after a first key that is the name of a type.
 #[cycle(encode)]
 #[inline(never)]
 fn put_named<'a>(
@@ -293,22 +342,47 @@ fn put_named<'a>(
     ensures shorter { OnOk result (length reader.new < length reader.old) }
 {
     let start = out.len();
+    match put_turns(alloc, reader, out, name, amqp_type, depth)? {
+        None => Ok(()),
+        Some(last) => put_sole(alloc, out, start, amqp_type, last),
+    }
+}
+
+// What is under that key, if it is the only one, and otherwise a table, which is put. The key or the
+// brace after the value says which.
+#[cycle(encode)]
+#[inline(always)]
+fn put_turns<'a>(
+    alloc: Global,
+    reader: &mut Lexer<'a>,
+    out: &mut Vec<u8>,
+    name: &'a str,
+    amqp_type: AMQPType,
+    depth: usize,
+) -> Result<Option<Last<'a>>, Stop>
+    ensures ok { IfOk result (λ found. IsNamedRead found (value depth) name.now reader.old reader.new
+        out.old.items out.new.items) }
+    ensures shorter { IfOk result (λ found. length reader.new < length reader.old) }
+{
+    let start = out.len();
     'turns: loop {
         let last = put_last(alloc, reader, out, name, amqp_type, depth)?;
         let next = reader.next_key()?;
         match next {
-            None => return put_sole(alloc, out, amqp_type, last),
+            None => return Ok(Some(last)),
             Some(key) if is_same(key, name) => take_back(out, start, last)?,
             Some(key) => {
-                put_first(out, name, last)?;
+                put_first(alloc, out, start, name, last)?;
                 put_members(alloc, reader, out, Some(key), depth)?;
-                return fill_length(out, start + 1);
+                fill_length(out, start + 1)?;
+                return Ok(None);
             }
         }
     }
 }
 
-// What is under the name of a type. A value that is no number, string or decimal is put.
+// What is under the name of a type. Of a number, a string, a decimal, and an object that may be named,
+// nothing is put.
 #[cycle(encode)]
 #[inline(always)]
 fn put_last<'a>(
@@ -325,17 +399,24 @@ fn put_last<'a>(
 {
     let token = reader.next()?;
     match (amqp_type, token) {
-        (_, Token::Number(text)) => Ok(Last::Number(text)),
-        (_, Token::String(text)) => Ok(Last::Text(text)),
+        (_, Token::Number(text)) => Ok(Last::Leaf(Leaf::Number(text))),
+        (_, Token::String(text)) => Ok(Last::Leaf(Leaf::Text(text))),
         (AMQPType::DecimalValue, Token::BeginObject) => {
             let d = decimal(reader, depth)?;
-            Ok(Last::Decimal(d))
+            Ok(Last::Leaf(Leaf::Decimal(d)))
+        }
+        (AMQPType::FieldTable, Token::BeginObject) => {
+            if depth == 0 {
+                return Err(Stop::NotHere);
+            }
+            let object = object_under_table(alloc, reader, out, depth - 1)?;
+            Ok(Last::Object(object))
         }
         (_, token) => {
             put_head(out, b'F')?;
             put_key(out, name)?;
             put_token(alloc, reader, token, out, depth)?;
-            Ok(Last::Put)
+            Ok(Last::Leaf(Leaf::Put))
         }
     }
 }
