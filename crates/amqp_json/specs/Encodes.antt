@@ -82,9 +82,9 @@ abbrev pub HasNoTypeName : Entries → Option (List ℕ) → Type 0
 HasNoTypeName es None = sole_type (members_json es) ≡ None
 HasNoTypeName es (Some k) = BecomesTable (Some k) (members_json es)
 
--- n is the natural number after its key
-abbrev pub IsFieldRead : ℕ → List ℕ → List Token → List Token → Type 0
-IsFieldRead n name ts rest = (us : List Token) × (read_key ts ≡ Some (Some name, us)) × ((depth : ℕ) → converted of_json (value depth us) ≡ Some (natural n, rest)) × (length rest < length us)
+-- n is the natural number at the start of ts
+abbrev pub IsNaturalRead : ℕ → List Token → List Token → Type 0
+IsNaturalRead n ts rest = ((depth : ℕ) → converted of_json (value depth ts) ≡ Some (natural n, rest)) × (length rest < length ts)
 
 -- the table of the entries `es` is read from those before and the members from a key on, and no name
 -- of a type is its only key

@@ -1,7 +1,7 @@
 //! From the tokens of a text to an encoding of its value, without the value in memory: the pairs of
 //! a table are in the order of the text, and keys may occur again.
 
-ghost use Rattle.std.specs.Prelude.{ℕ, ◌≡◌, ◌<◌, ◌≤◌, ◌∷◌, length, List, Some, None, IfOk, OnOk, IfSome, option_map};
+ghost use Rattle.std.specs.Prelude.{ℕ, ◌≡◌, ◌<◌, ◌≤◌, ◌∷◌, length, List, Some, None, true, codes, IfOk, OnOk, IfSome, option_map};
 ghost use Rattle.json.specs.Token.{Token as SpecToken};
 ghost use Rattle.json.specs.Token as token;
 ghost use Rattle.json.specs.Reads.{token_of};
@@ -10,10 +10,11 @@ ghost use Rattle.serde_json.specs.Data.{Data, array, number};
 ghost use Rattle.serde_json.specs.Read.{of_json, of_items, converted, number_of};
 ghost use Rattle.amqp_value_core.specs.Values.{Entries};
 ghost use Rattle.amqp_json.specs.InMemory.{EntriesStored};
-ghost use Rattle.amqp_json.specs.Encodes.{IsObject, IsEncodedMeaning, PutsEncodingOf, PutsValues, PutsPairs, AreEntriesRead, HasNoTypeName, IsLast, IsPending, IsNamedRead, IsFieldRead};
+ghost use Rattle.amqp_json.specs.Encodes.{IsObject, IsEncodedMeaning, PutsEncodingOf, PutsValues, PutsPairs, AreEntriesRead, HasNoTypeName, IsLast, IsPending, IsNamedRead, IsNaturalRead};
 ghost use Rattle.amqp_json.specs.Json.{json, items_json, under, decimal_json};
 ghost use Rattle.amqp_json.specs.Names.{type_named};
 
+mod fields;
 mod last;
 mod leaf;
 mod lexer;
@@ -25,6 +26,7 @@ use crate::error::ValueError;
 use crate::names::type_of_name;
 use crate::numerals::{integer, natural_number};
 use amqp_value_core::types::{AMQPType, DecimalValue};
+use fields::last_of_table;
 use json::{Scratch, Token};
 use last::{Last, is_same, object_of, put_first, put_sole, take_back};
 use leaf::Leaf;
@@ -221,12 +223,54 @@ fn put_object(
     ensures shorter { OnOk result (length reader.new < length reader.old) }
 {
     let first = reader.next_key()?;
+    put_object_from(alloc, reader, out, first, depth)
+}
+
+// What is after the first key of an object, or after its closing brace.
+#[cycle(encode)]
+#[inline(always)]
+fn put_object_from<'a>(
+    alloc: Global,
+    reader: &mut Lexer<'a>,
+    out: &mut Vec<u8>,
+    first: Option<&'a str>,
+    depth: usize,
+) -> Result<(), Stop>
+    ensures ok { OnOk result ((ts : List SpecToken) → read_key ts ≡ Some (option_map (λ s. s.now) first.entry, reader.old)
+        → PutsEncodingOf (λ v. IsObject (json v) (value depth) ts reader.new) out.old.items out.new.items) }
+    ensures shorter { OnOk result (length reader.new ≤ length reader.old) }
+{
     if let Some(name) = first
         && let Some(amqp_type) = type_of_name(name)
     {
         return put_typed(alloc, reader, out, name, amqp_type, depth);
     }
     put_table(alloc, reader, out, first, depth)
+}
+
+// What is after an opening brace under the name of a decimal's type. What doesn't begin with the scale
+// is put as a table.
+#[cycle(encode)]
+#[inline(never)]
+fn last_fields<'a>(
+    alloc: Global,
+    reader: &mut Lexer<'a>,
+    out: &mut Vec<u8>,
+    name: &str,
+    depth: usize,
+) -> Result<Last<'a>, Stop>
+    ensures ok { IfOk result (λ last. (d : Data) × IsObject d (value depth) reader.old reader.new
+        × IsLast last name.now (Some (d, reader.new)) reader.new out.old.items out.new.items) }
+    ensures shorter { IfOk result (λ last. length reader.new < length reader.old) }
+{
+    let first = reader.next_key()?;
+    if is_scale(first) {
+        let d = decimal(reader)?;
+        return Ok(Last::Leaf(Leaf::Decimal(d)));
+    }
+    let start = out.len();
+    put_object_from(alloc, reader, out, first, depth)?;
+    last_of_table(alloc, out, start, name)
 }
 
 // What is after an opening brace under the name of a table's type: an object, of which nothing is put
@@ -402,8 +446,10 @@ fn put_last<'a>(
         (_, Token::Number(text)) => Ok(Last::Leaf(Leaf::Number(text))),
         (_, Token::String(text)) => Ok(Last::Leaf(Leaf::Text(text))),
         (AMQPType::DecimalValue, Token::BeginObject) => {
-            let d = decimal(reader, depth)?;
-            Ok(Last::Leaf(Leaf::Decimal(d)))
+            if depth == 0 {
+                return Err(Stop::NotHere);
+            }
+            last_fields(alloc, reader, out, name, depth - 1)
         }
         (AMQPType::FieldTable, Token::BeginObject) => {
             if depth == 0 {
@@ -421,20 +467,33 @@ fn put_last<'a>(
     }
 }
 
-// What is after an opening brace: the scale of a decimal and its number, in this order.
+// Whether the key of a decimal's scale is first.
+fn is_scale(first: Option<&str>) -> bool
+    ensures { result ≡ true → option_map (λ s. s.now) first.entry ≡ Some (codes "scale") }
+{
+    match first {
+        Some(key) => key == "scale",
+        None => false,
+    }
+}
+
+// What is after a decimal's first key, that of its scale: this, its number and the brace.
 #[inline(never)]
-fn decimal(reader: &mut Lexer<'_>, depth: usize) -> Result<DecimalValue, Stop>
-    ensures json { IfOk result (λ d. converted of_json (value depth (token.begin_object ∷ reader.old))
-        ≡ Some (decimal_json d.scale d.value, reader.new)) }
+fn decimal(reader: &mut Lexer<'_>) -> Result<DecimalValue, Stop>
+    ensures json { IfOk result (λ d. (depth : ℕ) (ts : List SpecToken) → read_key ts ≡ Some (Some (codes "scale"), reader.old)
+        → IsObject (decimal_json d.scale d.value) (value depth) ts reader.new) }
     ensures shorter { OnOk result (length reader.new < length reader.old) }
 {
-    if depth == 0 {
-        return Err(Stop::NotHere);
-    }
-    let Ok(scale) = u8::try_from(field(reader, "scale")?) else {
+    let Ok(scale) = u8::try_from(natural(reader)?) else {
         return Err(Stop::NotHere);
     };
-    let Ok(value) = u32::try_from(field(reader, "value")?) else {
+    let Some(key) = reader.next_key()? else {
+        return Err(Stop::NotHere);
+    };
+    if key != "value" {
+        return Err(Stop::NotHere);
+    }
+    let Ok(value) = u32::try_from(natural(reader)?) else {
         return Err(Stop::NotHere);
     };
     let next = reader.next_key()?;
@@ -444,17 +503,11 @@ fn decimal(reader: &mut Lexer<'_>, depth: usize) -> Result<DecimalValue, Stop>
     Err(Stop::NotHere)
 }
 
-// A natural number after its key.
-fn field(reader: &mut Lexer<'_>, name: &str) -> Result<u64, Stop>
-    ensures json { IfOk result (λ n. IsFieldRead n name.now reader.old reader.new) }
+// A natural number.
+fn natural(reader: &mut Lexer<'_>) -> Result<u64, Stop>
+    ensures json { IfOk result (λ n. IsNaturalRead n reader.old reader.new) }
     ensures shorter { OnOk result (length reader.new < length reader.old) }
 {
-    let Some(key) = reader.next_key()? else {
-        return Err(Stop::NotHere);
-    };
-    if key != name {
-        return Err(Stop::NotHere);
-    }
     let token = reader.next()?;
     let Token::Number(text) = token else {
         return Err(Stop::NotHere);

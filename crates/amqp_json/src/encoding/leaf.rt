@@ -7,6 +7,7 @@ ghost use Rattle.serde_json.specs.Data.{Data};
 ghost use Rattle.amqp_json.specs.Encodes.{PutsEncodingOf, PutsFirst, IsLeaf};
 ghost use Rattle.amqp_json.specs.Json.{json, under};
 
+use super::fields::put_fields;
 use super::named::{put_named_number, put_named_text};
 use super::put::{put_decimal, put_head, put_key, put_text};
 use super::{Stop, put_integer};
@@ -61,7 +62,11 @@ pub(crate) fn put_first_leaf(out: &mut Vec<u8>, name: &str, leaf: Leaf<'_>) -> R
             put_key(out, name)?;
             put_text(out, text)
         }
-        Leaf::Decimal(_) => Err(Stop::NotHere),
+        Leaf::Decimal(d) => {
+            put_head(out, b'F')?;
+            put_key(out, name)?;
+            put_fields(out, d.scale, d.value)
+        }
         Leaf::Put => Ok(()),
     }
 }

@@ -1,4 +1,4 @@
-use Rattle.std.proofs.Common.{◌≡◌, ◌≢◌, ◌+◌, ◌-◌, ◌<◌, [], ◌∷◌, ◌++◌, List, ℕ, Some, None, OnOk, Option, option_map, length, refl, sym, ap, ◌∙◌, subst, arith, rules}
+use Rattle.std.proofs.Common.{◌≡◌, ◌≢◌, ◌+◌, ◌-◌, ◌<◌, [], ◌∷◌, ◌++◌, List, ℕ, Some, None, true, codes, OnOk, Option, option_map, length, refl, sym, ap, ◌∙◌, subst, arith, rules}
 use Rattle.std.specs.Borrow.{Bor}
 use Rattle.std.specs.Str.{IsUtf8}
 use Rattle.amqp_json.proofs.Bytes.{text_is_plain}
@@ -19,7 +19,7 @@ use Rattle.amqp_json.specs.Names.{type_named}
 use Rattle.amqp_json.specs.declared.encoding.last.Last.{Last}
 use Rattle.amqp_json.proofs.Only.{is_name}
 use Rattle.amqp_json.specs.Tokens.{IsObjectOfMembers}
-use Rattle.amqp_json.specs.Json.{json, items_json, members_json, sole_type, under}
+use Rattle.amqp_json.specs.Json.{json, items_json, members_json, sole_type, under, decimal_json}
 use Rattle.amqp_json.specs.Encodes.{IsObject}
 use Rattle.amqp_json.proofs.Turns.{weaker, closed, number_read, converted-array, converted-object}
 use Rattle.amqp_json.proofs.Leading.{leads, leads_as, next_is}
@@ -179,15 +179,14 @@ put_table-returns-clause-ok t c =
     (table_put (c.len-at.result + 1) _ _ _ _ place done.0 done.1 _ c.in_ok-put_head.ensures (c.in_ok-put_members.ensures.ok no_entries tt (plain_first c.args.first plain))))
     c.fill_length.ensures
 
-pub put_object-returns-2-clause-ok : goal.put_object-returns-2-clause-ok
-put_object-returns-2-clause-ok t c =
+pub put_object_from-returns-2-clause-ok : goal.put_object_from-returns-2-clause-ok
+put_object_from-returns-2-clause-ok t c =
     let p = value c.args.depth in
-    let s = c.args.reader.now in
+    let a = c.args.reader.now in
     let r = c.put_table.new.reader in
-    let a = c.next_key.new.self in
-    let o = option_map (λ (b : Bor (List ℕ)). b.now) c.in_ok-first.first in
-    on_ok_weaker c.put_table.result (λ done.
-    puts_weaker (λ v. (ts : List Token) → read_key ts ≡ Some (o, a) → IsObject (json v) p ts r) (λ v. IsObject (json v) p s r) _ _ (λ v h. h s c.in_ok-first.ensures) (done (search rules)))
+    let o = option_map (λ (b : Bor (List ℕ)). b.now) c.args.first in
+    on_ok_weaker c.put_table.result (λ done ts first.
+    puts_weaker (λ v. (us : List Token) → read_key us ≡ Some (o, a) → IsObject (json v) p us r) (λ v. IsObject (json v) p ts r) _ _ (λ v h. h ts first) (done (search rules)))
     c.put_table.ensures.ok
 
 pub put_last-returns-in_default-Number-clause-ok : goal.put_last-returns-in_default-Number-clause-ok
@@ -352,3 +351,44 @@ put_named-returns-in-Some-clause-ok t c =
     puts_weaker (λ v. (d : Data) × (json v ≡ under type d) × (is.0 ≡ Some (d, is.1))) (λ v. IsObject (json v) p (key k ∷ s) r) old new
     (λ v h. sole_under p k s type h.0 (json v) r typed h.1 (is.3 h.0 h.2)) (done k is.0 is.1 old len is.2))
     c.put_sole.ensures
+
+pub last_fields-returns-then-is_scale-clause-ok : goal.last_fields-returns-then-is_scale-clause-ok
+last_fields-returns-then-is_scale-clause-ok t c =
+    let s = c.args.reader.now in
+    let a = c.next_key.new.self in
+    let d = c.in_ok-d.d in
+    let yes : c.is_scale.result ≡ true = search rules in
+    let first : read_key s ≡ Some (Some (codes "scale"), a) = c.in_ok-first.ensures ∙ ap (λ (o : Option (List ℕ)). Some (o, a)) (c.is_scale.ensures yes) in
+    (decimal_json d.scale d.value, c.in_ok-d.ensures.json c.args.depth s first, (refl, refl, (omega arith, omega arith)))
+
+pub last_fields-returns-clause-ok : goal.last_fields-returns-clause-ok
+last_fields-returns-clause-ok t c =
+    let p = value c.args.depth in
+    let s = c.args.reader.now in
+    let r = c.put_object_from.new.reader in
+    let old = c.args.out.now.items in
+    let mid = c.put_object_from.new.out.items in
+    let new = c.last_of_table.new.out.items in
+    let put = c.in_ok-put_object_from.ensures.ok s c.in_ok-first.ensures in
+    let d = json put.1 in
+    let at : PutsEncodingOf (λ v. json v ≡ d) old mid = (put.0, put.1, put.2, put.3, put.4, refl) in
+    let len : length old ≡ c.len-start.result = grind arith in
+    let read : Data → Option (Data × List Token) = λ x. Some (x, r) in
+    weaker _ (λ last. (x : Data) × IsObject x p s r × IsLast last c.args.name.now (read x) r old new) c.last_of_table.result (λ last done. (d, put.5, done d r old len at)) c.last_of_table.ensures
+
+pub put_last-returns-else-depth-eq0-clause-ok : goal.put_last-returns-else-depth-eq0-clause-ok
+put_last-returns-else-depth-eq0-clause-ok t c =
+    let depth = c.args.depth in
+    let s = c.args.reader.now in
+    let k = c.args.name.now in
+    let r = c.next.new.self in
+    let u = c.last_fields.new.reader in
+    let old = c.args.out.now.items in
+    let new = c.last_fields.new.out.items in
+    let is : s ≡ Token.begin_object ∷ r = grind arith in
+    let opened = ap (λ ts. converted of_json (value depth ts)) is ∙ ap (converted of_json) (value-begin_object depth r (omega arith)) ∙ converted-object (members (value (depth - 1)) (length r) r) in
+    weaker _ (λ last. IsLast last k (converted of_json (value depth s)) u old new) c.last_fields.result
+    (λ last done.
+    let read : converted of_json (value depth s) ≡ Some (done.0, u) = opened ∙ ap (parse_map object) done.1.2 ∙ ap (λ d. Some (d, u)) (sym done.1.1) in
+    subst (λ (o : Option (Data × List Token)). IsLast last k o u old new) (sym read) done.2)
+    c.last_fields.ensures.ok
