@@ -11,19 +11,19 @@ use Rattle.std.proofs.Math.Seq.{take-append_seam, drop-append-add}
 use Rattle.json.specs.Token.{Token}
 use Rattle.json.specs.Json as json
 use Rattle.json.specs.Json.{Parse, parse_map, after_end_array, read_key, items, members}
-use Rattle.json.proofs.Grammar.{read_key-shorter, value-begin_object}
+use Rattle.json.proofs.Grammar.{read_key-shorter}
 use Rattle.serde_json.specs.Data.{Num, Data, Members, number, string, object, item, member, no_members}
 use Rattle.serde_json.specs.Find.{of_integer}
 use Rattle.serde_json.specs.Read.{of_json, of_items, of_members, converted, number_of}
 use Rattle.amqp_value_core.specs.declared.types.amqp_type.AMQPType.{AMQPType}
 use Rattle.amqp_value_core.specs.declared.types.amqp_type.AMQPType.TheVariants as types
 use Rattle.amqp_value_core.specs.Values.{Scalar, number as number_tree, Tree, scalar, long, octets, array, table, Trees, no_trees, tree, Entries, no_entries, entry, insert, insert_all}
-use Rattle.amqp_value_core.specs.Grammar.{wire, raw_array, raw_table, ArrayBody, no_values, value, TableBody, no_pairs, pair, short_field, long_field}
+use Rattle.amqp_value_core.specs.Grammar.{Wire, wire, raw_array, raw_table, ArrayBody, no_values, value, TableBody, no_pairs, pair, short_field, long_field}
 use Rattle.amqp_value_core.specs.InMemory.{IsScalar}
 use Rattle.amqp_value_core.specs.Strings.{IsShort}
 use Rattle.amqp_value_core.specs.Texts.{text}
 use Rattle.amqp_value_core.proofs.GrammarLaws.{text_is_wire}
-use Rattle.amqp_json.specs.Encodes.{IsObject, IsTextPut, PutsEncodingOf, PutsValues, PutsPairs, HasNoTypeName, AreEntriesRead, IsFieldRead}
+use Rattle.amqp_json.specs.Encodes.{IsObject, IsTextPut, PutsEncodingOf, PutsValues, PutsPairs, HasNoTypeName, AreEntriesRead, IsNaturalRead}
 use Rattle.amqp_json.specs.InMemory.{IsStored, AreStoredTrees, EntriesStored}
 use Rattle.amqp_json.specs.Json as amqp
 use Rattle.amqp_json.specs.Json.{items_json, members_json, sole_type, under, natural, decimal_json}
@@ -31,7 +31,7 @@ use Rattle.amqp_json.specs.Names.{type_named}
 use Rattle.amqp_json.specs.Reading.{bytes_in, sized_in}
 use Rattle.amqp_json.proofs.Bytes.{long_is_read}
 use Rattle.amqp_json.proofs.Only.{is_name, is_under}
-use Rattle.amqp_json.proofs.Turns.{one_member, item_read, items_over, member_read, members_over, insert_put, converted-object}
+use Rattle.amqp_json.proofs.Turns.{one_member, item_read, items_over, member_read, members_over, insert_put}
 use Rattle.amqp_json.specs.Tokens.{IsTableObject}
 use Rattle.amqp_json.proofs.Merged.{becomes, first_of_table}
 use Rattle.amqp_json.proofs.Walks.{put_stored}
@@ -261,22 +261,21 @@ pub plain_object : (v : Tree) (es : Entries) → v ≡ table es → sole_type (m
 plain_object v es is none = ap amqp.json is ∙ rw none refl
 
 -- the object of a decimal's scale and number
-pub decimal_read : (depth scale n : ℕ) (ts us vs end : List Token) → 0 < depth → IsFieldRead scale (codes "scale") ts us → IsFieldRead n (codes "value") us vs → read_key vs ≡ Some (None, end)
-    → (converted of_json (json.value depth (Token.begin_object ∷ ts)) ≡ Some (decimal_json scale n, end)) × (length end < length ts)
-decimal_read depth scale n ts us vs end deep (xs, scale_key, scale_read, less) (ys, value_key, value_read, more) last =
-    let p = json.value (depth - 1) in
-    let first = read_key-shorter ts (Some (codes "scale")) xs scale_key in
-    let second = read_key-shorter us (Some (codes "value")) ys value_key in
-    let third = read_key-shorter vs None end last in
+pub decimal_read : (depth scale n : ℕ) (ts us vs ws xs end : List Token) → read_key ts ≡ Some (Some (codes "scale"), us) → IsNaturalRead scale us vs → read_key vs ≡ Some (Some (codes "value"), ws) → IsNaturalRead n ws xs
+    → read_key xs ≡ Some (None, end) → IsObject (decimal_json scale n) (json.value depth) ts end
+decimal_read depth scale n ts us vs ws xs end scale_key scale_read value_key value_read last =
+    let p = json.value depth in
+    let first = read_key-shorter ts (Some (codes "scale")) us scale_key in
+    let second = read_key-shorter vs (Some (codes "value")) ws value_key in
+    let less = scale_read.1 in
+    let more = value_read.1 in
     let one = member (codes "scale") (natural scale) no_members in
     let both = member (codes "scale") (natural scale) (member (codes "value") (natural n) no_members) in
     let all : converted (λ ms. of_members ms no_members) (members p (length ts) ts) ≡ Some (both, end) =
-    member_read p no_members (length ts) (codes "scale") ts xs us (natural scale) (omega (arith, first)) scale_key (scale_read (depth - 1))
-    ∙ member_read p one (length ts - 1) (codes "value") us ys vs (natural n) (omega (arith, first, less, second)) value_key (value_read (depth - 1))
-    ∙ members_over p both (length ts - 1 - 1) vs end (omega (arith, first, less, second, more)) last in (
-      ap (converted of_json) (value-begin_object depth ts deep) ∙ converted-object (members p (length ts) ts) ∙ ap (parse_map object) all,
-      omega (arith, first, less, second, more, third),
-    )
+    member_read p no_members (length ts) (codes "scale") ts us vs (natural scale) (omega (arith, first)) scale_key (scale_read.0 depth)
+    ∙ member_read p one (length ts - 1) (codes "value") vs ws xs (natural n) (omega (arith, first, less, second)) value_key (value_read.0 depth)
+    ∙ members_over p both (length ts - 1 - 1) xs end (omega (arith, first, less, second, more)) last in
+    (both, refl, all)
 
 -- what is under the name of a type, its only key
 pub under_object : (p : Parse json.Json) (k : List ℕ) (type : AMQPType) (ts us vs end : List Token) (d : Data) → type_named k ≡ Some type → read_key ts ≡ Some (Some k, us) → converted of_json (p us) ≡ Some (d, vs)
@@ -287,3 +286,45 @@ under_object p k type ts us vs end d named first inner closed shorter =
       ap (λ j. object (member j d no_members)) (sym (is_name k type named)),
       one_member p k ts us vs end d first inner closed (omega (arith, less, shorter)),
     )
+
+-- ---- the table of a decimal's scale and number
+
+abbrev long_long : ℕ → Tree
+long_long n = scalar (number_tree types.LongLongInt n)
+
+long_long_wire : (n : ℕ) → n < 2 ^ 64 → Wire (text (long_long n)) (long_long n)
+long_long_wire n less = text_is_wire (long_long n) less tt refl
+
+long_long_json : (n : ℕ) → n < 2 ^ 63 → amqp.json (long_long n) ≡ natural n
+long_long_json n less =
+    let f : SFits w64 (pos n) = record { sfits = less } in
+    ap (λ z. number (of_integer z)) (to_z-of_z w64 (pos n) f)
+
+pub fields_put : (at s n : ℕ) (old a b c d end new : List ℕ) → s < 2 ^ 8 → n < 2 ^ 32 → at ≡ length old + 1 → IsShort (codes "scale") → IsShort (codes "value") → a ≡ old ++ 70 ∷ zeros → b ≡ a ++ short_field (codes "scale") → c ≡ b ++ text (long_long s)
+    → d ≡ c ++ short_field (codes "value") → end ≡ d ++ text (long_long n) → new ≡ take at end ++ (to_be_bytes w32 (length end - at - 4) ++ drop (at + 4) end) → length end - at - 4 < 2 ^ 32
+    → PutsEncodingOf (λ v. amqp.json v ≡ decimal_json s n) old new
+fields_put at s n old a b c d end new small less place short_s short_v headed scale_key scale value_key number_is filled fits =
+    let u = long_long s in
+    let x = long_long n in
+    let key_s = short_field (codes "scale") in
+    let key_v = short_field (codes "value") in
+    let ms = member (codes "scale") (natural s) (member (codes "value") (natural n) no_members) in
+    let P : Entries → Type 0 = λ es. members_json es ≡ ms in
+    let tail = key_v ++ (text x ++ []) in
+    let last = pair (codes "value") (text x) [] x no_entries short_v (long_long_wire n (omega (arith, less))) no_pairs in
+    let body = pair (codes "scale") (text u) tail u (entry (codes "value") x no_entries) short_s (long_long_wire s (omega (arith, small))) last in
+    let chain : end ≡ (((a ++ key_s) ++ text u) ++ key_v) ++ text x = number_is ∙ ap (λ y. y ++ text x) (value_key ∙ ap (λ y. y ++ key_v) (scale ∙ ap (λ y. y ++ text u) scale_key)) in
+    let whole : end ≡ a ++ (key_s ++ (text u ++ tail)) =
+    chain ∙ append_assoc ((a ++ key_s) ++ text u) key_v (text x) ∙ append_assoc (a ++ key_s) (text u) (key_v ++ text x) ∙ append_assoc a key_s (text u ++ (key_v ++ text x))
+    ∙ ap (λ y. a ++ (key_s ++ (text u ++ (key_v ++ y)))) (sym (append-nil (text x))) in
+    let json : members_json (entry (codes "scale") u (entry (codes "value") x no_entries)) ≡ ms =
+    ap (λ y. member (codes "scale") y (member (codes "value") (amqp.json x) no_members)) (long_long_json s (omega (arith, small))) ∙ ap (λ y. member (codes "scale") (natural s) (member (codes "value") y no_members)) (long_long_json n (omega (arith, less))) in
+    let pairs : PutsPairs no_entries P a end = (
+      key_s ++ (text u ++ tail),
+      entry (codes "scale") u (entry (codes "value") x no_entries),
+      whole,
+      body,
+      (short_s, omega (arith, small), (short_v, omega (arith, less), tt)),
+      json,
+    ) in
+    puts_weaker (λ v. (es : Entries) × (v ≡ table es) × P es) (λ v. amqp.json v ≡ decimal_json s n) old new (λ v h. ap amqp.json h.1 ∙ ap amqp.table_json h.2) (table_put at old a end new place filled fits P headed pairs)

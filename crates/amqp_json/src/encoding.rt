@@ -1,7 +1,7 @@
 //! From the tokens of a text to an encoding of its value, without the value in memory: the pairs of
 //! a table are in the order of the text, and keys may occur again.
 
-ghost use Rattle.std.specs.Prelude.{ℕ, ◌≡◌, ◌<◌, ◌≤◌, ◌∷◌, length, List, Some, None, IfOk, OnOk, IfSome, option_map};
+ghost use Rattle.std.specs.Prelude.{ℕ, ◌≡◌, ◌<◌, ◌≤◌, ◌∷◌, length, List, Some, None, true, codes, IfOk, OnOk, IfSome, option_map};
 ghost use Rattle.json.specs.Token.{Token as SpecToken};
 ghost use Rattle.json.specs.Token as token;
 ghost use Rattle.json.specs.Reads.{token_of};
@@ -10,23 +10,29 @@ ghost use Rattle.serde_json.specs.Data.{Data, array, number};
 ghost use Rattle.serde_json.specs.Read.{of_json, of_items, converted, number_of};
 ghost use Rattle.amqp_value_core.specs.Values.{Entries};
 ghost use Rattle.amqp_json.specs.InMemory.{EntriesStored};
-ghost use Rattle.amqp_json.specs.Encodes.{IsObject, IsEncodedMeaning, PutsEncodingOf, PutsValues, PutsPairs, AreEntriesRead, HasNoTypeName, IsLast, IsFieldRead};
+ghost use Rattle.amqp_json.specs.Encodes.{IsObject, IsEncodedMeaning, PutsEncodingOf, PutsValues, PutsPairs, AreEntriesRead, HasNoTypeName, IsLast, IsPending, IsNamedRead, IsNaturalRead};
 ghost use Rattle.amqp_json.specs.Json.{json, items_json, under, decimal_json};
 ghost use Rattle.amqp_json.specs.Names.{type_named};
 
+mod fields;
 mod last;
+mod leaf;
 mod lexer;
 mod named;
+mod object;
 pub(crate) mod put;
 
 use crate::error::ValueError;
 use crate::names::type_of_name;
 use crate::numerals::{integer, natural_number};
 use amqp_value_core::types::{AMQPType, DecimalValue};
+use fields::last_of_table;
 use json::{Scratch, Token};
-use last::{Last, is_same, put_first, put_sole, take_back};
+use last::{Last, is_same, object_of, put_first, put_sole, take_back};
+use leaf::Leaf;
 use lexer::Lexer;
 use named::put_narrow;
+use object::{Object, TABLE};
 use put::{fill_length, put_boolean, put_head, put_key, put_long_long_int, put_text, put_void};
 use std::alloc::{AllocError, Global};
 
@@ -217,11 +223,99 @@ fn put_object(
     ensures shorter { OnOk result (length reader.new < length reader.old) }
 {
     let first = reader.next_key()?;
+    put_object_from(alloc, reader, out, first, depth)
+}
+
+// What is after the first key of an object, or after its closing brace.
+#[cycle(encode)]
+#[inline(always)]
+fn put_object_from<'a>(
+    alloc: Global,
+    reader: &mut Lexer<'a>,
+    out: &mut Vec<u8>,
+    first: Option<&'a str>,
+    depth: usize,
+) -> Result<(), Stop>
+    ensures ok { OnOk result ((ts : List SpecToken) → read_key ts ≡ Some (option_map (λ s. s.now) first.entry, reader.old)
+        → PutsEncodingOf (λ v. IsObject (json v) (value depth) ts reader.new) out.old.items out.new.items) }
+    ensures shorter { OnOk result (length reader.new ≤ length reader.old) }
+{
     if let Some(name) = first
         && let Some(amqp_type) = type_of_name(name)
     {
         return put_typed(alloc, reader, out, name, amqp_type, depth);
     }
+    put_table(alloc, reader, out, first, depth)
+}
+
+// What is after an opening brace under the name of a decimal's type. What doesn't begin with the scale
+// is put as a table.
+#[cycle(encode)]
+#[inline(never)]
+fn last_fields<'a>(
+    alloc: Global,
+    reader: &mut Lexer<'a>,
+    out: &mut Vec<u8>,
+    name: &str,
+    depth: usize,
+) -> Result<Last<'a>, Stop>
+    ensures ok { IfOk result (λ last. (d : Data) × IsObject d (value depth) reader.old reader.new
+        × IsLast last name.now (Some (d, reader.new)) reader.new out.old.items out.new.items) }
+    ensures shorter { IfOk result (λ last. length reader.new < length reader.old) }
+{
+    let first = reader.next_key()?;
+    if is_scale(first) {
+        let d = decimal(reader)?;
+        return Ok(Last::Leaf(Leaf::Decimal(d)));
+    }
+    let start = out.len();
+    put_object_from(alloc, reader, out, first, depth)?;
+    last_of_table(alloc, out, start, name)
+}
+
+// What is after an opening brace under the name of a table's type: an object, of which nothing is put
+// yet if the name of a type is its only key.
+#[cycle(encode)]
+#[inline(never)]
+fn object_under_table<'a>(
+    alloc: Global,
+    reader: &mut Lexer<'a>,
+    out: &mut Vec<u8>,
+    depth: usize,
+) -> Result<Object<'a>, Stop>
+    ensures ok { IfOk result (λ object. (d : Data) × IsObject d (value depth) reader.old reader.new
+        × IsPending object d out.old.items out.new.items) }
+    ensures shorter { IfOk result (λ object. length reader.new < length reader.old) }
+{
+    let first = reader.next_key()?;
+    if let Some(name) = first
+        && let Some(amqp_type) = type_of_name(name)
+    {
+        let found = put_turns(alloc, reader, out, name, amqp_type, depth)?;
+        let Some(last) = found else {
+            return Ok(TABLE);
+        };
+        return object_of(amqp_type, last);
+    }
+    put_table(alloc, reader, out, first, depth)?;
+    Ok(TABLE)
+}
+
+// A table whose first key was read, and isn't the name of a type.
+#[cycle(encode)]
+#[inline(always)]
+fn put_table<'a>(
+    alloc: Global,
+    reader: &mut Lexer<'a>,
+    out: &mut Vec<u8>,
+    first: Option<&'a str>,
+    depth: usize,
+) -> Result<(), Stop>
+    ensures ok { OnOk result (IfSome first.entry (λ k. type_named k.now ≡ None)
+        → PutsEncodingOf (λ v. (ts : List SpecToken) → read_key ts ≡ Some (option_map (λ s. s.now) first.entry, reader.old)
+        → IsObject (json v) (value depth) ts reader.new) out.old.items out.new.items) }
+    ensures shorter { OnOk result (length reader.new ≤ length reader.old) }
+{
     let at = out.len() + 1;
     put_head(out, b'F')?;
     put_members(alloc, reader, out, first, depth)?;
@@ -275,8 +369,7 @@ fn put_typed<'a>(
     put_named(alloc, reader, out, name, amqp_type, depth)
 }
 
-// What is after a first key that is the name of a type. The key or the brace after the value says
-// whether it is the type of that, or the first key of a table.
+// What is after a first key that is the name of a type.
 #[cycle(encode)]
 #[inline(never)]
 fn put_named<'a>(
@@ -293,22 +386,47 @@ fn put_named<'a>(
     ensures shorter { OnOk result (length reader.new < length reader.old) }
 {
     let start = out.len();
+    match put_turns(alloc, reader, out, name, amqp_type, depth)? {
+        None => Ok(()),
+        Some(last) => put_sole(alloc, out, start, amqp_type, last),
+    }
+}
+
+// What is under that key, if it is the only one, and otherwise a table, which is put. The key or the
+// brace after the value says which.
+#[cycle(encode)]
+#[inline(always)]
+fn put_turns<'a>(
+    alloc: Global,
+    reader: &mut Lexer<'a>,
+    out: &mut Vec<u8>,
+    name: &'a str,
+    amqp_type: AMQPType,
+    depth: usize,
+) -> Result<Option<Last<'a>>, Stop>
+    ensures ok { IfOk result (λ found. IsNamedRead found (value depth) name.now reader.old reader.new
+        out.old.items out.new.items) }
+    ensures shorter { IfOk result (λ found. length reader.new < length reader.old) }
+{
+    let start = out.len();
     'turns: loop {
         let last = put_last(alloc, reader, out, name, amqp_type, depth)?;
         let next = reader.next_key()?;
         match next {
-            None => return put_sole(alloc, out, amqp_type, last),
+            None => return Ok(Some(last)),
             Some(key) if is_same(key, name) => take_back(out, start, last)?,
             Some(key) => {
-                put_first(out, name, last)?;
+                put_first(alloc, out, start, name, last)?;
                 put_members(alloc, reader, out, Some(key), depth)?;
-                return fill_length(out, start + 1);
+                fill_length(out, start + 1)?;
+                return Ok(None);
             }
         }
     }
 }
 
-// What is under the name of a type. A value that is no number, string or decimal is put.
+// What is under the name of a type. Of a number, a string, a decimal, and an object that may be named,
+// nothing is put.
 #[cycle(encode)]
 #[inline(always)]
 fn put_last<'a>(
@@ -325,35 +443,57 @@ fn put_last<'a>(
 {
     let token = reader.next()?;
     match (amqp_type, token) {
-        (_, Token::Number(text)) => Ok(Last::Number(text)),
-        (_, Token::String(text)) => Ok(Last::Text(text)),
+        (_, Token::Number(text)) => Ok(Last::Leaf(Leaf::Number(text))),
+        (_, Token::String(text)) => Ok(Last::Leaf(Leaf::Text(text))),
         (AMQPType::DecimalValue, Token::BeginObject) => {
-            let d = decimal(reader, depth)?;
-            Ok(Last::Decimal(d))
+            if depth == 0 {
+                return Err(Stop::NotHere);
+            }
+            last_fields(alloc, reader, out, name, depth - 1)
+        }
+        (AMQPType::FieldTable, Token::BeginObject) => {
+            if depth == 0 {
+                return Err(Stop::NotHere);
+            }
+            let object = object_under_table(alloc, reader, out, depth - 1)?;
+            Ok(Last::Object(object))
         }
         (_, token) => {
             put_head(out, b'F')?;
             put_key(out, name)?;
             put_token(alloc, reader, token, out, depth)?;
-            Ok(Last::Put)
+            Ok(Last::Leaf(Leaf::Put))
         }
     }
 }
 
-// What is after an opening brace: the scale of a decimal and its number, in this order.
+// Whether the key of a decimal's scale is first.
+fn is_scale(first: Option<&str>) -> bool
+    ensures { result ≡ true → option_map (λ s. s.now) first.entry ≡ Some (codes "scale") }
+{
+    match first {
+        Some(key) => key == "scale",
+        None => false,
+    }
+}
+
+// What is after a decimal's first key, that of its scale: this, its number and the brace.
 #[inline(never)]
-fn decimal(reader: &mut Lexer<'_>, depth: usize) -> Result<DecimalValue, Stop>
-    ensures json { IfOk result (λ d. converted of_json (value depth (token.begin_object ∷ reader.old))
-        ≡ Some (decimal_json d.scale d.value, reader.new)) }
+fn decimal(reader: &mut Lexer<'_>) -> Result<DecimalValue, Stop>
+    ensures json { IfOk result (λ d. (depth : ℕ) (ts : List SpecToken) → read_key ts ≡ Some (Some (codes "scale"), reader.old)
+        → IsObject (decimal_json d.scale d.value) (value depth) ts reader.new) }
     ensures shorter { OnOk result (length reader.new < length reader.old) }
 {
-    if depth == 0 {
-        return Err(Stop::NotHere);
-    }
-    let Ok(scale) = u8::try_from(field(reader, "scale")?) else {
+    let Ok(scale) = u8::try_from(natural(reader)?) else {
         return Err(Stop::NotHere);
     };
-    let Ok(value) = u32::try_from(field(reader, "value")?) else {
+    let Some(key) = reader.next_key()? else {
+        return Err(Stop::NotHere);
+    };
+    if key != "value" {
+        return Err(Stop::NotHere);
+    }
+    let Ok(value) = u32::try_from(natural(reader)?) else {
         return Err(Stop::NotHere);
     };
     let next = reader.next_key()?;
@@ -363,17 +503,11 @@ fn decimal(reader: &mut Lexer<'_>, depth: usize) -> Result<DecimalValue, Stop>
     Err(Stop::NotHere)
 }
 
-// A natural number after its key.
-fn field(reader: &mut Lexer<'_>, name: &str) -> Result<u64, Stop>
-    ensures json { IfOk result (λ n. IsFieldRead n name.now reader.old reader.new) }
+// A natural number.
+fn natural(reader: &mut Lexer<'_>) -> Result<u64, Stop>
+    ensures json { IfOk result (λ n. IsNaturalRead n reader.old reader.new) }
     ensures shorter { OnOk result (length reader.new < length reader.old) }
 {
-    let Some(key) = reader.next_key()? else {
-        return Err(Stop::NotHere);
-    };
-    if key != name {
-        return Err(Stop::NotHere);
-    }
     let token = reader.next()?;
     let Token::Number(text) = token else {
         return Err(Stop::NotHere);

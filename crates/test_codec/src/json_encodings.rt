@@ -138,6 +138,52 @@ fn last_of_equal_type_names_is_encoded(rt: HostRuntime) -> Result<(), Fail> {
 }
 
 #[test]
+fn tables_under_their_type_are_encoded(rt: HostRuntime) -> Result<(), Fail> {
+    let texts = [
+        "{\"FieldTable\":{\"LongInt\":[1,{}]}}",
+        "{\"FieldTable\":{\"LongInt\":[1],\"LongInt\":{\"x\":\"y\"}}}",
+        "{\"FieldTable\":{\"FieldTable\":{\"LongInt\":5}}}",
+        "{\"FieldTable\":{\"FieldTable\":{\"FieldTable\":{\"LongInt\":5}}}}",
+        "[{\"FieldTable\":{\"FieldTable\":{\"FieldTable\":{\"FieldTable\":{\"a\":1}}}}}]",
+        "{\"FieldTable\":{\"FieldTable\":{\"FieldTable\":{\"FieldTable\":{\"FieldTable\":{\"ByteArray\":\"ff\"}}}}}}",
+        "{\"FieldTable\":{\"LongInt\":5},\"b\":1}",
+        "{\"FieldTable\":{\"a\":1},\"b\":2}",
+        "{\"FieldTable\":{\"FieldTable\":{\"LongInt\":5}},\"b\":1}",
+        "{\"FieldTable\":{\"Timestamp\":18446744073709551615},\"b\":1}",
+        "{\"FieldTable\":{\"FieldTable\":1,\"LongInt\":2},\"b\":1}",
+        "{\"FieldTable\":{\"DecimalValue\":{\"scale\":1,\"value\":2}}}",
+        "{\"FieldTable\":{\"DecimalValue\":{\"scale\":1,\"value\":2}},\"b\":1}",
+        "{\"FieldTable\":{\"FieldTable\":{\"DecimalValue\":{\"scale\":1,\"value\":2}}}}",
+        "{\"FieldTable\":{\"ShortInt\":1},\"FieldTable\":{\"LongInt\":5}}",
+        "{\"FieldTable\":{\"a\":[]},\"FieldTable\":null,\"b\":{\"FieldTable\":{\"Float\":\"g\"}}}",
+        "{\"LongInt\":1,\"FieldTable\":{\"LongInt\":5}}",
+    ];
+    assert!(rt; are_encoded(rt.alloc(), &texts)?);
+    Ok(())
+}
+
+#[test]
+fn decimals_of_keys_in_any_order_are_encoded(rt: HostRuntime) -> Result<(), Fail> {
+    let texts = [
+        "{\"DecimalValue\":{\"value\":4294967295,\"scale\":255}}",
+        "{\"DecimalValue\":{\"value\":1,\"scale\":2,\"value\":3}}",
+        "{\"DecimalValue\":{\"value\":[],\"scale\":2,\"value\":3}}",
+        "{\"DecimalValue\":{\"value\":1,\"scale\":2},\"b\":1}",
+        "{\"DecimalValue\":{\"value\":300,\"scale\":256},\"b\":1}",
+        "{\"DecimalValue\":{\"value\":1,\"scale\":2,\"a\":3},\"b\":1}",
+        "{\"DecimalValue\":{},\"b\":1}",
+        "{\"DecimalValue\":{\"LongInt\":1},\"b\":1}",
+        "{\"DecimalValue\":{\"value\":1,\"scale\":2},\"DecimalValue\":{\"scale\":3,\"value\":4}}",
+        "{\"FieldTable\":{\"DecimalValue\":{\"value\":1,\"scale\":2}}}",
+        "{\"FieldTable\":{\"DecimalValue\":{\"a\":1}}}",
+        "{\"FieldTable\":{\"FieldTable\":{\"DecimalValue\":{\"value\":1,\"scale\":2}}}}",
+        "[{\"DecimalValue\":{\"value\":1,\"scale\":2}},{\"DecimalValue\":{\"b\":[],\"a\":{}},\"\":0}]",
+    ];
+    assert!(rt; are_encoded(rt.alloc(), &texts)?);
+    Ok(())
+}
+
+#[test]
 fn other_texts_have_no_encoding(rt: HostRuntime) {
     let texts = [
         "",
@@ -168,6 +214,19 @@ fn other_texts_have_no_encoding(rt: HostRuntime) {
         "{\"LongInt\":1e999,\"LongInt\":1}",
         "{\"LongInt\":9223372036854775808,\"b\":1}",
         "{\"LongInt\":{\"Void\":0},\"b\":1}",
+        "{\"FieldTable\":{\"a\":1}}",
+        "{\"FieldTable\":{\"FieldTable\":{\"FieldTable\":{\"a\":1}}}}",
+        "{\"FieldTable\":{\"LongInt\":[1]},\"b\":1}",
+        "{\"FieldTable\":{\"Timestamp\":18446744073709551615}}",
+        "{\"FieldTable\":{\"FieldTable\":{\"LongInt\":5},\"b\":1}}",
+        "{\"FieldTable\":{\"LongInt\":1e999},\"FieldTable\":1}",
+        "{\"FieldTable\":[]}",
+        "{\"DecimalValue\":{\"value\":1,\"scale\":256}}",
+        "{\"DecimalValue\":{\"value\":4294967296,\"scale\":1}}",
+        "{\"DecimalValue\":{\"value\":-1,\"scale\":1}}",
+        "{\"DecimalValue\":{\"value\":1,\"scale\":2,\"a\":3}}",
+        "{\"DecimalValue\":{\"value\":{\"LongInt\":1},\"scale\":2}}",
+        "{\"DecimalValue\":{}}",
     ];
     assert!(rt; have_none(rt.alloc(), &texts));
 }

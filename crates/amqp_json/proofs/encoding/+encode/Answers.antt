@@ -1,4 +1,4 @@
-use Rattle.std.proofs.Common.{◌≡◌, ◌≢◌, ◌+◌, ◌-◌, ◌<◌, [], ◌∷◌, ◌++◌, List, ℕ, Some, None, OnOk, Option, option_map, length, refl, sym, ap, ◌∙◌, subst, arith, rules}
+use Rattle.std.proofs.Common.{◌≡◌, ◌≢◌, ◌+◌, ◌-◌, ◌<◌, [], ◌∷◌, ◌++◌, List, ℕ, Some, None, true, codes, OnOk, Option, option_map, length, refl, sym, ap, ◌∙◌, subst, arith, rules}
 use Rattle.std.specs.Borrow.{Bor}
 use Rattle.std.specs.Str.{IsUtf8}
 use Rattle.amqp_json.proofs.Bytes.{text_is_plain}
@@ -14,14 +14,17 @@ use Rattle.serde_json.specs.Find.{of_integer}
 use Rattle.serde_json.specs.Read.{of_json, of_items, converted, number_of}
 use Rattle.amqp_value_core.specs.Values as values
 use Rattle.amqp_value_core.specs.Values.{Tree, Trees, Entries, no_entries, scalar, boolean, void, long}
-use Rattle.amqp_json.specs.Encodes.{AreEntriesRead, HasNoTypeName, IsLast, PutsEncodingOf, PutsFirst}
+use Rattle.amqp_json.specs.Encodes.{AreEntriesRead, IsLast, IsNamedRead, IsPending, PutsEncodingOf, PutsFirst}
+use Rattle.amqp_json.specs.Names.{type_named}
+use Rattle.amqp_json.specs.declared.encoding.last.Last.{Last}
+use Rattle.amqp_json.proofs.Only.{is_name}
 use Rattle.amqp_json.specs.Tokens.{IsObjectOfMembers}
-use Rattle.amqp_json.specs.Json.{json, items_json, members_json, sole_type, under}
+use Rattle.amqp_json.specs.Json.{json, items_json, members_json, sole_type, under, decimal_json}
 use Rattle.amqp_json.specs.Encodes.{IsObject}
-use Rattle.amqp_json.proofs.Turns.{closed, number_read, converted-array, converted-object}
+use Rattle.amqp_json.proofs.Turns.{weaker, closed, number_read, converted-array, converted-object}
 use Rattle.amqp_json.proofs.Leading.{leads, leads_as, next_is}
 use Rattle.amqp_json.proofs.Merged.{put_over}
-use Rattle.amqp_json.proofs.Named.{past_turn, sole_object, first_pairs}
+use Rattle.amqp_json.proofs.Named.{past_turn, sole_object, sole_under, first_pairs, put_pending}
 use Rattle.amqp_json.proofs.Encodes.{PairsLeft, under_object, items_next, items_done, pairs_first, pairs_next, pairs_done, array_put, table_put, puts_weaker, text_put, scalar_put, plain_first, plain_object}
 use Rattle.amqp_json.proofs.encoding.+encode.Goals as goal
 
@@ -163,20 +166,28 @@ put_members-returns-clause-ok t c before stored plain =
     let left = subst (λ (next : Option (Bor (List ℕ))). PairsLeft p before o c.args.reader.now (option_map (λ b. b.now) next) l.reader c.args.out.now.items l.out.items) none (l.invariant.0 before stored plain) in
     pairs_done p before o c.args.reader.now c.args.out.now.items l.reader l.out.items left
 
-pub put_object-returns-2-clause-ok : goal.put_object-returns-2-clause-ok
-put_object-returns-2-clause-ok t c =
+pub put_table-returns-clause-ok : goal.put_table-returns-clause-ok
+put_table-returns-clause-ok t c =
     let p = value c.args.depth in
-    let s = c.args.reader.now in
+    let a = c.args.reader.now in
     let r = c.put_members.new.reader in
-    let a = c.next_key.new.self in
-    let o = option_map (λ (b : Bor (List ℕ)). b.now) c.in_ok-first.first in
+    let o = option_map (λ (b : Bor (List ℕ)). b.now) c.args.first in
     let place : c.len-at.result + 1 ≡ length c.args.out.now.items + 1 = grind arith in
-    let plain : HasNoTypeName no_entries o = plain_first c.in_ok-first.first (search rules) in
-    on_ok_weaker c.fill_length.result (λ done.
-    puts_weaker (λ v. (es : Entries) × (v ≡ values.table es) × AreEntriesRead no_entries es p o a r) (λ v. IsObject (json v) p s r) _ _
-    (λ v (es, is, h). (members_json es, plain_object v es is h.1, h.0 s (length s) c.in_ok-first.ensures (omega arith)))
-    (table_put (c.len-at.result + 1) _ _ _ _ place done.0 done.1 _ c.in_ok-put_head.ensures (c.in_ok-put_members.ensures.ok no_entries tt plain)))
+    on_ok_weaker c.fill_length.result (λ done plain.
+    puts_weaker (λ v. (es : Entries) × (v ≡ values.table es) × AreEntriesRead no_entries es p o a r) (λ v. (ts : List Token) → read_key ts ≡ Some (o, a) → IsObject (json v) p ts r) _ _
+    (λ v h ts first. (members_json h.0, plain_object v h.0 h.1 h.2.1, h.2.0 ts (length ts) first (omega arith)))
+    (table_put (c.len-at.result + 1) _ _ _ _ place done.0 done.1 _ c.in_ok-put_head.ensures (c.in_ok-put_members.ensures.ok no_entries tt (plain_first c.args.first plain))))
     c.fill_length.ensures
+
+pub put_object_from-returns-2-clause-ok : goal.put_object_from-returns-2-clause-ok
+put_object_from-returns-2-clause-ok t c =
+    let p = value c.args.depth in
+    let a = c.args.reader.now in
+    let r = c.put_table.new.reader in
+    let o = option_map (λ (b : Bor (List ℕ)). b.now) c.args.first in
+    on_ok_weaker c.put_table.result (λ done ts first.
+    puts_weaker (λ v. (us : List Token) → read_key us ≡ Some (o, a) → IsObject (json v) p us r) (λ v. IsObject (json v) p ts r) _ _ (λ v h. h ts first) (done (search rules)))
+    c.put_table.ensures.ok
 
 pub put_last-returns-in_default-Number-clause-ok : goal.put_last-returns-in_default-Number-clause-ok
 put_last-returns-in_default-Number-clause-ok t c =
@@ -190,11 +201,11 @@ put_last-returns-in_default-String-clause-ok t c =
     let is : c.args.reader.now ≡ Token.string c.in_default-String.text.now ∷ c.next.new.self = grind arith in
     (refl, ap (λ ts. converted of_json (value depth ts)) is ∙ ap (converted of_json) (value_is depth _))
 
-pub put_named-turns-init : goal.put_named-turns-init
-put_named-turns-init t c = (no_members, λ d. refl, leads _ _ _, omega arith, refl)
+pub put_turns-turns-init : goal.put_turns-turns-init
+put_turns-turns-init t c = (no_members, λ d. refl, leads _ _ _, omega arith, refl)
 
-pub put_named-turns-preserved : goal.put_named-turns-preserved
-put_named-turns-preserved t c =
+pub put_turns-turns-preserved : goal.put_turns-turns-preserved
+put_turns-turns-preserved t c =
     let p = value c.args.depth in
     let l = c.turns in
     let k = c.args.name.now in
@@ -203,7 +214,7 @@ put_named-turns-preserved t c =
     let u = c.next_key.new.self in
     let last = c.in_ok-last.ensures in
     let len : length l.out.items ≡ c.len-start.result = grind (arith, l.invariant.4) in
-    let back = c.in_ok-take_back-in-Some.ensures k (converted of_json (p l.reader)) r l.out.items last.ok len in
+    let back = c.in_ok-take_back-in-Some.ensures k (converted of_json (p l.reader)) r l.out.items len last.ok in
     let d = back.1.0 in
     let same : c.in-Some.key.now ≡ k = search rules in
     let next : read_key r ≡ Some (Some k, u) = c.in_ok-next.ensures ∙ ap (λ (o : Option (Bor (List ℕ))). Some (option_map (λ b. b.now) o, u)) c.in-Some.is ∙ ap (λ (j : List ℕ). Some (Some j, u)) same in
@@ -216,30 +227,28 @@ put_named-turns-preserved t c =
       back.0 ∙ l.invariant.4,
     )
 
-pub put_named-returns-in-None-clause-ok : goal.put_named-returns-in-None-clause-ok
-put_named-returns-in-None-clause-ok t c =
+pub put_turns-returns-in-None-clause-ok : goal.put_turns-returns-in-None-clause-ok
+put_turns-returns-in-None-clause-ok t c =
     let p = value c.args.depth in
     let l = c.turns in
-    let type = c.args.amqp_type in
     let k = c.args.name.now in
     let s = c.args.reader.now in
     let r = c.put_last.new.reader in
     let u = c.next_key.new.self in
     let last = c.in_ok-last.ensures in
     let read = converted of_json (p l.reader) in
-    let out = c.put_sole.new.out.items in
-    on_ok_weaker c.put_sole.result (λ done named.
-    subst (λ old. PutsEncodingOf (λ v. IsObject (json v) p (key k ∷ s) u) old out) l.invariant.4
-    (puts_weaker (λ v. (d : Data) × (json v ≡ under type d) × (read ≡ Some (d, r))) (λ v. IsObject (json v) p (key k ∷ s) u) l.out.items out
-    (λ v h.
-    let past = past_turn p k s l.invariant.0 l.reader r h.0 l.invariant.1 l.invariant.2 h.2 last.shorter in
-    let end = next_is r None u (closed c.in_ok-next.next r u c.in_ok-next.ensures c.in-None.is) in
-    sole_object p k s type h.0 (json v) u named h.1 (leads_as p no_members (key k ∷ s) (member k h.0 no_members) r (Token.end_object ∷ u) past end))
-    (done k read r l.out.items last.ok)))
-    c.put_sole.ensures
+    let here = subst (λ (b : List ℕ). IsLast c.in_ok-last.last k read r b c.put_last.new.out.items) l.invariant.4 last.ok in (
+      read,
+      r,
+      here,
+      λ d is.
+          let past = past_turn p k s l.invariant.0 l.reader r d l.invariant.1 l.invariant.2 is last.shorter in
+          let end = next_is r None u (closed c.in_ok-next.next r u c.in_ok-next.ensures c.in-None.is) in
+          sole_object p k s d u (leads_as p no_members (key k ∷ s) (member k d no_members) r (Token.end_object ∷ u) past end),
+    )
 
-pub put_named-returns-in-Some-2-clause-ok : goal.put_named-returns-in-Some-2-clause-ok
-put_named-returns-in-Some-2-clause-ok t c =
+pub put_turns-returns-in-Some-2-clause-ok : goal.put_turns-returns-in-Some-2-clause-ok
+put_turns-returns-in-Some-2-clause-ok t c =
     let p = value c.args.depth in
     let l = c.turns in
     let k = c.args.name.now in
@@ -255,15 +264,131 @@ put_named-returns-in-Some-2-clause-ok t c =
     let end = c.put_members.new.out.items in
     let new = c.fill_length.new.out.items in
     let place : c.len-start.result + 1 ≡ length old + 1 = grind arith in
+    let len : length old ≡ c.len-start.result = grind arith in
     let other : j ≢ k = search rules in
     let next : read_key r ≡ Some (Some j, u) = c.in_ok-next.ensures ∙ ap (λ (o : Option (Bor (List ℕ))). Some (option_map (λ b. b.now) o, u)) c.in-Some-2.is in
-    let first : PutsFirst k (λ v. read ≡ Some (json v, r)) old mid = c.in_ok-put_first-in-Some-2.ensures read r old (subst (λ (b : List ℕ). IsLast c.in_ok-last.last k read r b c.put_last.new.out.items) l.invariant.4 last.ok) in
+    let here = subst (λ (b : List ℕ). IsLast c.in_ok-last.last k read r b c.put_last.new.out.items) l.invariant.4 last.ok in
+    let first : PutsFirst k (λ v. read ≡ Some (json v, r)) old mid = c.in_ok-put_first-in-Some-2.ensures read r old len here in
     let pairs = first_pairs p k s j u rest old mid end (λ v. read ≡ Some (json v, r)) first (
     λ v h. leads_as p no_members (key k ∷ s) (member k (json v) no_members) r (key j ∷ u) (past_turn p k s l.invariant.0 l.reader r (json v) l.invariant.1 l.invariant.2 h last.shorter) (next_is r (Some j) u next)
     ) other c.in_ok-put_members-in-Some-2.ensures.ok in
     let P : Entries → Type 0 = λ es. IsObjectOfMembers p no_members (key k ∷ s) (members_json es) rest × (sole_type (members_json es) ≡ None) in
-    on_ok_weaker c.fill_length.result (λ done named.
+    let done = c.in_ok-fill_length-in-Some-2.ensures in
     puts_weaker (λ v. (es : Entries) × (v ≡ values.table es) × P es) (λ v. IsObject (json v) p (key k ∷ s) rest) old new
     (λ v h. (members_json h.0, plain_object v h.0 h.1 h.2.1, h.2.0 (length (key k ∷ s)) (omega arith)))
-    (table_put (c.len-start.result + 1) old (old ++ 70 ∷ 0 ∷ 0 ∷ 0 ∷ 0 ∷ []) end new place done.0 done.1 P refl pairs))
-    c.fill_length.ensures
+    (table_put (c.len-start.result + 1) old (old ++ 70 ∷ 0 ∷ 0 ∷ 0 ∷ 0 ∷ []) end new place done.0 done.1 P refl pairs)
+
+pub put_last-returns-in_ok-object-in-FieldTable-BeginObject-clause-ok : goal.put_last-returns-in_ok-object-in-FieldTable-BeginObject-clause-ok
+put_last-returns-in_ok-object-in-FieldTable-BeginObject-clause-ok t c =
+    let depth = c.args.depth in
+    let r = c.next.new.self in
+    let u = c.object_under_table.new.reader in
+    let found = c.in_ok-object-in-FieldTable-BeginObject.ensures.ok in
+    let is : c.args.reader.now ≡ Token.begin_object ∷ r = grind arith in
+    let opened = ap (λ ts. converted of_json (value depth ts)) is ∙ ap (converted of_json) (value-begin_object depth r (omega arith)) ∙ converted-object (members (value (depth - 1)) (length r) r) in
+    (found.0, opened ∙ ap (parse_map object) found.1.2 ∙ ap (λ d. Some (d, u)) (sym found.1.1), found.2)
+
+pub object_under_table-returns-2-clause-ok : goal.object_under_table-returns-2-clause-ok
+object_under_table-returns-2-clause-ok t c =
+    let p = value c.args.depth in
+    let s = c.args.reader.now in
+    let r = c.put_table.new.reader in
+    let a = c.next_key.new.self in
+    let o = option_map (λ (b : Bor (List ℕ)). b.now) c.in_ok-first.first in
+    put_pending p s r _ _ (puts_weaker (λ v. (ts : List Token) → read_key ts ≡ Some (o, a) → IsObject (json v) p ts r) (λ v. IsObject (json v) p s r) _ _ (λ v h. h s c.in_ok-first.ensures) (c.in_ok-put_table.ensures.ok (search rules)))
+
+pub object_under_table-returns-in_default-clause-ok : goal.object_under_table-returns-in_default-clause-ok
+object_under_table-returns-in_default-clause-ok t c =
+    let p = value c.args.depth in
+    let s = c.args.reader.now in
+    let k = c.in-Some.name.now in
+    let a = c.next_key.new.self in
+    let r = c.put_turns.new.reader in
+    let old = c.args.out.now.items in
+    let new = c.put_turns.new.out.items in
+    let first : read_key s ≡ Some (Some k, a) = c.in_ok-first.ensures ∙ ap (λ (o : Option (Bor (List ℕ))). Some (option_map (λ b. b.now) o, a)) c.in-Some.is in
+    let next = next_is s (Some k) a first in
+    let none : c.in_ok-found.found ≡ None = search rules in
+    let put = subst (λ (f : Option Last). IsNamedRead f p k a r old new) none c.in_ok-found.ensures.ok in
+    put_pending p s r old new (subst (λ (ts : List Token). PutsEncodingOf (λ v. IsObject (json v) p ts r) old new) (sym next) put)
+
+pub object_under_table-returns-clause-ok : goal.object_under_table-returns-clause-ok
+object_under_table-returns-clause-ok t c =
+    let p = value c.args.depth in
+    let s = c.args.reader.now in
+    let k = c.in-Some.name.now in
+    let a = c.next_key.new.self in
+    let r = c.put_turns.new.reader in
+    let old = c.args.out.now.items in
+    let new = c.put_turns.new.out.items in
+    let type = c.in-Some-type_of_name.amqp_type in
+    let last = c.in-Some-found.last in
+    let first : read_key s ≡ Some (Some k, a) = c.in_ok-first.ensures ∙ ap (λ (o : Option (Bor (List ℕ))). Some (option_map (λ b. b.now) o, a)) c.in-Some.is in
+    let next = next_is s (Some k) a first in
+    let typed : type_named k ≡ Some type = search rules in
+    let is = subst (λ (f : Option Last). IsNamedRead f p k a r old new) c.in-Some-found.is c.in_ok-found.ensures.ok in
+    let under_name = subst (λ (j : List ℕ). IsLast last j is.0 is.1 old new) (is_name k type typed) is.2 in
+    weaker _ (λ o. (d : Data) × IsObject d p s r × IsPending o d old new) c.object_of.result
+    (λ o done.
+    let at = done is.0 is.1 old new under_name in
+    let d = under type at.0 in
+    (d, subst (λ (ts : List Token). IsObject d p ts r) (sym next) (sole_under p k a type at.0 d r typed refl (is.3 at.0 at.1)), at.2))
+    c.object_of.ensures
+
+pub put_named-returns-in-Some-clause-ok : goal.put_named-returns-in-Some-clause-ok
+put_named-returns-in-Some-clause-ok t c =
+    let p = value c.args.depth in
+    let s = c.args.reader.now in
+    let k = c.args.name.now in
+    let r = c.put_turns.new.reader in
+    let type = c.args.amqp_type in
+    let old = c.args.out.now.items in
+    let mid = c.put_turns.new.out.items in
+    let new = c.put_sole.new.out.items in
+    let is = subst (λ (f : Option Last). IsNamedRead f p k s r old mid) c.in-Some.is c.in_ok-put_turns.ensures.ok in
+    let len : length old ≡ c.len-start.result = grind arith in
+    on_ok_weaker c.put_sole.result (λ done typed.
+    puts_weaker (λ v. (d : Data) × (json v ≡ under type d) × (is.0 ≡ Some (d, is.1))) (λ v. IsObject (json v) p (key k ∷ s) r) old new
+    (λ v h. sole_under p k s type h.0 (json v) r typed h.1 (is.3 h.0 h.2)) (done k is.0 is.1 old len is.2))
+    c.put_sole.ensures
+
+pub last_fields-returns-then-is_scale-clause-ok : goal.last_fields-returns-then-is_scale-clause-ok
+last_fields-returns-then-is_scale-clause-ok t c =
+    let s = c.args.reader.now in
+    let a = c.next_key.new.self in
+    let d = c.in_ok-d.d in
+    let yes : c.is_scale.result ≡ true = search rules in
+    let first : read_key s ≡ Some (Some (codes "scale"), a) = c.in_ok-first.ensures ∙ ap (λ (o : Option (List ℕ)). Some (o, a)) (c.is_scale.ensures yes) in
+    (decimal_json d.scale d.value, c.in_ok-d.ensures.json c.args.depth s first, (refl, refl, (omega arith, omega arith)))
+
+pub last_fields-returns-clause-ok : goal.last_fields-returns-clause-ok
+last_fields-returns-clause-ok t c =
+    let p = value c.args.depth in
+    let s = c.args.reader.now in
+    let r = c.put_object_from.new.reader in
+    let old = c.args.out.now.items in
+    let mid = c.put_object_from.new.out.items in
+    let new = c.last_of_table.new.out.items in
+    let put = c.in_ok-put_object_from.ensures.ok s c.in_ok-first.ensures in
+    let d = json put.1 in
+    let at : PutsEncodingOf (λ v. json v ≡ d) old mid = (put.0, put.1, put.2, put.3, put.4, refl) in
+    let len : length old ≡ c.len-start.result = grind arith in
+    let read : Data → Option (Data × List Token) = λ x. Some (x, r) in
+    weaker _ (λ last. (x : Data) × IsObject x p s r × IsLast last c.args.name.now (read x) r old new) c.last_of_table.result (λ last done. (d, put.5, done d r old len at)) c.last_of_table.ensures
+
+pub put_last-returns-else-depth-eq0-clause-ok : goal.put_last-returns-else-depth-eq0-clause-ok
+put_last-returns-else-depth-eq0-clause-ok t c =
+    let depth = c.args.depth in
+    let s = c.args.reader.now in
+    let k = c.args.name.now in
+    let r = c.next.new.self in
+    let u = c.last_fields.new.reader in
+    let old = c.args.out.now.items in
+    let new = c.last_fields.new.out.items in
+    let is : s ≡ Token.begin_object ∷ r = grind arith in
+    let opened = ap (λ ts. converted of_json (value depth ts)) is ∙ ap (converted of_json) (value-begin_object depth r (omega arith)) ∙ converted-object (members (value (depth - 1)) (length r) r) in
+    weaker _ (λ last. IsLast last k (converted of_json (value depth s)) u old new) c.last_fields.result
+    (λ last done.
+    let read : converted of_json (value depth s) ≡ Some (done.0, u) = opened ∙ ap (parse_map object) done.1.2 ∙ ap (λ d. Some (d, u)) (sym done.1.1) in
+    subst (λ (o : Option (Data × List Token)). IsLast last k o u old new) (sym read) done.2)
+    c.last_fields.ensures.ok

@@ -10,34 +10,49 @@ use Rattle.amqp_json.proofs.Encodes.{ItemsLeft, PairsLeft}
 use Rattle.amqp_json.proofs.encoding.+encode.Given as goal
 
 abbrev pub decreases-put_inner_object : goal.decreases-put_inner_object
-decreases-put_inner_object l = 8 * l.depth
+decreases-put_inner_object l = 10 * l.depth
 
 abbrev pub decreases-put_token : goal.decreases-put_token
-decreases-put_token l = 8 * l.depth + 1
+decreases-put_token l = 10 * l.depth + 1
 
 abbrev pub decreases-put_value : goal.decreases-put_value
-decreases-put_value l = 8 * l.depth + 2
+decreases-put_value l = 10 * l.depth + 2
 
 abbrev pub decreases-put_last : goal.decreases-put_last
-decreases-put_last l = 8 * l.depth + 2
+decreases-put_last l = 10 * l.depth + 2
 
 abbrev pub decreases-put_items : goal.decreases-put_items
-decreases-put_items l = 8 * l.depth + 3
+decreases-put_items l = 10 * l.depth + 3
 
 abbrev pub decreases-put_members : goal.decreases-put_members
-decreases-put_members l = 8 * l.depth + 3
+decreases-put_members l = 10 * l.depth + 3
 
-abbrev pub decreases-put_named : goal.decreases-put_named
-decreases-put_named l = 8 * l.depth + 4
+abbrev pub decreases-put_turns : goal.decreases-put_turns
+decreases-put_turns l = 10 * l.depth + 4
 
-abbrev pub decreases-put_typed : goal.decreases-put_typed
-decreases-put_typed l = 8 * l.depth + 5
+abbrev pub decreases-put_table : goal.decreases-put_table
+decreases-put_table l = 10 * l.depth + 4
 
 abbrev pub decreases-put_array : goal.decreases-put_array
-decreases-put_array l = 8 * l.depth + 4
+decreases-put_array l = 10 * l.depth + 4
+
+abbrev pub decreases-put_named : goal.decreases-put_named
+decreases-put_named l = 10 * l.depth + 5
+
+abbrev pub decreases-put_typed : goal.decreases-put_typed
+decreases-put_typed l = 10 * l.depth + 6
+
+abbrev pub decreases-object_under_table : goal.decreases-object_under_table
+decreases-object_under_table l = 10 * l.depth + 6
+
+abbrev pub decreases-put_object_from : goal.decreases-put_object_from
+decreases-put_object_from l = 10 * l.depth + 7
 
 abbrev pub decreases-put_object : goal.decreases-put_object
-decreases-put_object l = 8 * l.depth + 6
+decreases-put_object l = 10 * l.depth + 8
+
+abbrev pub decreases-last_fields : goal.decreases-last_fields
+decreases-last_fields l = 10 * l.depth + 8
 
 -- the values before are put, and with those that are left they are the array's
 abbrev pub invariant-put_items-items : goal.invariant-put_items-items
@@ -59,12 +74,12 @@ abbrev pub decreases-put_members-members : goal.decreases-put_members-members
 decreases-put_members-members l = length l.reader
 
 -- the name is the only key so far, and nothing is put
-abbrev pub invariant-put_named-turns : goal.invariant-put_named-turns
-invariant-put_named-turns l =
+abbrev pub invariant-put_turns-turns : goal.invariant-put_turns-turns
+invariant-put_turns-turns l =
     (found : Members) × ((d : Data) → put l.name d found ≡ member l.name d no_members)
     × MembersLeadTo (value l.depth) no_members (key l.name ∷ l.initial.reader) found (key l.name ∷ l.reader)
     × (length l.reader ≤ length l.initial.reader)
     × (l.out.items ≡ l.initial.out.items)
 
-abbrev pub decreases-put_named-turns : goal.decreases-put_named-turns
-decreases-put_named-turns l = length l.reader
+abbrev pub decreases-put_turns-turns : goal.decreases-put_turns-turns
+decreases-put_turns-turns l = length l.reader

@@ -1,26 +1,19 @@
-use Rattle.std.proofs.Common.{◌≡◌, ◌∷◌, [], ◌++◌, List, ℕ, Some, sym, ap, ◌∙◌, subst, rules}
-use Rattle.std.specs.Str.{IsUtf8}
+use Rattle.std.proofs.Common.{◌≡◌, Some, sym, ap, ◌∙◌, subst}
 use Rattle.std.proofs.lemmas.Result.{on_ok_weaker}
-use Rattle.amqp_value_core.specs.Grammar.{short_field}
-use Rattle.amqp_value_core.specs.Values.{long}
-use Rattle.amqp_json.specs.Encodes.{IsLast, IsTextPut}
+use Rattle.amqp_json.specs.Encodes.{IsLast}
 use Rattle.amqp_json.specs.Json.{json}
 use Rattle.amqp_json.specs.declared.encoding.last.Last.{Last}
-use Rattle.amqp_json.proofs.Bytes.{text_is_plain}
-use Rattle.amqp_json.proofs.Encodes.{text_put}
+use Rattle.amqp_json.proofs.Named.{first_before}
 use Rattle.amqp_json.proofs.encoding.last.put_first.Goals as goal
 
-pub returns-in_ok-put_key-in-Text : goal.returns-in_ok-put_key-in-Text
-returns-in_ok-put_key-in-Text c =
+pub returns-in_ok-put_object_of-in-Object : goal.returns-in_ok-put_object_of-in-Object
+returns-in_ok-put_object_of-in-Object c =
     let k = c.args.name.now in
-    let x = c.in-Text.text.now in
-    let new = c.put_text.new.out.items in
-    let utf8 : IsUtf8 x = search rules in
-    on_ok_weaker c.put_text.result (λ done read rest old is.
-    let at = subst (λ (l : Last). IsLast l k read rest old c.args.out.now.items) c.in-Text.is is in
-    let head = c.in_ok-put_head-in-Text.ensures ∙ ap (λ b. b ++ 70 ∷ 0 ∷ 0 ∷ 0 ∷ 0 ∷ []) at.0 in
-    let keyed = c.in_ok-put_key-in-Text.ensures.ok ∙ ap (λ b. b ++ short_field k) head in (
-      c.in_ok-put_key-in-Text.ensures.short,
-      text_put (λ v. read ≡ Some (json v, rest)) _ new (long x) (subst (λ (b : List ℕ). IsTextPut (long x) b new) keyed done.0) done.1 (at.1 ∙ ap (λ d. Some (d, rest)) (sym (text_is_plain x utf8))),
-    ))
-    c.put_text.ensures
+    let now = c.args.out.now.items in
+    let mid = c.put_object_of.new.out.items in
+    let new = c.put_before.new.out.items in
+    on_ok_weaker c.put_before.result (λ done read rest old size h.
+    let is = subst (λ (l : Last). IsLast l k read rest old now) c.in-Object.is h in
+    let put = c.in_ok-put_object_of-in-Object.ensures is.0 old size is.2 in
+    first_before (λ v. json v ≡ is.0) (λ v. read ≡ Some (json v, rest)) k old mid new done.0 (λ w same. done.1 old w size same) (λ v e. is.1 ∙ ap (λ d. Some (d, rest)) (sym e)) put)
+    c.put_before.ensures

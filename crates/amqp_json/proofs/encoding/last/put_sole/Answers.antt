@@ -1,21 +1,19 @@
-use Rattle.std.proofs.Common.{◌≡◌, ◌++◌, Some, sym, ap, ◌∙◌, subst, rules}
+use Rattle.std.proofs.Common.{◌≡◌, Some, subst}
 use Rattle.std.proofs.lemmas.Result.{on_ok_weaker}
 use Rattle.serde_json.specs.Data.{Data}
-use Rattle.amqp_value_core.specs.Texts.{text}
-use Rattle.amqp_value_core.specs.Values.{scalar, decimal}
-use Rattle.amqp_value_core.specs.declared.types.amqp_type.AMQPType.TheVariants as types
 use Rattle.amqp_json.specs.Encodes.{IsLast}
-use Rattle.amqp_json.specs.Json.{json, under, decimal_json}
+use Rattle.amqp_json.specs.Json.{json, under}
 use Rattle.amqp_json.specs.declared.encoding.last.Last.{Last}
-use Rattle.amqp_json.proofs.Encodes.{scalar_put}
+use Rattle.amqp_json.proofs.Encodes.{puts_weaker}
 use Rattle.amqp_json.proofs.encoding.last.put_sole.Goals as goal
 
-pub returns-in-DecimalValue-Decimal : goal.returns-in-DecimalValue-Decimal
-returns-in-DecimalValue-Decimal c =
-    let d = c.in-DecimalValue-Decimal.d in
-    let type : c.args.amqp_type ≡ types.DecimalValue = search rules in
-    on_ok_weaker c.put_decimal.result (λ same k read rest old is.
-    let at = subst (λ (l : Last). IsLast l k read rest old c.args.out.now.items) c.in-DecimalValue-Decimal.is-1 is in
-    scalar_put (λ v. (x : Data) × (json v ≡ under c.args.amqp_type x) × (read ≡ Some (x, rest))) old _ (decimal d.scale d.value) (same ∙ ap (λ b. b ++ text (scalar (decimal d.scale d.value))) at.0) at.2
-    (decimal_json d.scale d.value, ap (λ t. under t (decimal_json d.scale d.value)) (sym type), at.1))
-    c.put_decimal.ensures
+pub returns-in_ok-outer-in-Object : goal.returns-in_ok-outer-in-Object
+returns-in_ok-outer-in-Object c =
+    let type = c.args.amqp_type in
+    let now = c.args.out.now.items in
+    let new = c.put_object_of.new.out.items in
+    on_ok_weaker c.put_object_of.result (λ done k read rest old size h.
+    let is = subst (λ (l : Last). IsLast l k read rest old now) c.in-Object.is h in
+    puts_weaker (λ v. json v ≡ under type is.0) (λ v. (d : Data) × (json v ≡ under type d) × (read ≡ Some (d, rest))) old new (λ v e. (is.0, e, is.1))
+    (done (under type is.0) old size (c.in_ok-outer-in-Object.ensures is.0 old now is.2)))
+    c.put_object_of.ensures

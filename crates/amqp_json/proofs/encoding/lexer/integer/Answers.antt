@@ -1,4 +1,4 @@
-use Rattle.std.proofs.Common.{◌≡◌, ◌+◌, ◌-◌, ◌∷◌, ◌⊎◌, inl, inr, List, ℕ, Bool, true, false, Some, take, drop, get_or, ◌==◌, sym, ap, ap₂, ◌∙◌, subst, refl, arith, rules}
+use Rattle.std.proofs.Common.{◌≡◌, ◌+◌, ◌-◌, ◌∷◌, ◌⊎◌, inl, inr, true, false, Some, take, drop, ◌==◌, sym, ap, ◌∙◌, subst, arith, rules}
 use Rattle.std.specs.Int.{w64}
 use Rattle.std.proofs.lemmas.Int.{to_z-of_z}
 use Rattle.std.proofs.lemmas.Bool.{ne_eqb}
@@ -6,8 +6,7 @@ use Rattle.serde_json.specs.Find.{of_integer}
 use Rattle.serde_json.specs.Read.{number_of}
 use Rattle.json.specs.Token.{number}
 use Rattle.json.specs.Word.{head, ends_word}
-use Rattle.json.specs.Lex.{between, lex, punctuate}
-use Rattle.amqp_json.specs.Lexing.{tokens_left, BeginsWithInteger}
+use Rattle.amqp_json.specs.Lexing.{BeginsWithInteger}
 use Rattle.amqp_json.proofs.Digits.{integer_denoted}
 use Rattle.amqp_json.proofs.Lexing.{integer_read}
 use Rattle.amqp_json.proofs.encoding.lexer.integer.Goals as goal

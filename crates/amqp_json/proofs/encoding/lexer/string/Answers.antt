@@ -1,4 +1,4 @@
-use Rattle.std.proofs.Common.{◌≡◌, ◌∷◌, List, ℕ, drop, sym, ap, ◌∙◌, subst, arith, rules}
+use Rattle.std.proofs.Common.{◌≡◌, ◌∷◌, List, ℕ, drop, sym, ap, ◌∙◌, subst, rules}
 use Rattle.json.specs.Token.{string}
 use Rattle.json.specs.Word.{head}
 use Rattle.json.specs.Lex.{between, lex, after_value, punctuate}

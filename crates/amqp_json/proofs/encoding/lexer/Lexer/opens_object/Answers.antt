@@ -1,4 +1,4 @@
-use Rattle.std.proofs.Common.{◌≡◌, ◌∷◌, None, true, false, sym, ap, ◌∙◌, drop, rules}
+use Rattle.std.proofs.Common.{◌≡◌, ◌∷◌, None, sym, ap, ◌∙◌, drop, rules}
 use Rattle.std.proofs.lemmas.Bool.{true≢false}
 use Rattle.json.specs.Token.{begin_object}
 use Rattle.json.specs.Reads.{token_of}
