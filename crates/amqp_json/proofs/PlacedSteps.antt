@@ -1,7 +1,7 @@
 -- The pairs of a table with their places, a pair at a time.
 use Rattle.std.proofs.Common.{◌≡◌, ◌<◌, ◌≤◌, ℕ, suc, List, [], ◌∷◌, ◌++◌, length, get_or, drop, drop-cons, false, is_some, Some, None, refl, sym, ap, ◌∙◌, subst, arith}
 use Rattle.std.specs.List.{AllByRecursion}
-use Rattle.amqp_value_core.specs.Values.{Tree, Entries, no_entries, entry}
+use Rattle.amqp_value_core.specs.Values.{Tree, Entries, no_entries, entry, insert_all}
 use Rattle.amqp_value_core.specs.Grammar.{TableBody}
 use Rattle.amqp_in_place.specs.Refs.{Denotes}
 use Rattle.amqp_in_place.specs.Walks.{PairStep}
@@ -32,6 +32,10 @@ before_none : (es : List AtStep) (ps : Entries) → AreBefore es ps no_entries �
 before_none [] ps are = subst (AreAt []) (sym are) tt
 before_none (e ∷ es) no_entries are = absurd are
 before_none (e ∷ es) (entry k v ps) are = (are.0, are.1, before_none es ps are.2)
+
+-- a slice of the pairs that are kept refers to the entries
+pub entries_at : (xs ys : List PlacedPair) (ps es : Entries) → xs ≡ ys → es ≡ insert_all no_entries ps → AreAt (steps_of xs) (insert_all no_entries ps) → AreAt (steps_of ys) es
+entries_at xs ys ps es same is are = subst (λ (qs : List PlacedPair). AreAt (steps_of qs) es) same (subst (λ (fs : Entries). AreAt (steps_of xs) fs) (sym is) are)
 
 -- the pairs so far
 abbrev pub Placed : List ℕ → List ℕ → List AtStep → Type 0

@@ -118,9 +118,9 @@ fn write_whole_value(buffer: &mut [u8], value: ValueRef<'_>) -> Result<usize, Wr
 
 /// Writes the JSON text as `write_whole_json` does, also if the keys of a table don't ascend.
 ///
-/// Then memory for the text is allocated, and for such a table a map of its keys; `NeedsMemory` means
-/// that memory ran out. By measurements it uses stack for at most `limits.depth` levels;
-/// docs/PROMISES.md has what `amqpv_to_json` takes for one.
+/// Then memory for the text is allocated, and for such a table 48 bytes for each of its pairs;
+/// `NeedsMemory` means that memory ran out. By measurements it uses stack for at most `limits.depth`
+/// levels; docs/PROMISES.md has what `amqpv_to_json` takes for one.
 pub fn write_sorted_json<'a>(
     alloc: Global,
     bytes: &'a [u8],
@@ -163,8 +163,8 @@ fn write_sorted_value(
     }
 }
 
-// The text in memory first. Four times the bytes of the encoding is enough for most, and a
-// map of each table is made again if it isn't.
+// The text in memory first. Four times the bytes of the encoding is enough for most, and the pairs of
+// each table are sorted again if it isn't.
 fn sort_in_memory(
     alloc: Global,
     buffer: &mut [u8],

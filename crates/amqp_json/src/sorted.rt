@@ -12,7 +12,6 @@ use crate::names::type_of_name;
 use amqp_in_place::{TableRef, ValueRef};
 use std::alloc::{AllocError, Global};
 use std::cmp::Reverse;
-use std::collections::BTreeMap;
 
 /// A pair of a table, and how many pairs are before it there.
 #[derive(Clone, Copy)]
@@ -23,8 +22,7 @@ pub(crate) struct PlacedPair<'a> {
 }
 
 /// The pairs in the order of their keys: of equal keys the last.
-// Neither this nor `map_of` is inlined, so that what they hold is off the stack while the values are
-// written.
+// Not inlined, so that what it holds is off the stack while the values are written.
 #[inline(never)]
 pub(crate) fn sorted_pairs<'a>(
     alloc: Global,
@@ -63,36 +61,6 @@ pub(crate) fn pairs_need_type_name(pairs: &[PlacedPair<'_>]) -> bool
 {
     match pairs {
         [pair] => type_of_name(pair.key).is_some(),
-        _ => false,
-    }
-}
-
-/// The pairs by their keys: of equal keys the last.
-#[inline(never)]
-pub(crate) fn map_of<'a>(
-    alloc: Global,
-    table: TableRef<'a>,
-) -> Result<BTreeMap<&'a str, ValueRef<'a>>, AllocError>
-    ensures entries { IfOk result (λ m. (ps : Entries) → TableBody (table_body table.entry) ps
-        → AreAt m.entries (insert_all no_entries ps)) }
-    ensures bodies { IfOk result (λ m. above_bodies m.entries ≤ length (table_body table.entry)) }
-{
-    let mut map = BTreeMap::new(alloc);
-    for (key, value) in table.iter() {
-        drop(map.insert(key, value)?);
-    }
-    Ok(map)
-}
-
-/// Whether the JSON of the entries would be taken for a value of another type.
-#[inline(never)]
-pub(crate) fn map_needs_type_name(map: &BTreeMap<&str, ValueRef<'_>>) -> bool
-    ensures { (es : Entries) → AreAt map.now.entries es
-        → result ≡ is_some (sole_type (members_json es)) }
-{
-    let mut pairs = map.iter();
-    match (pairs.next(), pairs.next()) {
-        (Some((key, _)), None) => type_of_name(*key).is_some(),
         _ => false,
     }
 }

@@ -1,4 +1,4 @@
-use Rattle.std.proofs.Common.{◌≡◌, ◌+◌, ◌*◌, ◌++◌}
+use Rattle.std.proofs.Common.{◌≡◌, ◌+◌, ◌*◌, ◌++◌, drop}
 use Rattle.json.specs.Tree.{json_tokens, items_tokens, members_tokens}
 use Rattle.serde_json.specs.Written.{outline, items_outline, members_outline}
 use Rattle.amqp_value_core.specs.Values.{Trees, Entries, array}
@@ -7,6 +7,7 @@ use Rattle.amqp_in_place.specs.Refs.{array_body, table_body}
 use Rattle.amqp_in_place.specs.Suffix.{values_left, pairs_left}
 use Rattle.amqp_json.specs.Json.{json, items_json, members_json}
 use Rattle.amqp_json.specs.Sorted.{AreAt}
+use Rattle.amqp_json.specs.Placed.{steps_of}
 use Rattle.amqp_json.proofs.in_place.+in_place.Given as goal
 
 abbrev pub decreases-write_array : goal.decreases-write_array
@@ -21,8 +22,8 @@ decreases-write_table l = 4 * l.depth + 3
 abbrev pub decreases-write_unordered : goal.decreases-write_unordered
 decreases-write_unordered l = 4 * l.depth + 2
 
-abbrev pub decreases-write_map : goal.decreases-write_map
-decreases-write_map l = 4 * l.depth + 1
+abbrev pub decreases-write_sorted : goal.decreases-write_sorted
+decreases-write_sorted l = 4 * l.depth + 1
 
 abbrev pub decreases-write_value : goal.decreases-write_value
 decreases-write_value l = 4 * l.depth
@@ -43,10 +44,10 @@ invariant-write_pairs-loop-key l =
     (rest : Entries) × TableBody (pairs_left l.key-iterator) rest
     × (l.out.tokens ++ members_tokens (members_outline (members_json rest)) ≡ l.fn.out.tokens ++ members_tokens (members_outline (members_json all))))
 
--- with the tokens of the entries that are left, the map's are there
-abbrev pub invariant-write_map-loop-key : goal.invariant-write_map-loop-key
-invariant-write_map-loop-key l =
+-- with the tokens of the pairs that are left, the object's are there
+abbrev pub invariant-write_sorted-loop-pair : goal.invariant-write_sorted-loop-pair
+invariant-write_sorted-loop-pair l =
     (l.out.before ≡ l.fn.out.before)
-    × ((all : Entries) → AreAt l.fn.map.entries all →
-    (rest : Entries) × AreAt l.key-iterator rest
+    × ((all : Entries) → AreAt (steps_of l.fn.sorted) all →
+    (rest : Entries) × AreAt (steps_of (drop l.pair-index l.fn.sorted)) rest
     × (l.out.tokens ++ members_tokens (members_outline (members_json rest)) ≡ l.fn.out.tokens ++ members_tokens (members_outline (members_json all))))
