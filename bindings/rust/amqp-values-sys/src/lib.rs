@@ -662,10 +662,9 @@ extern "C" {
     /// `count` becomes how many bytes were written (AMQPV_OK), or which capacity is needed (AMQPV_NO_ROOM), else 0.
     /// Also returns AMQPV_NOT_JSON, AMQPV_NO_MEMORY, or AMQPV_NO_ENCODING if the value contains a ShortString, which
     /// has no type tag, or if a length is too large for its field. It allocates the encoding, and where a table's keys
-    /// don't ascend another and 48 bytes for each of its pairs. It allocates a tree too of a text that is rejected, of
-    /// one with a table under the name of its type, of one with an object in which other keys follow the name of a
-    /// type, of one in which a key comes twice and the value that doesn't count is none, and of one with a decimal
-    /// whose number is before its scale.
+    /// don't ascend another and 48 bytes for each of its pairs. It allocates a tree too of JSON that is rejected, of a
+    /// text in which a key comes twice and the value that doesn't count is none, and of one with an object under
+    /// DecimalValue that has a key twice, or another key.
     pub fn amqpv_from_json(
         text: *const u8,
         length: usize,
