@@ -1,5 +1,5 @@
 #!/usr/bin/python3 -B
-"""Runs the tests of a folder by pytest: tests/NAME/run [--write] [--random] [--seed N] [WORD]..
+"""Runs the tests of a folder, or of a module, by pytest: tests/NAME/run [--write] [--random] [--seed N] [WORD]..
 
 What is random comes from a fixed seed, or with --random from another, which is printed. Other words are pytest's own, as
 `-k NAME`, which picks tests. If none is given, there have to be as many tests, and as many calls and cases of those that
@@ -12,8 +12,12 @@ import os
 import sys
 from pathlib import Path
 
-# (`run` is a link to this file, whose folder is what is tested)
-FOLDER = Path(sys.argv[0]).absolute().parent
+# (`run` is a link to this file, whose folder is what is tested; of a link with another name it is the module for that name)
+SCRIPT = Path(sys.argv[0]).absolute()
+FOLDER = SCRIPT.parent
+STEP, TESTS = FOLDER.name, FOLDER
+if SCRIPT.name != "run":
+    STEP, TESTS = SCRIPT.name, FOLDER / f"test_{SCRIPT.name.replace('-', '_')}.py"
 TOP = FOLDER.parents[1]
 sys.path[:0] = [str(TOP), str(TOP / ".ci")]
 
@@ -68,16 +72,16 @@ def interrupted() -> None:
 def main(words: list[str]) -> int:
     counted = Counted()
     end_on_signals(interrupted)
-    processes = ["-n", str(len(os.sched_getaffinity(0)))] if FOLDER.name in SIDE_BY_SIDE else []
+    processes = ["-n", str(len(os.sched_getaffinity(0)))] if STEP in SIDE_BY_SIDE else []
     try:
         how = ["--rootdir", str(TOP), "-q", "--tb=short", *processes]
-        status = pytest.main([*how, str(FOLDER), *words], plugins=[counted])
+        status = pytest.main([*how, str(TESTS), *words], plugins=[counted])
     finally:
         end_descendants()
     if status not in (pytest.ExitCode.OK, pytest.ExitCode.TESTS_FAILED):
         counted.failed += 1
     if not [it for it in words if it.startswith("-") and not it.startswith(OPTIONS)]:
-        counted.judge(FOLDER.name, "--write" in words)
+        counted.judge(STEP, "--write" in words)
     print(f"{counted.passed} passed, {counted.failed} failed", flush=True)
     return 1 if counted.failed or not counted.passed else 0
 
