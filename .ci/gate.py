@@ -39,7 +39,7 @@ NEEDS: dict[str, tuple[str, ...]] = {
     ),
     "counts": ("valgrind",),
     "web": (PYTHON, "wasm-opt", "chromium", "chromedriver", "firefox-esr"),
-    "rust": (),
+    "rust": (PYTHON,),
     "crate": (PYTHON,),
     "broker": (f"{BIN}/rabbitmq-server", "epmd", "amqp-publish", "php", PYTHON),
     "mutants": (),
@@ -57,6 +57,7 @@ MODULES = {
     "wire": PYTEST,
     "python": (*PYTEST, "pip", "setuptools", "wheel"),
     "web": (*PYTEST, "selenium"),
+    "rust": PYTEST,
     "crate": PYTEST,
     "broker": (*PYTEST, "pika", "amqp", "kombu", "celery", "pamqp", "aiormq", "aio_pika"),
 }

@@ -29,9 +29,10 @@ def least(step: str, name: str) -> int:
     return number
 
 
-def too_few(step: str, counts: Mapping[str, int]) -> Iterator[str]:
-    """Yields what a step counted too few of. What has a line and no count was counted as none."""
-    for name in sorted({*counts, *(it for of, it in rows() if of == step)}):
+def too_few(step: str, counts: Mapping[str, int], are_all: bool = True) -> Iterator[str]:
+    """Yields what a step counted too few of. What has a line and no count was counted as none, if these are all."""
+    with_line = [it for of, it in rows() if of == step] if are_all else []
+    for name in sorted({*counts, *with_line}):
         count, wants = counts.get(name, 0), least(step, name)
         if count < wants:
             yield f"{count} of {name}, where {wants} are the least"

@@ -38,11 +38,14 @@ class Counted:
     """A plugin of pytest: how many tests passed and failed, and the numbers that they record by `record_property`."""
 
     def __init__(self) -> None:
-        self.passed = self.failed = 0
+        self.passed = self.failed = self.left_out = 0
         self.counts: dict[str, int] = {}
 
     def pytest_collectreport(self, report: pytest.CollectReport) -> None:
         self.failed += report.failed
+
+    def pytest_deselected(self, items: list[pytest.Item]) -> None:
+        self.left_out += len(items)
 
     def pytest_runtest_logreport(self, report: pytest.TestReport) -> None:
         is_call = report.when == "call"
@@ -54,12 +57,13 @@ class Counted:
 
     def judge(self, step: str, is_writing: bool) -> None:
         """Counts as failed what was counted too few of, or writes what was counted, if nothing failed."""
-        counts = self.counts | {"tests": self.passed + self.failed}
+        counts = self.counts | {"tests": self.passed + self.failed + self.left_out}
         if is_writing:
             if not self.failed:
                 write(step, counts)
             return
-        for wrong in too_few(step, counts):
+        # (what was left out, which is noted, might have counted more)
+        for wrong in too_few(step, counts, are_all=not self.left_out):
             print(f"least numbers: {wrong}")
             self.failed += 1
 
@@ -74,7 +78,8 @@ def main(words: list[str]) -> int:
     end_on_signals(interrupted)
     processes = ["-n", str(len(os.sched_getaffinity(0)))] if STEP in SIDE_BY_SIDE else []
     try:
-        how = ["--rootdir", str(TOP), "-q", "--tb=short", *processes]
+        # (pytest would look for its file above what else is named too, as a folder of --crate)
+        how = ["-c", str(TOP / "pyproject.toml"), "--rootdir", str(TOP), "-q", "--tb=short", *processes]
         status = pytest.main([*how, str(TESTS), *words], plugins=[counted])
     finally:
         end_descendants()
