@@ -27,7 +27,7 @@ from steps import end_descendants, end_on_signals  # noqa: E402
 
 # What doesn't leave out a test.
 OPTIONS = (
-    *("--write", "--random", "--seed", "--built", "--tables", "--library", "--page"),
+    *("--write", "--random", "--seed", "--built", "--tables", "--library", "--page", "--program"),
     *("--crate", "--packages", "--tried"),
 )
 # The folders whose tests run side by side, in as many processes as there are processors.
