@@ -34,7 +34,7 @@ NEEDS: dict[str, tuple[str, ...]] = {
     "wire": (PYTHON,),
     "python": (PYTHON, "python3-dbg", "/usr/include/python3.11/Python.h"),
     "c": (
-        *("nm", "pkg-config", "clang", "qemu-x86_64", "aarch64-linux-gnu-gcc"),
+        *(PYTHON, "nm", "pkg-config", "clang", "qemu-x86_64", "aarch64-linux-gnu-gcc"),
         *("cmake", "dpkg-gensymbols", "lintian", "man", "mandoc", "/usr/include/amqp.h"),
     ),
     "counts": ("valgrind",),
@@ -57,6 +57,7 @@ MODULES = {
     "sizes": PYTEST,
     "wire": PYTEST,
     "python": (*PYTEST, "pip", "setuptools", "wheel"),
+    "c": PYTEST,
     "web": (*PYTEST, "selenium"),
     "rust": PYTEST,
     "crate": PYTEST,

@@ -6,7 +6,6 @@ With --write a step's script sets its numbers to what it counted.
 
 import sys
 from collections.abc import Iterator, Mapping
-from typing import Any
 
 from crates import TOP
 
@@ -43,12 +42,3 @@ def write(step: str, counts: Mapping[str, int]) -> None:
     kept = {key: number for key, number in rows().items() if key[0] != step}
     numbers = kept | {(step, name): count for name, count in counts.items()}
     FILE.write_text("".join(f"{of} {name} {number}\n" for (of, name), number in sorted(numbers.items())))
-
-
-def judge(checks: Any, step: str, counts: Mapping[str, int]) -> None:
-    """Checks that a step counted enough, or with --write sets its numbers if nothing failed."""
-    if not IS_WRITING:
-        wrong = [*too_few(step, counts)]
-        checks.tell("least numbers", "; ".join(wrong))
-    elif not checks.failed:
-        write(step, counts)

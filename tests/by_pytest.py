@@ -28,7 +28,7 @@ from steps import end_descendants, end_on_signals  # noqa: E402
 # What doesn't leave out a test.
 OPTIONS = (
     *("--write", "--random", "--seed", "--built", "--tables", "--library", "--page", "--program"),
-    *("--crate", "--packages", "--tried"),
+    *("--crate", "--packages", "--tried", "--root", "--without"),
 )
 # The folders whose tests run side by side, in as many processes as there are processors.
 SIDE_BY_SIDE = ("model", "python")
@@ -83,9 +83,9 @@ def main(words: list[str]) -> int:
         status = pytest.main([*how, str(TESTS), *words], plugins=[counted])
     finally:
         end_descendants()
-    if status not in (pytest.ExitCode.OK, pytest.ExitCode.TESTS_FAILED):
-        counted.failed += 1
-    if not [it for it in words if it.startswith("-") and not it.startswith(OPTIONS)]:
+    has_run = status in (pytest.ExitCode.OK, pytest.ExitCode.TESTS_FAILED)
+    counted.failed += not has_run
+    if has_run and not [it for it in words if it.startswith("-") and not it.startswith(OPTIONS)]:
         counted.judge(STEP, "--write" in words)
     print(f"{counted.passed} passed, {counted.failed} failed", flush=True)
     return 1 if counted.failed or not counted.passed else 0
