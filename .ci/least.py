@@ -6,7 +6,6 @@ With --write a step's script sets its numbers to what it counted.
 
 import sys
 from collections.abc import Iterator, Mapping
-from typing import Any
 
 from crates import TOP
 
@@ -29,9 +28,10 @@ def least(step: str, name: str) -> int:
     return number
 
 
-def too_few(step: str, counts: Mapping[str, int]) -> Iterator[str]:
-    """Yields what a step counted too few of. What has a line and no count was counted as none."""
-    for name in sorted({*counts, *(it for of, it in rows() if of == step)}):
+def too_few(step: str, counts: Mapping[str, int], are_all: bool = True) -> Iterator[str]:
+    """Yields what a step counted too few of. What has a line and no count was counted as none, if these are all."""
+    with_line = [it for of, it in rows() if of == step] if are_all else []
+    for name in sorted({*counts, *with_line}):
         count, wants = counts.get(name, 0), least(step, name)
         if count < wants:
             yield f"{count} of {name}, where {wants} are the least"
@@ -42,12 +42,3 @@ def write(step: str, counts: Mapping[str, int]) -> None:
     kept = {key: number for key, number in rows().items() if key[0] != step}
     numbers = kept | {(step, name): count for name, count in counts.items()}
     FILE.write_text("".join(f"{of} {name} {number}\n" for (of, name), number in sorted(numbers.items())))
-
-
-def judge(checks: Any, step: str, counts: Mapping[str, int]) -> None:
-    """Checks that a step counted enough, or with --write sets its numbers if nothing failed."""
-    if not IS_WRITING:
-        wrong = [*too_few(step, counts)]
-        checks.tell("least numbers", "; ".join(wrong))
-    elif not checks.failed:
-        write(step, counts)

@@ -1,12 +1,14 @@
-"""What all tests share: how random they are, whether files are written anew, and the shared object of the calls for C."""
+"""What all tests share: how random they are, what they note, whether they write files, and the shared object for C."""
 
 import random
+from typing import Any
 
 import pytest
 from building import shared_object
 from crates import Crates
 from hypothesis import settings
 
+from tests.notes import NOTES
 from tests.python import ctypes_values as av
 
 # Of a property, the examples that are tried: the same in each run, or others in each.
@@ -19,7 +21,7 @@ def pytest_addoption(parser: pytest.Parser) -> None:
     group.addoption("--write", action="store_true", help="write files and least numbers anew")
     group.addoption("--random", action="store_true", help="another seed in each run")
     group.addoption("--seed", type=int, help="of what is random (1)")
-    group.addoption("--library", metavar="PATH", help="the shared object of the calls for C, which is built otherwise")
+    group.addoption("--library", metavar="PATH", help="the library of the calls for C, built otherwise")
     group.addoption("--built", action="store_true", help="build it over what `rt ci` has left")
 
 
@@ -35,6 +37,17 @@ def pytest_sessionstart(session: pytest.Session) -> None:
     reporter = session.config.pluginmanager.get_plugin("terminalreporter")
     if reporter:
         reporter.write_line(f"seed: {session.config.option.seed}")
+
+
+def pytest_terminal_summary(terminalreporter: Any) -> None:
+    for note in NOTES:
+        terminalreporter.write_line(note)
+
+
+@pytest.fixture(scope="session")
+def notes() -> list[str]:
+    """Lines that are printed at the end."""
+    return NOTES
 
 
 @pytest.fixture(scope="session")

@@ -194,19 +194,22 @@ def held(line: str) -> Held:
     return Held(call, re.sub(r", \d+ bytes$", "", name), counts, most)
 
 
-def judged(lines: list[str]) -> Iterator[tuple[str, str]]:
-    """Yields the name of each check of what at_once.c prints, and what is wrong."""
-    figures = stated()
-    of_call = {call: figure for calls, figure in figures.items() for call in calls}
-    yield "the header's memory", "" if of_call.keys() == allocating() else f"it is of {sorted(of_call)}"
-    found = [it for it in map(held, lines) if it.call in of_call]
-    over: dict[tuple[str, str], str] = {(it.call, it.shape): "" for it in found}
-    for it in found:
-        if it.most > (limit := of_call[it.call].of(it.counts)):
-            over[it.call, it.shape] = f"{it.most:,} bytes of memory for {it.counts[0]:,}, over {limit:,}"
-    yield from ((f"memory of {call} | {shape}", wrong) for (call, shape), wrong in over.items())
-    for calls, figure in figures.items():
-        for part in (it for it in Most._fields if getattr(figure, it)):
-            less = figure._replace(**{part: int(getattr(figure, part) * NEAR)})
-            is_near = any(it.call in calls and it.most > less.of(it.counts) for it in found)
-            yield f"memory of {' and '.join(calls)} by its {part}", "" if is_near else f"{NEAR} of it is enough"
+def over(found: list[Held], most: Most) -> dict[str, str]:
+    """The shapes of which more is held than may be, each with the last that is."""
+    limits = [(it, most.of(it.counts)) for it in found]
+    return {
+        it.shape: f"{it.most:,} bytes of memory for {it.counts[0]:,}, over {limit:,}"
+        for it, limit in limits
+        if it.most > limit
+    }
+
+
+def parts(most: Most) -> list[str]:
+    """The numbers that the header has of calls."""
+    return [it for it in Most._fields if getattr(most, it)]
+
+
+def is_needed(found: list[Held], most: Most, part: str) -> bool:
+    """Whether some input takes more than with a bit less of a number."""
+    less = most._replace(**{part: int(getattr(most, part) * NEAR)})
+    return any(it.most > less.of(it.counts) for it in found)

@@ -1,12 +1,12 @@
 """What nesting takes of the stack: the table of docs/PROMISES.md, and the runs that hold it.
 
-`recommended` runs the calls for C with the limits that the header recommends, on the stack that it names.
+`checks` has those runs, and `recommended` those of the calls for C with the limits that the header recommends, on the stack
+that it names. The page's table has a column for x86-64, and one for aarch64.
 
 `python3 -m tests.model.nesting PROGRAM NAME..` prints what a level takes of each call, and the call besides. PROGRAM is
 test_hostile, or nested.c as it was compiled, also with the words by which qemu runs it.
 """
 
-import functools
 import re
 import resource
 import shlex
@@ -15,6 +15,7 @@ import subprocess
 import sys
 from bisect import bisect
 from collections.abc import Callable, Iterator, Mapping
+from functools import cache, partial
 from pathlib import Path
 from typing import NamedTuple
 
@@ -94,8 +95,6 @@ class Threaded(NamedTuple):
 
     path: Path
     by: tuple[str, ...] = ()
-    # which column of the page's table is about it: that of x86-64, or that of aarch64
-    column: int = 0
 
 
 Program = Path | Threaded
@@ -186,36 +185,62 @@ def answer(program: Program, call: Call, depth: int, given: bytes, stack: int) -
     return f"status {done.returncode}" if done.returncode else str(done.stdout.decode().strip())
 
 
-@functools.cache
+@cache
 def long_input(make: Callable[[str, int], bytes], form: str) -> bytes:
     a_level = (len(make(form, 200)) - len(make(form, 100))) / 100
     return make(form, int(LONG / a_level) + 1)
 
 
-def judged(program: Program, made: Mapping[str, Call]) -> Iterator[tuple[str, str]]:
-    """Yields the name of each check of these calls, and what was returned instead of what should be.
+class Check(NamedTuple):
+    """A check: its name, and what is returned of a program instead of what should be, or nothing."""
+
+    name: str
+    wrong: Callable[[Program], str]
+
+
+def checks(made: Mapping[str, Call], column: int = 0) -> Iterator[Check]:
+    """Yields the checks of these calls.
 
     A call that isn't in the page's table doesn't recurse: it is done on what no limit lets through, on the small stack.
     """
-    figures, besides = table(column_of(program))
+    figures, besides = table(column)
     for name, call in made.items():
         figure = figures.get(name, 0)
         for said, form in FORMS.items():
             for depth in call.depths if figure else ():
-                got = answer(program, call, depth, call.make(form, depth), besides + depth * figure)
-                yield f"{name}, {depth} {said}", "" if got == "done" else got
+                stack = besides + depth * figure
+                yield Check(f"{name}, {depth} {said}", partial(not_done, call, depth, form, stack))
             if not figure or call.depths != UNLIMITED:
-                got = answer(program, call, LIMIT, long_input(call.make, form), SMALL)
-                is_well = REJECTED.search(got) if figure else got == "done"
-                yield f"{name}, {LONG} bytes of {said}", "" if is_well else got or "nothing"
+                of_long = partial(wrong_of_long, call, form, SMALL, figure > 0)
+                yield Check(f"{name}, {LONG} bytes of {said}", of_long)
         if figure:
-            deep, stack = call.depths[-1], besides + call.depths[-1] * figure // 2
-            halves = [answer(program, call, deep, call.make(form, deep), stack) for form in FORMS.values()]
-            yield f"{name}, half of the stack", "it is enough" if "status -11" not in halves else ""
+            stack = besides + call.depths[-1] * figure // 2
+            yield Check(f"{name}, half of the stack", partial(enough, call, stack))
 
 
-def column_of(program: Program) -> int:
-    return program.column if isinstance(program, Threaded) else 0
+def not_done(call: Call, depth: int, form: str, stack: int, program: Program) -> str:
+    """What a call returns, if it isn't done."""
+    got = answer(program, call, depth, call.make(form, depth), stack)
+    return "" if got == "done" else got or "nothing"
+
+
+def wrong_of_long(call: Call, form: str, stack: int, is_limited: bool, program: Program) -> str:
+    """What a call returns of what no limit lets through, if it doesn't reject it, or isn't done without a limit."""
+    got = answer(program, call, LIMIT, long_input(call.make, form), stack)
+    is_well = REJECTED.search(got) if is_limited else got == "done"
+    return "" if is_well else got or "nothing"
+
+
+def whatever(wrong: str, _: Program) -> str:
+    """What is wrong whatever a program returns."""
+    return wrong
+
+
+def enough(call: Call, stack: int, program: Program) -> str:
+    """Whether a stack is enough for what nests deepest, in each form."""
+    deepest = call.depths[-1]
+    answers = [answer(program, call, deepest, call.make(form, deepest), stack) for form in FORMS.values()]
+    return "" if "status -11" in answers else "it is enough"
 
 
 class InHeader(NamedTuple):
@@ -239,26 +264,28 @@ def in_header(column: int) -> InHeader:
     return InHeader(limits, int(besides) << 10, figures, int(most) << 10)
 
 
-def recommended(program: Threaded) -> Iterator[tuple[str, str]]:
-    """Yields the name of each check of the calls for C with the header's limits, and what was returned instead.
+def recommended(column: int = 0) -> Iterator[Check]:
+    """Yields the checks of the calls for C with the header's limits.
 
     Each is done on the stack that the header's figures make, which is at most what it names for these limits. What nests
     deeper is rejected on the latter.
     """
-    limits, besides, figures, thread = in_header(program.column)
-    of_page = {name: figure for name, figure in table(program.column)[0].items() if name in FOR_C}
-    yield "the header's figures", "" if figures == of_page else f"those of {PAGE.name} are {of_page}"
+    limits, besides, figures, thread = in_header(column)
+    of_page = {name: figure for name, figure in table(column)[0].items() if name in FOR_C}
+    other = "" if figures == of_page else f"those of {PAGE.name} are {of_page}"
+    yield Check("the header's figures", partial(whatever, other))
     for name, call in FOR_C.items():
         limit = limits["AMQPV_JSON_DEPTH" if "json" in name else "AMQPV_DEPTH"]
         stack = besides + limit * figures.get(name, thread)
-        yield f"{name}, {limit} deep", f"by the header it takes {stack} bytes of stack" if stack > thread else ""
+        over = f"by the header it takes {stack} bytes of stack" if stack > thread else ""
+        yield Check(f"{name}, {limit} deep", partial(whatever, over))
         for said, form in FORMS.items():
             for size in (stack, thread):
-                got = answer(program, call, limit, call.make(form, limit), size)
-                yield f"{name}, {limit} {said} on {size} bytes of stack", "" if got == "done" else got
-            got = answer(program, call, limit, long_input(call.make, form), thread)
-            wrong = "" if REJECTED.search(got) else got or "nothing"
-            yield f"{name}, {LONG} bytes of {said} on {thread} bytes of stack", wrong
+                yield Check(
+                    f"{name}, {limit} {said} on {size} bytes of stack", partial(not_done, call, limit, form, size)
+                )
+            of_long = partial(wrong_of_long, call, form, thread, True)
+            yield Check(f"{name}, {LONG} bytes of {said} on {thread} bytes of stack", of_long)
 
 
 def least(program: Program, call: Call, depth: int) -> int:

@@ -2,14 +2,11 @@
 
 import time
 from pathlib import Path
-from typing import Any
 
 import pytest
 
 from tests.oracle.crate import Driver, build
 from tests.oracle.sides import named
-
-NOTES: list[str] = []
 
 
 def pytest_addoption(parser: pytest.Parser) -> None:
@@ -26,20 +23,9 @@ def pytest_configure(config: pytest.Config) -> None:
         config.option.seed = int(time.time())
 
 
-def pytest_terminal_summary(terminalreporter: Any) -> None:
-    for note in NOTES:
-        terminalreporter.write_line(note)
-
-
-@pytest.fixture
-def notes() -> list[str]:
-    """Lines that are printed at the end."""
-    return NOTES
-
-
 @pytest.fixture(scope="session")
-def driver(request: pytest.FixtureRequest) -> Driver:
+def driver(request: pytest.FixtureRequest, notes: list[str]) -> Driver:
     """What asks the Rust crate."""
     found = build(request.config.getoption("--crate"), request.config.getoption("--packages"))
-    NOTES.append(f"over nom {found.nom}")
+    notes.append(f"over nom {found.nom}")
     return found

@@ -1,4 +1,4 @@
-"""The broker, which all tests share, and what is noted by them for the end."""
+"""The broker, which all tests share."""
 
 import os
 import signal
@@ -15,22 +15,11 @@ from tests.rabbitmq.wire import Connection
 
 # The minutes that all of it takes at most.
 MINUTES = 15
-NOTES: list[str] = []
 
 
 def pytest_addoption(parser: pytest.Parser) -> None:
     group = parser.getgroup("this repository")
     group.addoption("--tables", type=int, default=10000, help="how many random tables are sent (10000)")
-
-
-def pytest_terminal_summary() -> None:
-    print("", *NOTES, sep="\n")
-
-
-@pytest.fixture
-def notes() -> list[str]:
-    """Lines that are printed at the end."""
-    return NOTES
 
 
 @pytest.fixture(scope="session")

@@ -1,0 +1,72 @@
+"""How C is compiled over the libraries of the calls for C, and run."""
+
+import re
+import subprocess
+from collections.abc import Sequence
+from pathlib import Path
+from typing import Any
+
+from building import CALLS_FOR_C, MALLOC, archive
+from crates import TOP, Crates
+
+HERE = Path(__file__).resolve().parent
+HEADER, EXAMPLES = TOP / "include/amqp_values.h", TOP / "examples/c"
+CRATES = Crates()
+PLAIN, ALLOCATING = CALLS_FOR_C
+FLAGS = ["-std=c11", "-Wall", "-Wextra", "-Werror", f"-I{HEADER.parent}"]
+C = ["cc", *FLAGS]
+LIBRARIES = {crate: archive(CRATES, crate) for crate in CALLS_FOR_C}
+LINKED = (*LIBRARIES.values(), MALLOC)
+# What programs of check.h are linked with.
+WRAPPED = [f"-Wl,--wrap={it}" for it in ("malloc", "realloc", "free")]
+# The processor by which what is compiled for aarch64 is run, which has what each has.
+OF_AARCH64 = ["qemu-aarch64", "-L", "/usr/aarch64-linux-gnu", "-cpu", "cortex-a53"]
+
+Words = Sequence[str | Path]
+Done = subprocess.CompletedProcess[str]
+
+
+def run(words: Words, text: bool = True, **others: Any) -> Done:
+    """Runs a command."""
+    texts = [str(it) for it in words]
+    try:
+        return subprocess.run(texts, capture_output=True, text=text, **others)
+    except FileNotFoundError:
+        return Done(texts, 127, "", f"{texts[0]} is missing (.ci/setup installs it)")
+
+
+def assert_well(done: Done) -> None:
+    """A command ended well."""
+    assert done.returncode == 0, (done.stderr or done.stdout)[-1000:]
+
+
+def printed(words: Words, **others: Any) -> str:
+    """What a command prints that ends well."""
+    done = run(words, **others)
+    assert_well(done)
+    return done.stdout
+
+
+def wraps(source: Path) -> list[str]:
+    """The flags that a program of check.h is linked with."""
+    return WRAPPED if '#include "check.h"' in source.read_text() else []
+
+
+def compiled(source: Path, to: Path, words: Words = C, options: Words = (), libraries: Words = LINKED) -> Path:
+    """Compiles and links a C program, and returns its path."""
+    # (tests hold keys and JSON as bytes)
+    plain = ["-Wno-pointer-sign"] * (source.parent != EXAMPLES)
+    assert_well(run([*words, "-O1", *plain, *options, "-o", to, source, *libraries]))
+    return to
+
+
+def symbols(path: Path, *words: str, kinds: str = "A-Za-z") -> set[str]:
+    """The symbols of a library that nm lists by these words, and that are of these kinds."""
+    lines = printed(["nm", *words, path]).splitlines()
+    return {line.split()[-1] for line in lines if re.search(f" [{kinds}] ", line)}
+
+
+def version() -> str:
+    """The header's version."""
+    found = re.search(r'(?m)^#define AMQPV_VERSION "(.*)"$', HEADER.read_text())
+    return found[1] if found else ""

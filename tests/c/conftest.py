@@ -1,0 +1,102 @@
+"""What the tests of the calls for C are given: the libraries, what is made of them, and a folder to work in."""
+
+import shutil
+import tempfile
+from collections.abc import Iterator
+from concurrent.futures import ThreadPoolExecutor
+from functools import partial
+from pathlib import Path
+
+import pytest
+from building import AARCH64, CALLS_FOR_C, build_archive
+from crates import TOP
+
+from tests.c.compiling import C, CRATES, assert_well, run
+from tests.left_out import leave_out
+from tests.notes import NOTES
+
+MAY_BE_LEFT_OUT = ("clang", "old-processor", "aarch64")
+SANITIZERS = ["-fsanitize=address,undefined", "-fno-sanitize-recover=all"]
+
+
+def pytest_addoption(parser: pytest.Parser) -> None:
+    group = parser.getgroup("this repository")
+    group.addoption("--root", action="store_true", help="use packages in a fresh root, for which it has to be root")
+    left_out = ", ".join(MAY_BE_LEFT_OUT)
+    group.addoption("--without", action="append", default=[], metavar="NAME", help=f"leave out one of {left_out}")
+
+
+def pytest_configure(config: pytest.Config) -> None:
+    config.addinivalue_line(
+        "markers", "needs(name, ..): options, or what --without names, without which a test isn't tried"
+    )
+    if others := {*config.getoption("--without")} - {*MAY_BE_LEFT_OUT}:
+        raise pytest.UsageError(f"--without takes one of {', '.join(MAY_BE_LEFT_OUT)}, and not {', '.join(others)}")
+    lacks = [it for it in ("rt", "cc", "c++", "nm") if not shutil.which(it)]
+    if lacks:
+        raise pytest.UsageError(
+            f"tests/c/run needs {', '.join(lacks)} (rt is of the Rattle kit, .ci/setup has all else)"
+        )
+
+
+def pytest_collection_modifyitems(config: pytest.Config, items: list[pytest.Item]) -> None:
+    """Leaves out the tests that --without names, and those that need options that aren't given."""
+    NOTES.extend(leave_out(config, items, lambda it: lacking(config, it)))
+
+
+def lacking(config: pytest.Config, item: pytest.Item) -> str:
+    """What a test needs and isn't there."""
+    needs = dict.fromkeys(str(name) for mark in item.iter_markers("needs") for name in mark.args)
+    without = config.getoption("--without")
+    return " and ".join(it for it in needs if it in without or it.startswith("--") and not config.getoption(it))
+
+
+@pytest.fixture(scope="session")
+def folder() -> Iterator[Path]:
+    """A folder to work in, which isn't kept."""
+    with tempfile.TemporaryDirectory(prefix="calls-for-c-") as name:
+        yield Path(name)
+
+
+@pytest.fixture(scope="session")
+def libraries(request: pytest.FixtureRequest) -> None:
+    """The libraries are built, two at a time if nothing is proved."""
+    is_built = bool(request.config.getoption("--built"))
+    with ThreadPoolExecutor(2 if is_built else 1) as pool:
+        for done in [*pool.map(partial(build_archive, CRATES, is_built=is_built), CALLS_FOR_C)]:
+            assert_well(done)
+
+
+@pytest.fixture(scope="session")
+def sanitizers(folder: Path, notes: list[str]) -> list[str]:
+    """The flags of the sanitizers, if they link."""
+    probe = folder / "probe.c"
+    probe.write_text("int main(void) { return 0; }\n")
+    if run([*C, *SANITIZERS, "-o", folder / "probe", probe]).returncode == 0:
+        return SANITIZERS
+    notes.append("the sanitizers don't link, so C is compiled without them")
+    return []
+
+
+@pytest.fixture(scope="session")
+def made(libraries: None, folder: Path) -> Path:
+    """What .ci/dist makes."""
+    path = folder / "dist"
+    assert_well(run([TOP / ".ci/dist", "--built", path]))
+    return path
+
+
+@pytest.fixture(scope="session")
+def made_for_aarch64(libraries: None, folder: Path) -> Path:
+    """What it makes for aarch64."""
+    path = folder / "aarch64"
+    assert_well(run([TOP / ".ci/dist", "--built", "--target", AARCH64, path]))
+    return path
+
+
+@pytest.fixture(scope="session")
+def prefix(made: Path, folder: Path) -> Path:
+    """Where that is installed."""
+    path = folder / "installed"
+    assert_well(run(["make", "-C", TOP, "install", f"FOLDER={made}", f"PREFIX={path}"]))
+    return path

@@ -1,0 +1,47 @@
+"""What installed pages have: commands, what these print, and the names of files."""
+
+import re
+from pathlib import Path
+
+# What a page names that has to be there: what is in `code` and a path, or a file's name.
+NAMED = re.compile(r"`([\w./-]+\.(?:[ch]|py|so|a|md|antt|rt|rows|t|pc|cmake)|[\w.-]+/[\w./-]+)`|\]\(([^)#]+)")
+# What is no file, though it looks like one, or is one that a reader makes.
+NO_FILES = {"/usr/local", "CMakeLists.txt"}
+# What isn't run: what needs to be root, or another program.
+NOT_RUN = ("sudo ", "LD_PRELOAD", "cc -o consumer", "musl-gcc ")
+
+
+def names_that_lack(doc: Path, top: Path) -> list[str]:
+    """The names that the pages of a folder have, of what isn't below another."""
+    installed = {it.name for it in top.rglob("*")} | {str(it.relative_to(top)) for it in top.rglob("*")}
+
+    def is_there(name: str) -> bool:
+        return name in installed or (doc / name).exists() or name.rstrip("/") in installed
+
+    pages = sorted(doc.glob("*.md"))
+    assert pages, f"{doc.name} has no page"
+    named = [(it.name, code or link) for it in pages for code, link in NAMED.findall(it.read_text())]
+    return sorted(
+        {f"{page}: {it}" for page, it in named if it not in NO_FILES and "://" not in it and not is_there(it)}
+    )
+
+
+def commands_of_first(page: str) -> tuple[str, str]:
+    """The commands of a page's first example, and what they print."""
+    block = page.partition("```console\n")[2].partition("```")[0].splitlines()
+    commands = "\n".join(it[2:] for it in block if it.startswith("$ "))
+    return commands, "".join(f"{it}\n" for it in block if not it.startswith("$ "))
+
+
+def commands_of_linking(page: str) -> tuple[list[str], str]:
+    """The commands of docs/C.md about linking, and what they print."""
+    section = page.partition("## Install and link")[2]
+    tried, wanted, is_shown = ["make() { :; }"], "", False
+    for line in "\n".join(re.findall(r"(?ms)^```console\n(.*?)^```", section)).splitlines():
+        if line.startswith("$ "):
+            is_shown = not line[2:].startswith(NOT_RUN)
+            # (once the page has the program look there by itself, nothing else does)
+            tried += ["unset LD_LIBRARY_PATH"] * ("-rpath" in line) + [line[2:]] * is_shown
+        elif is_shown:
+            wanted += f"{line}\n" if line else ""
+    return tried, wanted

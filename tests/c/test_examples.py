@@ -1,0 +1,83 @@
+"""The examples of examples/c, by the transcripts that have their names (tests/transcripts.py).
+
+They are compiled by both compilers, and run on an old processor too, as qemu has it; with --built for aarch64, run by qemu.
+Standard error isn't compared, which sanitizers and processors of qemu write to.
+"""
+
+from collections.abc import Callable
+from functools import cache
+from pathlib import Path
+from typing import NamedTuple
+
+import pytest
+from building import AARCH64, COMPILERS
+
+from tests.c.compiling import EXAMPLES, FLAGS, LINKED, OF_AARCH64, C, Words, compiled
+from tests.c.running import assert_as_transcript
+from tests.transcripts import Case, cases
+
+
+class Way(NamedTuple):
+    """A way to compile an example and to run it: by these words, and with what isn't left out."""
+
+    words: Words = C
+    run_by: Words = ()
+    needs: tuple[str, ...] = ()
+
+
+# One processor is as old as x86-64 itself but for SSE3.
+OLD_PROCESSOR = ["qemu-x86_64", "-cpu", "Opteron_G1-v1"]
+CC_OF_AARCH64 = [COMPILERS[AARCH64][0], *FLAGS]
+SANITIZED, ON_AARCH64 = "sanitized", "on aarch64"
+WAYS = {
+    SANITIZED: Way(),
+    "by clang": Way(["clang", *FLAGS], needs=("clang",)),
+    "on an old processor": Way(run_by=OLD_PROCESSOR, needs=("old-processor",)),
+    ON_AARCH64: Way(CC_OF_AARCH64, OF_AARCH64, ("--built", "aarch64")),
+}
+FOUND = [(it.stem, case) for it in sorted(EXAMPLES.glob("*.c")) for case in cases(it.with_suffix(".t")).values()]
+CASES = [
+    pytest.param(way, name, case, id=f"{name}, {case.name}, {way}", marks=pytest.mark.needs(*WAYS[way].needs))
+    for way in WAYS
+    for name, case in FOUND
+]
+Build = Callable[[str, str], Path]
+
+
+@pytest.fixture(scope="module")
+def build(request: pytest.FixtureRequest, libraries: None, folder: Path) -> Build:
+    """Compiles an example in a way."""
+
+    @cache
+    def built(way: str, name: str) -> Path:
+        options = request.getfixturevalue("sanitizers") if way == SANITIZED else []
+        linked: Words = LINKED
+        if way == ON_AARCH64:
+            linked = [request.getfixturevalue("made_for_aarch64") / "lib/libamqp_values.a"]
+        return compiled(EXAMPLES / f"{name}.c", folder / f"{name} {way}", WAYS[way].words, options, linked)
+
+    return built
+
+
+@pytest.mark.parametrize(("way", "name", "case"), CASES)
+def test_case(build: Build, way: str, name: str, case: Case) -> None:
+    assert_as_transcript(case, [*WAYS[way].run_by, build(way, name)])
+
+
+SHARED = "count_deaths"
+CASES_OF_SHARED = cases(EXAMPLES / f"{SHARED}.t")
+
+
+@pytest.fixture(scope="module")
+def over_shared(made_for_aarch64: Path, folder: Path) -> Words:
+    """An example over the shared object for aarch64, and what runs it."""
+    lib = made_for_aarch64 / "lib"
+    shared = [f"-L{lib}", "-lamqp_values"]
+    program = compiled(EXAMPLES / f"{SHARED}.c", folder / "over shared", CC_OF_AARCH64, libraries=shared)
+    return [*OF_AARCH64, "-E", f"LD_LIBRARY_PATH={lib}", program]
+
+
+@pytest.mark.needs("--built", "aarch64")
+@pytest.mark.parametrize("case", CASES_OF_SHARED.values(), ids=CASES_OF_SHARED)
+def test_case_over_shared_object_on_aarch64(over_shared: Words, case: Case) -> None:
+    assert_as_transcript(case, over_shared)

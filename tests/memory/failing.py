@@ -1,0 +1,113 @@
+"""Runs of the programs, as `rt ci` left them, in which calls of the system fail: fail_alloc.c is preloaded."""
+
+import itertools
+import os
+import subprocess
+from collections.abc import Iterator, Sequence
+from functools import cache
+from pathlib import Path
+from typing import NamedTuple
+
+from building import is_up_to_date
+from crates import TOP, Crates
+
+from tests.transcripts import Ending, cases
+
+Words = Sequence[str | Path]
+
+# Allocating functions that fail_alloc.c doesn't wrap.
+NOT_WRAPPED = [b"calloc", b"memalign", b"posix_memalign", b"valloc", b"reallocarray", b"mmap", b"sbrk"]
+
+
+@cache
+def program(name: str) -> Path:
+    """The built program of the crate, which is no older than its sources."""
+    built = TOP / "crates" / name / "out" / name
+    assert is_up_to_date(built, Crates(), name, ["src"]), f"{name} isn't there, or is older than its sources: run rt ci"
+    names = built.read_bytes().split(b"\0")
+    found = [it.decode() for it in NOT_WRAPPED if it in names]
+    assert not found, f"{name} allocates by {', '.join(found)}, which fail_alloc.c doesn't wrap"
+    return built
+
+
+class Run(NamedTuple):
+    """How a run ended, and the numbers of its allocations, reads and writes, and of the bytes that it asked for."""
+
+    ending: Ending
+    allocations: int
+    reads: int
+    writes: int
+    asked: int
+
+
+class Preloaded(NamedTuple):
+    """What is preloaded, as it is built."""
+
+    library: Path
+
+    def run(self, words: Words, given: bytes = b"", **how: str) -> Run:
+        """Runs a program."""
+        reads, writes = os.pipe()
+        env = {"LD_PRELOAD": str(self.library), "COUNTS_TO": str(writes), **how}
+        done = subprocess.run(words, input=given, env=env, pass_fds=[writes], capture_output=True, timeout=60)
+        os.close(writes)
+        with os.fdopen(reads) as counts:
+            numbers = counts.read().split() or ["-1"] * 4
+        return Run(Ending(done.stdout, done.stderr, done.returncode), *map(int, numbers))
+
+    def each_failed(self, words: Words, given: bytes = b"", **how: str) -> Iterator[tuple[int, Run]]:
+        """Yields n, and the run in which allocation n fails; at last n, and the run that makes fewer."""
+        for n in itertools.count(1):
+            run = self.run(words, given, FAIL_ALLOC=str(n), **how)
+            yield n, run
+            if run.allocations < n:
+                return
+
+
+class Stored(NamedTuple):
+    """A run of a program that is stored: its words, what comes in, and how it ends if nothing fails."""
+
+    words: list[str]
+    given: bytes
+    wants: Ending
+
+    def typed(self) -> Words:
+        """The words, of which the first is the program's path."""
+        return [program(self.words[0]), *self.words[1:]]
+
+
+# The stored input and output of amqp_wire.
+GIVEN, STORED = ((TOP / "crates/amqp_wire" / it).read_bytes() for it in ("stdin", "stdout"))
+# A stream of three values, of which the last is cut, and its lines.
+STREAM = bytes.fromhex("56 4600000003016156 5300000005")
+STREAM_LINES = b"value 56\nvalue 4600000003016156\ntruncated\n"
+# Cases of tests/show: a tree, parts, JSON, encodings and a message, a stream, a table without type tag, what
+# RabbitMQ rejects.
+SHOWN = """repeated_keys number_past_array json_follow encode_raw encode_number stream_keep_going_json table_canonical
+    check_not_finite_inside""".split()
+
+
+def stored_runs() -> dict[str, Stored]:
+    """Runs of both programs, by name."""
+    runs = {
+        "amqp_wire": Stored(["amqp_wire"], GIVEN, Ending(STORED, b"", 0)),
+        "amqp_wire --stream": Stored(["amqp_wire", "--stream"], STREAM, Ending(STREAM_LINES, b"", 0)),
+    }
+    shown = cases(TOP / "tests/show")
+    of_show = {name: shown[name] for name in SHOWN}
+    return runs | {
+        f"amqp_show {name}": Stored([case.program, *case.words], case.given, case.wants)
+        for name, case in of_show.items()
+    }
+
+
+# The status and the message with which each program runs out of memory.
+NO_MEMORY = {"amqp_wire": (1, b"amqp_wire: out of memory\n"), "amqp_show": (2, b"amqp_show: out of memory\n")}
+
+
+def is_out_of_memory(name: str, ended: Ending, wants: Ending) -> bool:
+    """Whether a program ended for want of memory, and until then wrote what it writes otherwise."""
+    status, message = NO_MEMORY[name]
+    said = ended.error.removesuffix(message)
+    is_told = ended.status == status and said != ended.error
+    return is_told and wants.out.startswith(ended.out) and wants.error.startswith(said)

@@ -1,0 +1,295 @@
+"""Each allocation fails in turn, and each read and write, and what is returned then is judged.
+
+Each case of crates/test_alloc_failure runs with its first allocation failing, then with its second, until a run makes
+fewer. Only allocations of the case's calls count. A call whose allocation fails returns an error that the program's
+--list has for the case, and leaves all unchanged; made again, it returns what the crate's file `stdout` has. A case that
+--list has no error for allocates nothing. The bytes that the others ask for, whether they get them or not, add up to at
+most a multiple of their input: requests.rows has a line `CASE INPUT TIMES` for each, how many bytes its calls are given,
+and how many they may ask for of each of them.
+
+amqp_wire runs so over its stored input, amqp_show on some cases; and both, in each of their forms, have too little
+address space for a long string. The reads and writes of a run of each program fail in turn, the first of each with each
+of the system's errors, and the first write by taking nothing; and once they are of one byte each. At last both programs
+get a length of 4 GiB and little of what it claims: they must allocate little then.
+"""
+
+import errno
+import itertools
+import os
+import resource
+import subprocess
+from collections import Counter
+from collections.abc import Callable
+from pathlib import Path
+from typing import NamedTuple
+
+import pytest
+from crates import TOP
+from steps import within
+
+from tests.memory.failing import NO_MEMORY, Preloaded, Stored, is_out_of_memory, program, stored_runs
+from tests.transcripts import Ending
+
+CASES = "test_alloc_failure"
+# Failures that a case's calls recover from. The kit's `collect` asks for as much capacity as its iterator
+# promises items, and if that fails for less.
+RECOVERED = {"value_of_many_pairs": 1, "from_pairs": 2, "amqp_show": 1}
+# The most bytes that each case may ask for.
+ROWS = [it.split(" ") for it in Path(__file__).with_name("requests.rows").read_text().splitlines()]
+MOST = {name: int(size) * int(times) for name, size, times in ROWS}
+# A program may allocate fewer bytes than these for a length that claims more, in all.
+MOST_ALLOCATED = 1 << 20
+Written = Callable[[bytes], bytes]
+
+
+# Allocations
+
+
+def wanted_lines() -> dict[str, list[str]]:
+    """What each case prints, by the crate's file stdout."""
+    text = "\n" + (TOP / "crates" / CASES / "stdout").read_text()
+    return {lines[0]: lines[1:] for lines in (it.splitlines() for it in text.split("\ncase ")[1:])}
+
+
+WANTED, RUNS = wanted_lines(), stored_runs()
+
+
+@pytest.fixture(scope="session")
+def errors() -> dict[str, list[str]]:
+    """What --list has for each case."""
+    listed = subprocess.run([program(CASES), "--list"], capture_output=True, check=True).stdout.decode().splitlines()
+    return {name: of_name for name, *of_name in (it.split("\t") for it in listed)}
+
+
+def without_failure(lines: list[str], errors: list[str]) -> list[str] | None:
+    """The lines without the failed call's, if its error is one of these and it left all unchanged."""
+    at = next((n for n, it in enumerate(lines) if it in [f"refused {error}" for error in errors]), None)
+    if at is None:
+        return None
+    state = [it.partition(" ") for it in lines[at + 1 : at + 3]]
+    if [it[0] for it in state] != ["had", "left"] or state[0][2] != state[1][2]:
+        return None
+    return lines[:at] + lines[at + 3 :]
+
+
+def test_each_listed_case_is_in_stdout(errors: dict[str, list[str]]) -> None:
+    assert {*errors} == {*WANTED}
+
+
+def test_each_case_that_allocates_has_a_row(errors: dict[str, list[str]]) -> None:
+    assert {name for name, of_name in errors.items() if of_name} == {*MOST}
+
+
+@pytest.mark.parametrize("name", WANTED)
+def test_case(name: str, errors: dict[str, list[str]], preloaded: Preloaded, failed: Counter[str]) -> None:
+    of_name, recovered, count = errors[name], 0, 0
+    for n, run in preloaded.each_failed([program(CASES), name]):
+        has_failed = run.allocations >= n
+        lines, how = run.ending.out.decode().splitlines()[1:], f"run {n}, {has_failed=}"
+        # a call that fails is made once more
+        assert run.asked <= MOST.get(name, 0) * (2 if has_failed else 1), how
+        assert run.ending.status == 0, how
+        if has_failed and lines != WANTED[name]:
+            assert without_failure(lines, of_name) == WANTED[name], "\n".join([how, *lines])
+        else:
+            assert lines == WANTED[name], how
+            recovered += has_failed
+        count += has_failed
+    failed["allocations"] += count
+    assert recovered == RECOVERED.get(name, 0)
+    assert (count > 0) == bool(of_name), f"{count} allocations, where --list has {of_name}"
+
+
+@pytest.mark.parametrize("stored", RUNS.values(), ids=RUNS)
+def test_stored_run(stored: Stored, preloaded: Preloaded, failed: Counter[str]) -> None:
+    name, recovered = stored.words[0], 0
+    for n, run in preloaded.each_failed(stored.typed(), stored.given, FAIL_ANYWHERE="1"):
+        has_failed = run.allocations >= n
+        assert run.asked < MOST_ALLOCATED, f"run {n}"
+        if not has_failed or run.ending == stored.wants:
+            assert run.ending == stored.wants, f"run {n}"
+            recovered += has_failed
+        else:
+            assert is_out_of_memory(name, run.ending, stored.wants), f"run {n}: {run.ending}"
+        failed["allocations"] += has_failed
+    assert recovered == RECOVERED.get(name, 0)
+
+
+# Address space
+
+# The forms of amqp_show, and what lets a value of any size through.
+FORMS: list[list[str]] = [[], ["--json"], ["--bytes"], ["--stream"], ["--stream", "--json"], ["--stream", "--bytes"]]
+ANY_SIZE = ["--max-bytes", "4294967295"]
+# How much more address space each run has, which is how much comes in.
+STEP = 8 << 20
+
+
+def as_it_is(data: bytes) -> bytes:
+    return data
+
+
+def as_hexadecimal(data: bytes) -> bytes:
+    return data.hex().encode()
+
+
+def as_a_line(data: bytes) -> bytes:
+    return as_hexadecimal(data) + b"\n"
+
+
+def as_json(string: bytes) -> bytes:
+    """A string's JSON, of its encoding."""
+    return b'"%s"' % string[5:]
+
+
+# The programs with their words, and how a value is written for them.
+OF_WIRE: list[tuple[list[str], Written]] = [(["amqp_wire"], as_a_line), (["amqp_wire", "--stream"], as_it_is)]
+OF_SHOW: list[tuple[list[str], Written]] = [(["amqp_show", *form, *ANY_SIZE], as_it_is) for form in FORMS]
+HEXADECIMAL: list[tuple[list[str], Written]] = [
+    (["amqp_show", *form, "--hex", *ANY_SIZE], as_hexadecimal) for form in FORMS
+]
+TO_JSON: list[tuple[list[str], Written]] = [(["amqp_show", "--encode"], as_json)]
+
+
+def named(forms: list[tuple[list[str], Written]]) -> pytest.MarkDecorator:
+    """A test of each of these."""
+    names = [" ".join(it for it in words if it not in ANY_SIZE) for words, _ in forms]
+    return pytest.mark.parametrize(("words", "written"), forms, ids=names)
+
+
+@named([*OF_SHOW, HEXADECIMAL[0], *TO_JSON, *OF_WIRE])
+def test_little_address_space(words: list[str], written: Written) -> None:
+    """A long string, with ever more address space: at first it is too little, and in the end all is as with any."""
+    name, given = words[0], written(b"S" + STEP.to_bytes(4, "big") + b"a" * STEP)
+    typed: list[str | Path] = [program(name), *words[1:]]
+    done = subprocess.run(typed, input=given, capture_output=True, timeout=60)
+    wants = Ending(done.stdout, done.stderr, done.returncode)
+    assert (wants.status, wants.error) == (0, b"")
+    for count in itertools.count():
+        done = within(resource.RLIMIT_AS, STEP * (count + 2), typed, given)
+        ended = Ending(done.stdout, done.stderr, done.returncode)
+        if not is_out_of_memory(name, ended, wants):
+            break
+    assert count > 0
+    assert ended == wants, f"with {count + 2} times {STEP} bytes"
+
+
+# Reads and writes
+
+
+class Call(NamedTuple):
+    """A call that fails: its name here, and the variable of fail_alloc.c that says which."""
+
+    name: str
+    variable: str
+
+
+# A call and an error, in which the call then fails; or 0, if it moves nothing.
+Failure = tuple[Call, int]
+READ, WRITE = Call("reads", "FAIL_READ"), Call("writes", "FAIL_WRITE")
+# With these each read and each write fails in turn, with the others the first.
+EACH_CALL = (errno.EIO, errno.EPIPE, errno.ENOMEM)
+NOTHING = 0
+FAILURES: list[Failure] = [*((call, it) for call in (READ, WRITE) for it in errno.errorcode), (WRITE, NOTHING)]
+
+
+def of_wire(call: Call, error: int) -> tuple[int, bytes] | None:
+    """The status and the message with which amqp_wire ends if a call fails so; or None if it is made again."""
+    if (call, error) == (READ, errno.EINTR):
+        return None
+    return NO_MEMORY["amqp_wire"] if error == errno.ENOMEM else (2, b"amqp_wire: input or output failed\n")
+
+
+def of_show(call: Call, error: int) -> tuple[int, bytes] | None:
+    """So for amqp_show: a closed pipe ends it silently, and too little memory for a write is an error like others."""
+    if error == errno.EINTR:
+        return None
+    why = f"{os.strerror(error)} (os error {error})" if error else "failed to write whole buffer"
+    if call == WRITE:
+        return 2, b"" if error == errno.EPIPE else f"amqp_show: the output can't be written: {why}\n".encode()
+    if error == errno.ENOMEM:
+        return NO_MEMORY["amqp_show"]
+    return 2, f'amqp_show: "-": can\'t be read: {why}\n'.encode()
+
+
+ON_DEVICES = {"amqp_wire": of_wire, "amqp_show repeated_keys": of_show}
+on_devices = pytest.mark.parametrize("name", ON_DEVICES)
+
+
+def error_name(error: int) -> str:
+    return errno.errorcode.get(error, "nothing is taken")
+
+
+def assert_ended_by(ended: Ending, name: str, call: Call, error: int) -> None:
+    """A run ended as it should if the call failed with the error before all was written."""
+    wants, said = RUNS[name].wants, ON_DEVICES[name](call, error)
+    if said is None:
+        assert ended == wants
+    else:
+        assert (ended.status, ended.error) == said
+        assert wants.out.startswith(ended.out) and ended.out != wants.out
+
+
+@on_devices
+@pytest.mark.parametrize(
+    ("call", "error"), FAILURES, ids=[f"{call.name}, {error_name(error)}" for call, error in FAILURES]
+)
+def test_call_fails(name: str, call: Call, error: int, preloaded: Preloaded, failed: Counter[str]) -> None:
+    """Each of these calls fails in turn, or the first."""
+    stored = RUNS[name]
+    for n in itertools.count(1):
+        run = preloaded.run(stored.typed(), stored.given, **{call.variable: str(n), "FAIL_WITH": str(error)})
+        if getattr(run, call.name) < n:
+            assert run.ending == stored.wants
+            break
+        failed[call.name] += 1
+        assert_ended_by(run.ending, name, call, error)
+        if error not in EACH_CALL:
+            return
+    assert n > 1
+
+
+@on_devices
+@pytest.mark.parametrize("error", (*EACH_CALL, NOTHING), ids=error_name)
+def test_last_byte_fails(name: str, error: int, preloaded: Preloaded, failed: Counter[str]) -> None:
+    """All moves byte by byte, and the last fails."""
+    stored = RUNS[name]
+    how = {"ONE_BYTE": "1", "FAIL_WRITE": str(len(stored.wants.out)), "FAIL_WITH": str(error)}
+    ended = preloaded.run(stored.typed(), stored.given, **how).ending
+    failed[WRITE.name] += 1
+    assert ended.out == stored.wants.out[:-1]
+    assert_ended_by(ended, name, WRITE, error)
+
+
+@on_devices
+def test_byte_by_byte(name: str, preloaded: Preloaded) -> None:
+    stored = RUNS[name]
+    assert preloaded.run(stored.typed(), stored.given, ONE_BYTE="1").ending == stored.wants
+
+
+# Claims
+
+# Inputs: a type tag, the greatest length that fits any limit, and a few of the bytes that it claims; of a
+# string also enough that a reader has to grow its buffer.
+LENGTH = b"\xff\xff\xff\xfa"
+CLAIMS = {f"4 GiB of {chr(tag)}": bytes([tag]) + LENGTH + b"VVV" for tag in b"SxAF"}
+CLAIMS["4 GiB of S, some"] = b"S" + LENGTH + b"V" * 20_000
+CLAIMING = named([*OF_SHOW, *HEXADECIMAL, *OF_WIRE])
+
+
+def allocated(preloaded: Preloaded, words: list[str], given: bytes) -> int:
+    """How many bytes a program allocates, in all."""
+    return preloaded.run([program(words[0]), *words[1:]], given, FAIL_ANYWHERE="1").asked
+
+
+@CLAIMING
+@pytest.mark.parametrize("claim", CLAIMS.values(), ids=CLAIMS)
+def test_claim(words: list[str], written: Written, claim: bytes, preloaded: Preloaded) -> None:
+    """Little is allocated for a length of which little comes."""
+    assert 0 < allocated(preloaded, words, written(claim)) < MOST_ALLOCATED
+
+
+@CLAIMING
+def test_what_comes_is_counted(words: list[str], written: Written, preloaded: Preloaded) -> None:
+    """More is allocated if as much comes, which shows that the bytes are counted."""
+    string = b"S" + MOST_ALLOCATED.to_bytes(4, "big") + b"V" * MOST_ALLOCATED
+    assert allocated(preloaded, words, written(string)) >= MOST_ALLOCATED

@@ -1,0 +1,115 @@
+"""The programs, as rt ci left them, at the sizes that a user has.
+
+No clause can state that memory sufficed, so a body that runs out of it above a size is proved. Each call that may run out
+of memory is made on what has 256 MiB, and a million values or 250,000 pairs (crates/test_hostile), and `escape` on 128 MiB of
+unprintable bytes, each of which it writes as four. Lines of 512 MiB, a million of them, and a stream go through amqp_wire;
+a string of 256 MiB and a million values through amqp_show, as JSON, as a tree and from JSON. What they must print is made
+in large.py. A program may have 4 GiB of address space, and to escape 10 bytes of it for each that is read.
+
+Then the calls that recurse, through test_hostile, on small stacks (those of nesting.py), and amqp_show as deep as --depth
+may be, on the stack that docs/SHOW.md names, and on half of it.
+"""
+
+import re
+import subprocess
+from collections.abc import Callable
+from contextlib import suppress
+from functools import partial
+from os.path import commonprefix
+from pathlib import Path
+from resource import RLIMIT_AS, RLIMIT_CPU, RLIMIT_STACK, setrlimit
+from subprocess import PIPE
+from threading import Thread
+from typing import IO
+
+import pytest
+from crates import TOP
+from steps import within
+
+from tests.memory.large import RUNS, Pieces, Run
+from tests.model import nesting
+
+# The most seconds of a processor.
+SECONDS = 300
+CHECKS = [*nesting.checks(nesting.CALLS)]
+
+
+def program(name: str) -> Path:
+    return TOP / "crates" / name / "out" / name
+
+
+# Large input
+
+
+def feed(to: IO[bytes], given: Pieces) -> None:
+    """Writes these pieces to the standard input of a process, and closes it."""
+    with suppress(BrokenPipeError), to:
+        for piece in given:
+            to.write(piece)
+
+
+def limit(space: int) -> None:
+    setrlimit(RLIMIT_AS, (space, space))
+    setrlimit(RLIMIT_CPU, (SECONDS, SECONDS))
+
+
+def first_other(printed: IO[bytes], wants: Pieces) -> str:
+    """What is printed otherwise than in these pieces, after which nothing may come."""
+    at = 0
+    for piece in [*wants, b""]:
+        found = printed.read(len(piece) or 1)
+        if found != piece:
+            well = len(commonprefix([found, piece]))
+            return f"from byte {at + well} on it printed {found[well:][:99]!r}, and not {piece[well:][:99]!r}"
+        at += len(piece)
+    return ""
+
+
+@pytest.mark.parametrize("made", RUNS.values(), ids=RUNS)
+def test_large(made: Callable[[], Run]) -> None:
+    """The program prints what it should, and doesn't fail."""
+    run = made()
+    words: list[str | Path] = [program(run.program), *run.words]
+    process = subprocess.Popen(words, stdin=PIPE, stdout=PIPE, stderr=PIPE, preexec_fn=partial(limit, run.space))
+    assert process.stdin and process.stdout and process.stderr
+    with process:
+        feeder = Thread(target=feed, args=(process.stdin, run.given))
+        feeder.start()
+        other = first_other(process.stdout, run.wants)
+        process.stdout.close()
+        feeder.join()
+        said = process.stderr.read()[-300:].decode(errors="replace")
+        process.wait()
+    assert (other, process.returncode) == ("", 0), said
+
+
+# Deep input
+
+
+@pytest.mark.parametrize("check", CHECKS, ids=[it.name for it in CHECKS])
+def test_nested(check: nesting.Check) -> None:
+    """A call on a small stack."""
+    assert check.wrong(program("test_hostile")) == ""
+
+
+def stack_of_show() -> int:
+    """The stack, in bytes, that docs/SHOW.md names for the deepest limit."""
+    found = re.search(r"under ([\d.]+) MB in all", (TOP / "docs/SHOW.md").read_text())
+    assert found, "the page names no stack"
+    return int(float(found[1]) * 1e6)
+
+
+def status_on(stack: int, words: str, given: bytes) -> int:
+    """How amqp_show ends on this stack, with the deepest limit."""
+    return within(RLIMIT_STACK, stack, [program("amqp_show"), "--depth", "1000", *words.split()], given).returncode
+
+
+@pytest.mark.parametrize("form", nesting.FORMS.values(), ids=nesting.FORMS)
+@pytest.mark.parametrize("words", ("", "--bytes", "--json"), ids=("tree", "bytes", "JSON"))
+def test_shown_deep(form: str, words: str) -> None:
+    given = nesting.unordered(form, 1000) if words == "--json" else nesting.encoding(form, 1000)
+    assert status_on(stack_of_show(), words, given) == 0
+
+
+def test_half_of_the_stack() -> None:
+    assert status_on(stack_of_show() // 2, "--json", nesting.unordered("F", 1000)) < 0, "it is enough"

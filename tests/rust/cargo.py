@@ -1,0 +1,102 @@
+"""Cargo, which is called without a network, for packages that are made here."""
+
+import json
+import os
+import re
+import shutil
+import subprocess
+from collections.abc import Mapping, Sequence
+from pathlib import Path
+from typing import NamedTuple
+
+from crates import TOP
+
+HERE, OUT = TOP / "tests/rust", TOP / "out/rust"
+# What is ours: the crates over the calls for C, and what is added to the Rust crate.
+RUST = TOP / "bindings/rust"
+CRATES, DROP_IN = ("amqp-values-sys", "amqp-values"), RUST / "drop_in"
+TARGET, COPIES = OUT / "target", OUT / "crates"
+NAME, VERSION = "amq-protocol-types", "10.6.3"
+TRIPLE = "x86_64-unknown-linux-gnu"
+# What cargo calls the two ways to build, and the words that ask for them.
+PROFILES: dict[str, list[str]] = {"debug": [], "release": ["--release"]}
+# The oldest compiler that the crates over the calls for C are for, and where Debian has it.
+OLDEST, OF_DEBIAN = "rustc 1.63", Path("/usr/bin")
+# The exit status of a command that took too long.
+TOO_LONG = 124
+
+Done = subprocess.CompletedProcess[str]
+
+
+def run(
+    words: Sequence[str | Path], cwd: Path | None = None, env: Mapping[str, str] | None = None, seconds: int = 600
+) -> Done:
+    """Runs a command; one that takes longer has failed."""
+    typed = [str(it) for it in words]
+    try:
+        return subprocess.run(
+            typed, cwd=cwd, env=env, capture_output=True, text=True, errors="replace", timeout=seconds
+        )
+    except subprocess.TimeoutExpired:
+        return Done(typed, TOO_LONG, "", f"it took more than {seconds} seconds")
+
+
+def assert_well(done: Done) -> None:
+    """A command ended well."""
+    assert done.returncode == 0, (done.stdout + done.stderr)[-1500:]
+
+
+def last_line(done: Done) -> str:
+    return done.stdout.rstrip().rpartition("\n")[2]
+
+
+def count_of_tests(done: Done) -> int:
+    """How many tests passed, by what cargo prints."""
+    return sum(int(it) for it in re.findall(r"(?m)^test result: ok\. (\d+) passed; 0 failed", done.stdout))
+
+
+def copied(crate: Path, to: Path) -> Path:
+    """A fresh copy of a crate's folder, since cargo writes next to what it builds."""
+    shutil.rmtree(to, ignore_errors=True)
+    shutil.copytree(crate, to, ignore=shutil.ignore_patterns("target", "Cargo.lock"))
+    return to
+
+
+def package(name: str, manifest: str, /, **values: object) -> Path:
+    """A folder with a package's manifest."""
+    folder = OUT / name
+    folder.mkdir(parents=True, exist_ok=True)
+    (folder / "Cargo.toml").write_text(manifest.format(here=HERE, **values))
+    return folder
+
+
+class Given(NamedTuple):
+    """The Rust crate, the archive of the calls for C, and the folder that cargo takes packages from."""
+
+    crate: Path
+    library: Path
+    registry: Path
+
+    def cargo(self, folder: Path, *words: str, seconds: int = 600, **more: str) -> Done:
+        """Calls cargo."""
+        source = ['source.crates-io.replace-with="given"', f'source.given.directory="{self.registry}"']
+        config = [word for it in source for word in ("--config", it)]
+        environment = {**os.environ, "CARGO_TARGET_DIR": str(TARGET), "RUST_BACKTRACE": "0", **more}
+        return run(["cargo", *words[:1], "--offline", *config, *words[1:]], folder, environment, seconds)
+
+    def drop_in(self, to: Path, *words: str, crate: Path | None = None) -> Done:
+        """Makes the drop-in of the Rust crate, or of another folder."""
+        shutil.rmtree(to, ignore_errors=True)
+        return run([RUST / "drop-in", crate or self.crate, to, "--library", self.library, *words])
+
+
+def given(crate: Path, packages: Path, library: Path) -> Given:
+    """The crate, and a folder with the packages that has it as one of them."""
+    registry = OUT / "registry"
+    shutil.rmtree(registry, ignore_errors=True)
+    registry.mkdir(parents=True)
+    for it in packages.resolve().iterdir():
+        (registry / it.name).symlink_to(it)
+    copy = copied(crate, registry / f"{NAME}-{VERSION}")
+    (copy / ".cargo-checksum.json").write_text(json.dumps({"files": {}, "package": ""}))
+    return Given(copied(crate, OUT / "crate"), library.resolve(), registry)

@@ -1,0 +1,129 @@
+"""What the tests of the Rust side are given, and which of them are left out for want of something."""
+
+import os
+import shutil
+import time
+from pathlib import Path
+
+import pytest
+from crates import TOP
+
+from tests.left_out import leave_out
+from tests.notes import NOTES
+from tests.rust.cargo import COPIES, CRATES, OF_DEBIAN, OLDEST, OUT, RUST, TRIPLE, Given
+from tests.rust.cargo import assert_well, copied, given, package, run
+from tests.rust.manifests import BOTH, VALUES
+
+# Where Debian has Rust packages.
+DEBIAN = Path("/usr/share/cargo/registry")
+# How long building what is proved may take: it is proved first, and may wait for another step that builds it.
+PROVING_SECONDS = 3_600
+ARCHIVE = "libamqp_values.a"
+
+
+def pytest_addoption(parser: pytest.Parser) -> None:
+    named, group = os.environ.get("AMQ_PROTOCOL_TYPES"), parser.getgroup("this repository")
+    crate, packages = Path(named) if named else None, DEBIAN if DEBIAN.is_dir() else None
+    group.addoption("--crate", type=Path, metavar="FOLDER", default=crate, help="the Rust crate, over nom 7")
+    group.addoption("--packages", type=Path, metavar="FOLDER", default=packages, help="from where cargo takes them all")
+    group.addoption("--count", type=int, default=100_000, help="how many random inputs are tried (100,000)")
+    group.addoption("--times", action="store_true", help="measure times, too")
+
+
+def pytest_configure(config: pytest.Config) -> None:
+    """What is random is another in each run. (pytest calls this before that of tests/conftest.py, which it has read earlier.)"""
+    config.addinivalue_line("markers", "needs(name, ..): options or programs without which a test isn't tried")
+    if config.option.seed is None:
+        config.option.seed = int(time.time())
+
+
+def pytest_ignore_collect(collection_path: Path, config: pytest.Config) -> bool | None:
+    """Times aren't measured unasked."""
+    return True if collection_path.name == "test_times.py" and not config.getoption("--times") else None
+
+
+def pytest_collection_modifyitems(config: pytest.Config, items: list[pytest.Item]) -> None:
+    """Leaves out the tests for which something isn't there."""
+    NOTES.extend(leave_out(config, items, lambda it: lacking(config, it)))
+
+
+def lacking(config: pytest.Config, item: pytest.Item) -> str:
+    """What a test needs and isn't there."""
+    needs = dict.fromkeys(str(name) for mark in item.iter_markers("needs") for name in mark.args)
+    return " and ".join(it for it in needs if not is_there(config, it))
+
+
+def is_there(config: pytest.Config, need: str) -> bool:
+    """Whether a program is there, or what an option names."""
+    if need == "--library":
+        return bool(config.getoption(need) or config.getoption("--built") or installed())
+    if need == OLDEST:
+        compiler = OF_DEBIAN / "rustc"
+        return compiler.is_file() and f"{OLDEST}." in run([compiler, "--version"]).stdout
+    return bool(config.getoption(need)) if need.startswith("--") else shutil.which(need) is not None
+
+
+@pytest.fixture(scope="session")
+def count(request: pytest.FixtureRequest) -> int:
+    """How many random inputs are tried."""
+    return int(request.config.getoption("--count"))
+
+
+def installed() -> Path | None:
+    """The archive that pkg-config knows."""
+    said = run(["pkg-config", "--variable=libdir", "amqp_values"]).stdout.strip() if shutil.which("pkg-config") else ""
+    archive = Path(said) / ARCHIVE
+    return archive if said and archive.is_file() else None
+
+
+@pytest.fixture(scope="session")
+def archive(request: pytest.FixtureRequest) -> Path:
+    """The archive of the calls for C: as it is named, as it is made over what `rt ci` has left, or as it is installed."""
+    path = request.config.getoption("--library")
+    if path:
+        return Path(path).resolve()
+    if request.config.getoption("--built"):
+        folder = OUT / "dist"
+        assert_well(run([TOP / ".ci/dist", "--built", folder], seconds=PROVING_SECONDS))
+        return folder / "lib" / ARCHIVE
+    found = installed()
+    assert found
+    return found.resolve()
+
+
+@pytest.fixture(scope="session")
+def rust(request: pytest.FixtureRequest, archive: Path) -> Given:
+    """The Rust crate, and what is needed to build it."""
+    OUT.mkdir(parents=True, exist_ok=True)
+    option = request.config.getoption
+    return given(option("--crate"), option("--packages"), archive)
+
+
+@pytest.fixture(scope="session")
+def drop_in(rust: Given) -> Path:
+    """The drop-in of the Rust crate."""
+    assert_well(rust.drop_in(OUT / "drop-in"))
+    return OUT / "drop-in"
+
+
+@pytest.fixture(scope="session")
+def both(rust: Given, drop_in: Path) -> Path:
+    """A package with both crates."""
+    return package("both", BOTH, crate=rust.crate, drop_in=drop_in)
+
+
+@pytest.fixture(scope="session")
+def copies(archive: Path) -> Path:
+    """The folder that has both crates, with the archive where `make rust` puts it."""
+    for name in CRATES:
+        copied(RUST / name, COPIES / name)
+    folder = COPIES / CRATES[0] / "lib" / TRIPLE
+    folder.mkdir(parents=True)
+    shutil.copyfile(archive, folder / ARCHIVE)
+    return COPIES
+
+
+@pytest.fixture(scope="session")
+def values(rust: Given, copies: Path) -> Path:
+    """A package with both crates."""
+    return package("values", VALUES, crate=rust.crate, crates=copies)

@@ -1,0 +1,137 @@
+"""The crates over the calls for C, amqp-values-sys and amqp-values, of which neither needs another package.
+
+amqp-values-sys links the archive of its folder, or of the one that AMQP_VALUES_LIB_DIR names. The tests of both pass, also by
+the oldest compiler that they are for, if it is there as Debian has it, and clippy and rustdoc have no warning. Their examples
+end as those in C. values.rs: on random inputs amqp-values reads, measures, finds and writes as the Rust crate does; on samples
+under valgrind and the address sanitizer.
+"""
+
+import os
+import subprocess
+from pathlib import Path
+
+import pytest
+from crates import TOP
+
+from tests.rust.cargo import COPIES, CRATES, OF_DEBIAN, OLDEST, RUST, TARGET, TRIPLE, Done, Given
+from tests.rust.cargo import assert_well, copied, count_of_tests, last_line, run
+from tests.transcripts import Case, cases
+
+NAMED_BY = "AMQP_VALUES_LIB_DIR"
+# Of random inputs, one in so many is tried under valgrind, and under the address sanitizer.
+UNDER_VALGRIND, SANITIZED = 25, 5
+
+pytestmark = pytest.mark.needs("--library", "cargo")
+
+
+def cargo(folder: Path, *words: str, tools: Path | None = None, **more: str) -> Done:
+    """Calls cargo for a crate that needs no package, with the tools of the path or of a folder."""
+    of_folder = {"RUSTC": f"{tools}/rustc", "RUSTDOC": f"{tools}/rustdoc"} if tools else {}
+    target = TARGET.with_name("target-oldest") if tools else TARGET
+    outside = {name: value for name, value in os.environ.items() if name != NAMED_BY}
+    environment = {**outside, "CARGO_TARGET_DIR": str(target), "RUST_BACKTRACE": "0", **of_folder, **more}
+    program = f"{tools}/cargo" if tools else "cargo"
+    return run([program, *words[:1], "--offline", *words[1:]], cwd=folder, env=environment)
+
+
+@pytest.fixture
+def without_archive() -> Path:
+    """amqp-values-sys without an archive."""
+    return copied(RUST / CRATES[0], COPIES.with_name("without-archive"))
+
+
+def test_no_archive(without_archive: Path) -> None:
+    done = cargo(without_archive, "build")
+    assert done.returncode, "it is built"
+    assert f"{NAMED_BY} names its folder" in done.stderr
+
+
+def test_archive_is_named(without_archive: Path, archive: Path) -> None:
+    assert_well(cargo(without_archive, "build", AMQP_VALUES_LIB_DIR=str(archive.parent)))
+
+
+@pytest.mark.parametrize(
+    "tools", (None, pytest.param(OF_DEBIAN, marks=pytest.mark.needs(OLDEST))), ids=("rustc", OLDEST)
+)
+@pytest.mark.parametrize("name", CRATES)
+def test_own_tests(copies: Path, name: str, tools: Path | None) -> None:
+    """All tests of a crate pass."""
+    done = cargo(copies / name, "test", tools=tools)
+    assert_well(done)
+    assert count_of_tests(done) >= sum(it.read_text().count("#[test]") for it in (copies / name).glob("**/*.rs"))
+
+
+@pytest.mark.needs("cargo-clippy")
+@pytest.mark.parametrize(
+    ("name", "words"),
+    ((CRATES[0], "--all-targets"), (CRATES[1], "--all-targets"), (CRATES[1], "--no-default-features")),
+)
+def test_clippy(copies: Path, name: str, words: str) -> None:
+    assert_well(cargo(copies / name, "clippy", words, "--", "-D", "warnings"))
+
+
+@pytest.mark.needs("cargo-clippy")
+@pytest.mark.parametrize("name", CRATES)
+def test_rustdoc(copies: Path, name: str) -> None:
+    assert_well(cargo(copies / name, "doc", "--no-deps", RUSTDOCFLAGS="-D warnings"))
+
+
+# The cases of the examples, which are those of the examples in C that have their names.
+EXAMPLES = [
+    (source.stem, case)
+    for source in sorted((RUST / "amqp-values/examples").glob("*.rs"))
+    for case in cases(TOP / f"examples/c/{source.stem}.t").values()
+]
+
+
+@pytest.fixture(scope="session")
+def examples(copies: Path) -> Path:
+    """The folder that has the examples, as they are built."""
+    assert_well(cargo(copies / CRATES[1], "build", "--examples"))
+    return TARGET / "debug/examples"
+
+
+@pytest.mark.parametrize(("example", "case"), EXAMPLES, ids=[f"{example}, {case.name}" for example, case in EXAMPLES])
+def test_example(examples: Path, example: str, case: Case) -> None:
+    """It ends as that in C, but for standard error."""
+    done = subprocess.run([examples / example, *case.words], input=case.given, capture_output=True)
+    assert (done.stdout, done.returncode) == (case.wants.out, case.wants.status), done.stderr
+
+
+# amqp-values and the Rust crate
+
+
+@pytest.fixture(scope="session")
+def program(rust: Given, values: Path) -> Path:
+    """values.rs, as it is built."""
+    assert_well(rust.cargo(values, "build", "--release", "--quiet", "--bin", "values"))
+    return TARGET / "release/values"
+
+
+@pytest.mark.needs("--crate", "--packages")
+class TestValues:
+    """On random inputs both answer the same."""
+
+    def test_values(self, program: Path, count: int, seed: int, notes: list[str]) -> None:
+        done = run([program, str(count), str(seed)])
+        notes.append(f"values: {last_line(done)}")
+        assert_well(done)
+
+    @pytest.mark.needs("valgrind")
+    def test_under_valgrind(self, program: Path, count: int, seed: int) -> None:
+        words: list[str | Path] = [
+            "valgrind",
+            "--quiet",
+            "--error-exitcode=9",
+            program,
+            str(count // UNDER_VALGRIND),
+            str(seed),
+        ]
+        assert_well(run(words))
+
+    def test_sanitized(self, rust: Given, values: Path, count: int, seed: int) -> None:
+        """Under the address sanitizer."""
+        sanitized = {"RUSTC_BOOTSTRAP": "1", "RUSTFLAGS": "-Zsanitizer=address"}
+        words = ["run", "--release", "--quiet", "--bin", "values", "--target", TRIPLE]
+        asked = [str(count // SANITIZED), str(seed)]
+        assert_well(rust.cargo(values, *words, "--", *asked, seconds=1800, **sanitized))

@@ -1,0 +1,175 @@
+"""The drop-in of the Rust crate, which bindings/rust/drop-in makes.
+
+It stops with the place on sources that it doesn't know. All tests of the crate pass over the drop-in, as many as over the
+crate. equal.rs: on random inputs both give the same, but for claims above the limit. refused.rs: what is beyond each limit is
+what the process chose, in debug and release builds. cargo takes the drop-in if the client's Cargo.lock has the crate's version,
+after `cargo update`, and if the client asks for exactly this version, with --keep-version. The programs of docs/UPSTREAM.md
+print what the page has.
+"""
+
+import re
+import shutil
+from collections.abc import Iterator
+from pathlib import Path
+from typing import NamedTuple
+
+import pytest
+from crates import TOP
+
+from tests.rust.cargo import NAME, OUT, PROFILES, Given, assert_well, copied, count_of_tests, last_line, package
+from tests.rust.manifests import CLIENT, PATCH, PROGRAMS
+
+
+class Change(NamedTuple):
+    """A change of a source of the crate that the drop-in doesn't know, with the place where it has to say so."""
+
+    name: str
+    old: str
+    new: str
+    place: str
+
+
+PARSING, GENERATION = "src/parsing.rs", "src/generation.rs"
+UNKNOWN = (
+    Change("Cargo.toml", 'version = "10.6.3"', 'version = "10.7.0"', r"Cargo\.toml:\d+: "),
+    Change(PARSING, "pub fn parse_field_table<", "pub fn parse_table<", r"src/parsing\.rs:\d+: parse_field_table"),
+    Change(
+        PARSING,
+        "ParserResult<I, FieldArray> {",
+        "ParserResult<I, Vec<()>> {",
+        r"src/parsing\.rs:\d+: parse_field_array",
+    ),
+    Change(PARSING, 'context("parse_id", parse_short_uint)', "parse_value", r"src/parsing\.rs:\d+: parse_value"),
+    Change(GENERATION, "pub fn gen_short_string<", "pub fn gen_short<", r"src/generation\.rs:\d+: gen_short_string"),
+    Change("src/lib.rs", "pub mod parsing;", "pub mod parsers;", r"src/lib\.rs:\d+: "),
+)
+
+pytestmark = pytest.mark.needs("--crate", "--packages", "--library", "cargo")
+
+
+@pytest.mark.parametrize("change", UNKNOWN, ids=[it.new for it in UNKNOWN])
+def test_unknown_source(rust: Given, change: Change) -> None:
+    """It isn't edited, and the place is printed."""
+    copy, out = copied(rust.crate, OUT / "changed"), OUT / "made"
+    source = (copy / change.name).read_text()
+    assert change.old in source
+    (copy / change.name).write_text(source.replace(change.old, change.new, 1))
+    done = rust.drop_in(out, crate=copy)
+    assert done.returncode and re.match(change.place, done.stderr), done.stderr
+    assert not out.exists()
+
+
+def test_tests_of_crate(rust: Given, drop_in: Path) -> None:
+    """All pass, as many as over the crate."""
+    theirs, ours = rust.cargo(rust.crate, "test"), rust.cargo(drop_in, "test")
+    assert_well(ours)
+    assert count_of_tests(ours) == count_of_tests(theirs) > 0
+
+
+@pytest.mark.needs("cargo-clippy")
+def test_clippy(rust: Given, drop_in: Path) -> None:
+    """What clippy says of the drop-in, it says of the crate's own sources only."""
+    done = rust.cargo(drop_in, "clippy")
+    assert_well(done)
+    assert re.findall(r"--> (src/(?:calls|checked|limits)\.rs|build\.rs):\d+", done.stderr) == []
+
+
+@pytest.mark.parametrize(
+    ("feature", "part"), (("default", 1), ("verbose-errors", 10)), ids=("default", "verbose-errors")
+)
+def test_equal(rust: Given, both: Path, feature: str, part: int, count: int, seed: int, notes: list[str]) -> None:
+    """What both answer to random inputs, and to a tenth of them with the feature that has an error's contexts."""
+    words = ["--release", "--quiet", "--features", feature, "--bin", "equal", "--", str(count // part), str(seed)]
+    done = rust.cargo(both, "run", *words)
+    notes.append(f"{feature}: {last_line(done)}")
+    assert_well(done)
+
+
+@pytest.mark.parametrize("profile", PROFILES)
+def test_refused(rust: Given, both: Path, profile: str) -> None:
+    done = rust.cargo(both, "test", "--quiet", *PROFILES[profile], "--test", "refused")
+    assert_well(done)
+    assert count_of_tests(done)
+
+
+# Which crate cargo takes
+
+
+def is_taken(rust: Given, folder: Path, drop_in: Path) -> bool:
+    """Whether the client's crate is the drop-in."""
+    done = rust.cargo(folder, "tree", "-i", NAME)
+    assert_well(done)
+    return str(drop_in) in done.stdout
+
+
+@pytest.mark.parametrize("is_updated", (False, True), ids=("as it was locked", "updated"))
+def test_locked(rust: Given, drop_in: Path, is_updated: bool) -> None:
+    """If Cargo.lock has the crate's version, the drop-in is taken after `cargo update`."""
+    folder = package("locked", CLIENT, name="locked", version="10.6.3")
+    (folder / "Cargo.lock").unlink(missing_ok=True)
+    assert_well(rust.cargo(folder, "generate-lockfile"))
+    package("locked", CLIENT + PATCH, name="locked", version="10.6.3", drop_in=drop_in)
+    if is_updated:
+        assert_well(rust.cargo(folder, "update", "-p", NAME))
+    assert is_taken(rust, folder, drop_in) == is_updated
+
+
+@pytest.mark.parametrize("is_kept", (False, True), ids=("its own version", "the version that is kept"))
+def test_asked_for_exactly(rust: Given, is_kept: bool) -> None:
+    """If the client asks for exactly the crate's version, the drop-in is taken that keeps it."""
+    path = OUT / ("kept" if is_kept else "raised")
+    assert_well(rust.drop_in(path, *["--keep-version"] * is_kept))
+    folder = package(f"exact-{path.name}", CLIENT + PATCH, name="exact", version="=10.6.3", drop_in=path)
+    assert is_taken(rust, folder, path) == is_kept
+
+
+# docs/UPSTREAM.md
+
+
+class Typed(NamedTuple):
+    """A command of the page: the section, the number of its program, what cargo is called with, and what is printed."""
+
+    section: str
+    program: int
+    words: str
+    lines: list[str]
+
+
+def sources() -> Iterator[tuple[str, str, str]]:
+    """The programs of the page: the section, the source, and what is typed and printed."""
+    text = (TOP / "docs/UPSTREAM.md").read_text()
+    for section in re.split(r"(?m)^## ", text)[1:]:
+        for source, console in re.findall(r"```rust\n(.*?)```\n\n```console\n(.*?)```", section, re.DOTALL):
+            yield section.partition("\n")[0], source, console
+
+
+def commands() -> Iterator[Typed]:
+    for number, (section, _, console) in enumerate(sources()):
+        for words, lines in re.findall(r"(?m)^\$ cargo (run(?: --release)?)\n((?:(?!\$ ).*\n)*)", console):
+            yield Typed(section, number, words, lines.splitlines())
+
+
+COMMANDS = [*commands()]
+
+
+@pytest.fixture(scope="session")
+def upstream(rust: Given) -> Path:
+    """A package with the page's programs."""
+    folder = package("upstream", PROGRAMS, crate=rust.crate)
+    shutil.rmtree(folder / "src", ignore_errors=True)
+    (folder / "src/bin").mkdir(parents=True)
+    for number, (_, source, _) in enumerate(sources()):
+        (folder / f"src/bin/program{number}.rs").write_text(source)
+    return folder
+
+
+@pytest.mark.parametrize("typed", COMMANDS, ids=[f"{it.section}, {it.words}" for it in COMMANDS])
+def test_program_of_page(rust: Given, upstream: Path, typed: Typed) -> None:
+    """It prints the page's lines, in their order."""
+    done = rust.cargo(upstream, *typed.words.split(), "--quiet", "--bin", f"program{typed.program}")
+    printed, at = done.stdout + done.stderr, 0
+    assert typed.lines, "the page has no lines"
+    for line in typed.lines:
+        found = printed.find(line, at)
+        assert found >= 0, f"{line!r} isn't in {printed[-1000:]!r}"
+        at = found + len(line)

@@ -1,0 +1,97 @@
+"""The Rust sources, and the declarations of the calls for C in them: what needs no Rust crate, and nothing that is built."""
+
+import re
+from collections.abc import Iterator
+from pathlib import Path
+
+import pytest
+from crates import TOP
+
+from tests.rust.cargo import CRATES, DROP_IN, HERE, RUST, assert_well, run
+
+HEADER = TOP / "include/amqp_values.h"
+DECLARES = RUST / "declarations"
+LAYOUT = "max_width=120,use_small_heuristics=Max"
+# The constants of the drop-in, by their names in the header.
+CONSTANTS = {"OK": "AMQPV_OK", "RULES_READ": "AMQPV_RULES_READ", "TOO_DEEP": "AMQPV_PROBLEM_TOO_DEEP"}
+CALLS = (DROP_IN / "calls.rs").read_text()
+
+
+def parameters(text: str) -> dict[str, list[str]]:
+    """The calls that a text declares, each with the names of its parameters."""
+    found = re.findall(r"\b(amqpv_\w+)\(([^()]*)\)(?:;| -> c_int;)", text)
+    return {
+        name: [re.findall(r"\w+", it.split(":")[0])[-1] for it in said.split(",") if it.strip()] for name, said in found
+    }
+
+
+@pytest.mark.parametrize("call", parameters(CALLS))
+def test_call_of_drop_in(call: str) -> None:
+    """The drop-in declares a call as the header does."""
+    assert parameters(CALLS)[call] == parameters(HEADER.read_text()).get(call)
+
+
+@pytest.mark.parametrize("name", CONSTANTS)
+def test_constant_of_drop_in(name: str) -> None:
+    value = re.search(rf"const {name}: \w+ = (\d+);", CALLS)
+    assert value and re.search(rf"\b{CONSTANTS[name]} = {value[1]}\b", HEADER.read_text())
+
+
+def sources(edition: str) -> Iterator[Path]:
+    """The sources of an edition: the crates over the calls for C are of the older one."""
+    if edition == "2024":
+        yield from (*DROP_IN.glob("*.rs"), *HERE.glob("*.rs"))
+    else:
+        yield from (it for name in CRATES for it in (RUST / name).glob("**/*.rs") if "target" not in it.parts)
+
+
+@pytest.mark.needs("rustfmt")
+@pytest.mark.parametrize("edition", ("2024", "2021"))
+def test_layout(edition: str) -> None:
+    """The sources are laid out by rustfmt."""
+    found = sorted(sources(edition))
+    assert found
+    assert_well(run(["rustfmt", "--edition", edition, "--check", "--config", LAYOUT, *found]))
+
+
+def test_declarations_are_made_from_the_header() -> None:
+    assert_well(run([DECLARES, "--check"]))
+
+
+@pytest.mark.parametrize(
+    "compiler", [pytest.param(it, marks=pytest.mark.needs(it)) for it in ("cc", "aarch64-linux-gnu-gcc")]
+)
+def test_asserted_layout(compiler: str, tmp_path: Path) -> None:
+    """A compiler of C has the sizes and offsets that the declarations assert."""
+    said = run([DECLARES, "--asserts"])
+    assert_well(said)
+    assert "_Static_assert(" in said.stdout
+    asserts = tmp_path / "asserts.c"
+    asserts.write_text(said.stdout)
+    assert_well(run([compiler, "-std=c11", f"-I{HEADER.parent}", "-fsyntax-only", asserts]))
+
+
+@pytest.mark.parametrize("name", CRATES)
+def test_version(name: str) -> None:
+    """A crate has the header's version, also where it names the other."""
+    version = re.findall(r'(?m)^#define AMQPV_VERSION "(.*)"$', HEADER.read_text())
+    versions = re.findall(r'(?<!-)\bversion = "([^"]*)"', (RUST / name / "Cargo.toml").read_text())
+    assert {*versions} == {*version}
+
+
+def functions_of_page() -> list[str]:
+    """The functions over amqp-values on docs/RUST.md."""
+    section = (TOP / "docs/RUST.md").read_text().partition("\n## Without the crate")[2].partition("\n## ")[0]
+    return re.findall(r"```rust\n(.*?)```", section, re.DOTALL)
+
+
+def first_name(function: str) -> str:
+    found = re.search(r"\bfn (\w+)", function)
+    return found[1] if found else "no function"
+
+
+@pytest.mark.parametrize("function", functions_of_page(), ids=first_name)
+def test_function_of_page(function: str) -> None:
+    """An example has it."""
+    examples = [it.read_text() for it in (RUST / "amqp-values/examples").glob("*.rs")]
+    assert any(function in it for it in examples), function
