@@ -26,28 +26,33 @@ ODD = b"t\7"
 
 
 class Most(NamedTuple):
-    """The most memory of calls: by the bytes alone; and by the bytes, the values and the levels."""
+    """The most memory of calls: by the bytes alone; by bytes, values and levels; by the bytes of which a tree is made."""
 
     alone: int
     byte: int = 0
     value: int = 0
     level: int = 0
+    tree: int = 0
 
-    def of(self, counts: Sequence[int]) -> int:
+    def of(self, counts: Sequence[int], has_tree: bool) -> int:
         """What may be held of something with that many bytes and, if these are counted, values and levels."""
-        by_bytes, by_all = self.alone * counts[0], sum(most * count for most, count in zip(self[1:], counts))
-        return min(by_bytes, by_all) if any(self[1:]) and len(counts) > 1 else by_bytes
+        if has_tree:
+            return self.tree * counts[0]
+        by_bytes, by_all = self.alone * counts[0], sum(most * count for most, count in zip(self[1:4], counts))
+        return min(by_bytes, by_all) if any(self[1:4]) and len(counts) > 1 else by_bytes
 
 
 FOR_EACH = r"(\d+) for each (byte|value|level)"
-STATED = re.compile(rf"(amqpv_\w+(?: and amqpv_\w+)*) {FOR_EACH}((?:(?:, or | and ){FOR_EACH})*)")
+OF_TREE = r" of the text, and (\d+) of one of which they make a tree"
+STATED = re.compile(rf"(amqpv_\w+(?: and amqpv_\w+)*) {FOR_EACH}((?:(?:, or | and ){FOR_EACH})*)(?:{OF_TREE})?")
 
 
 def stated() -> dict[tuple[str, ...], Most]:
     """What the header states, of each call or of several."""
     text, figures = " ".join(HEADER.read_text().replace("\n * ", " ").split()), {}
-    for names, alone, _, others, *_ in STATED.findall(text):
+    for names, alone, _, others, *_, of_tree in STATED.findall(text):
         more = {kind: int(figure) for figure, kind in re.findall(FOR_EACH, others)}
+        more |= {"tree": int(of_tree)} if of_tree else {}
         figures[tuple(names.split(" and "))] = Most(int(alone), **more)
     return figures
 
@@ -92,6 +97,8 @@ TEXTS: dict[str, str] = {
 }  # fmt: skip
 # The JSON of no value.
 NO_VALUE = '{"Void":0}'
+# A decimal with a key twice.
+TWICE = '{"DecimalValue":{"scale":0,"scale":0,"value":0}}'
 
 
 def keys(n: int) -> list[bytes]:
@@ -156,6 +163,8 @@ def texts(n: int) -> Iterator[tuple[str, str]]:
         yield f"JSON of no value, {name}", f"[{','.join(items)},{NO_VALUE}]"
         yield f"JSON, {name}, after no value", f'[{{"":{NO_VALUE},"":0}},{",".join(items)}]'
         yield f"JSON, {name}, after the name of a type", f'[{{"LongInt":0,"":0}},{",".join(items)}]'
+        # (of which a tree is made, as after no value)
+        yield f"JSON, {name}, after a scale that comes twice", f'[{TWICE},{",".join(items)}]'
     for name, of_table in tables(n):
         yield f"JSON, keys {name}", "{" + ",".join(f'"{it.decode()}":0' for it in of_table) + "}"
         yield f"JSON of no value, keys {name}", "{" + ",".join(f'"{it.decode()}":{NO_VALUE}' for it in of_table) + "}"
@@ -179,24 +188,28 @@ def inputs() -> Iterator[tuple[str, bytes]]:
 
 
 class Held(NamedTuple):
-    """A call, the shape of its input, how many bytes that has, perhaps values and levels, and the most bytes that were held."""
+    """A call, the shape of its input, how many bytes that has, perhaps values and levels, and the most bytes that were held.
+
+    And whether it is a text of which a tree is made.
+    """
 
     call: str
     shape: str
     counts: list[int]
     most: int
+    has_tree: bool
 
 
 def held(line: str) -> Held:
     """A line that at_once.c prints."""
-    call, name, numbers = line.split(" | ")
+    call, name, numbers, *tree = line.split(" | ")
     *counts, most = map(int, numbers.split())
-    return Held(call, re.sub(r", \d+ bytes$", "", name), counts, most)
+    return Held(call, re.sub(r", \d+ bytes$", "", name), counts, most, bool(tree))
 
 
 def over(found: list[Held], most: Most) -> dict[str, str]:
     """The shapes of which more is held than may be, each with the last that is."""
-    limits = [(it, most.of(it.counts)) for it in found]
+    limits = [(it, most.of(it.counts, it.has_tree)) for it in found]
     return {
         it.shape: f"{it.most:,} bytes of memory for {it.counts[0]:,}, over {limit:,}"
         for it, limit in limits
@@ -212,4 +225,4 @@ def parts(most: Most) -> list[str]:
 def is_needed(found: list[Held], most: Most, part: str) -> bool:
     """Whether some input takes more than with a bit less of a number."""
     less = most._replace(**{part: int(getattr(most, part) * NEAR)})
-    return any(it.most > less.of(it.counts) for it in found)
+    return any(it.most > less.of(it.counts, it.has_tree) for it in found)
