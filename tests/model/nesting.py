@@ -80,6 +80,16 @@ def json_text(form: str, depth: int) -> bytes:
     return f"{opened}null{closed[::-1]}".encode()
 
 
+def under_types(form: str, depth: int) -> bytes:
+    """A text that nests that deep. What an object has is under the name of a table's type, until another key follows."""
+    tags = (form * depth)[:depth]
+    opened = "".join("[" if it == "A" else '{"FieldTable":' for it in tags[:-1])
+    opened += "[" if tags[-1] == "A" else '{"b":'
+    closed = "]" if tags[-1] == "A" else "}"
+    closed += "".join("]" if it == "A" else ',"b":null}' for it in tags[-2::-1])
+    return f"{opened}null{closed}".encode()
+
+
 def type_tags(form: str, depth: int) -> bytes:
     """The type tags of a value that the program makes by itself, the innermost first."""
     return (form * depth)[:depth].encode()
@@ -137,12 +147,16 @@ FOR_C = {
     "amqpv_to_json": Call(["amqpv_to_json"], unordered, DEEP),
     "amqpv_write_json": Call(["amqpv_write_json"], encoding, DEEP),
     "amqpv_canonical": Call(["amqpv_canonical"], not_canonical, DEEP),
-    **{it: Call([it], json_text, OF_JSON) for it in ("amqpv_from_json", "amqpv_from_json_or_problem")},
+    **{it: Call([it], under_types, OF_JSON) for it in ("amqpv_from_json", "amqpv_from_json_or_problem")},
 }
 MADE: dict[str, Callable[[str, int], bytes]] = {
     "encoding": encoding, "payload": payload, "values": values, "tree": type_tags, "document": brackets,
     "text": json_text,
 }  # fmt: skip
+
+
+# What takes most of these calls.
+MOST = {"json_of_encoding": unordered, "encoding_of_json": under_types}
 
 
 def calls() -> Iterator[tuple[str, Call]]:
@@ -152,7 +166,7 @@ def calls() -> Iterator[tuple[str, Call]]:
         (body,) = re.findall(rf"(?ms)^fn of_{kind}\(.*?^}}", text)
         for name, arm in re.findall(r'(?m)^ {8}"(\S+)" => (.*(?:\n {9}.*)*)', body):
             depths = OF_JSON if kind == "text" else DEEPER if "limits" in arm else UNLIMITED
-            yield name, Call([kind, name], unordered if name == "json_of_encoding" else make, depths)
+            yield name, Call([kind, name], MOST.get(name, make), depths)
 
 
 CALLS = dict(calls())
