@@ -39,7 +39,7 @@
 //!        160   176       in amqpv_put_value of any keys
 //!        288   288       in amqpv_canonical
 //!        560   528       in amqpv_write_json
-//!       1216  1216       in amqpv_from_json and amqpv_from_json_or_problem
+//!       1280  1280       in amqpv_from_json and amqpv_from_json_or_problem
 //!        768   704       in amqpv_to_json
 //!        512   480       in amqpv_first_warnings and amqpv_first_warnings_in_table
 //!   The others don't recurse.
