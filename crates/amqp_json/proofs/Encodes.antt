@@ -23,7 +23,7 @@ use Rattle.amqp_value_core.specs.InMemory.{IsScalar}
 use Rattle.amqp_value_core.specs.Strings.{IsShort}
 use Rattle.amqp_value_core.specs.Texts.{text}
 use Rattle.amqp_value_core.proofs.GrammarLaws.{text_is_wire}
-use Rattle.amqp_json.specs.Encodes.{IsObject, IsTextPut, PutsEncodingOf, PutsValues, PutsPairs, HasNoTypeName, AreEntriesRead, IsNaturalRead}
+use Rattle.amqp_json.specs.Encodes.{IsObject, IsTextPut, PutsEncodingOf, PutsValues, PutsPairs, HasNoTypeName, AreEntriesRead}
 use Rattle.amqp_json.specs.InMemory.{IsStored, AreStoredTrees, EntriesStored}
 use Rattle.amqp_json.specs.Json as amqp
 use Rattle.amqp_json.specs.Json.{items_json, members_json, sole_type, under, natural, decimal_json}
@@ -259,23 +259,6 @@ plain_first (Some k) h = first_of_table k.now h
 -- a table whose only key isn't the name of a type is the object of its members
 pub plain_object : (v : Tree) (es : Entries) → v ≡ table es → sole_type (members_json es) ≡ None → amqp.json v ≡ object (members_json es)
 plain_object v es is none = ap amqp.json is ∙ rw none refl
-
--- the object of a decimal's scale and number
-pub decimal_read : (depth scale n : ℕ) (ts us vs ws xs end : List Token) → read_key ts ≡ Some (Some (codes "scale"), us) → IsNaturalRead scale us vs → read_key vs ≡ Some (Some (codes "value"), ws) → IsNaturalRead n ws xs
-    → read_key xs ≡ Some (None, end) → IsObject (decimal_json scale n) (json.value depth) ts end
-decimal_read depth scale n ts us vs ws xs end scale_key scale_read value_key value_read last =
-    let p = json.value depth in
-    let first = read_key-shorter ts (Some (codes "scale")) us scale_key in
-    let second = read_key-shorter vs (Some (codes "value")) ws value_key in
-    let less = scale_read.1 in
-    let more = value_read.1 in
-    let one = member (codes "scale") (natural scale) no_members in
-    let both = member (codes "scale") (natural scale) (member (codes "value") (natural n) no_members) in
-    let all : converted (λ ms. of_members ms no_members) (members p (length ts) ts) ≡ Some (both, end) =
-    member_read p no_members (length ts) (codes "scale") ts us vs (natural scale) (omega (arith, first)) scale_key (scale_read.0 depth)
-    ∙ member_read p one (length ts - 1) (codes "value") vs ws xs (natural n) (omega (arith, first, less, second)) value_key (value_read.0 depth)
-    ∙ members_over p both (length ts - 1 - 1) xs end (omega (arith, first, less, second, more)) last in
-    (both, refl, all)
 
 -- what is under the name of a type, its only key
 pub under_object : (p : Parse json.Json) (k : List ℕ) (type : AMQPType) (ts us vs end : List Token) (d : Data) → type_named k ≡ Some type → read_key ts ≡ Some (Some k, us) → converted of_json (p us) ≡ Some (d, vs)

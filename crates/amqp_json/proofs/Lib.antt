@@ -33,3 +33,4 @@ mod Named
 mod CanonicalSteps
 pub mod Lanes
 mod Lexing
+mod Decimals

@@ -1,9 +1,9 @@
 -- For private clauses: encodings that are put after other bytes.
-use Rattle.std.specs.Prelude.{ℕ, zero, suc, ◌≡◌, ◌<◌, ◌≤◌, IsTrue, List, [], ◌∷◌, ◌++◌, length, Option, Some, None, option_map}
+use Rattle.std.specs.Prelude.{ℕ, zero, suc, ◌≡◌, ◌≤◌, IsTrue, List, [], ◌∷◌, ◌++◌, length, Option, Some, None, option_map}
 use Rattle.json.specs.Token.{Token, key}
 use Rattle.json.specs.Json.{Json, Parse, members, read_key, value}
 use Rattle.serde_json.specs.Data.{Data, Members, number, string, object, member, no_members}
-use Rattle.serde_json.specs.Read.{of_json, of_members, converted, number_of}
+use Rattle.serde_json.specs.Read.{of_members, converted, number_of}
 use Rattle.amqp_value_core.specs.declared.types.amqp_type.AMQPType.TheVariants as amqp
 use Rattle.amqp_value_core.specs.Names.{name_of}
 use Rattle.amqp_value_core.specs.Values.{decimal, Tree, Trees, Entries, insert_all, readable}
@@ -13,7 +13,7 @@ use Rattle.amqp_value_core.specs.InMemory.{IsScalar, IsValue}
 use Rattle.amqp_value_core.specs.Strings.{IsShort}
 use Rattle.amqp_json.specs.InMemory.{IsStored, AreStoredTrees, EntriesStored}
 use Rattle.amqp_json.specs.Converts.{IsStoredMeaning}
-use Rattle.amqp_json.specs.Json.{json, members_json, decimal_json, under, sole_type, natural}
+use Rattle.amqp_json.specs.Json.{json, members_json, decimal_json, under, sole_type}
 use Rattle.amqp_json.specs.Tokens.{BecomesTable}
 use Rattle.amqp_json.specs.declared.encoding.leaf.Leaf.{Leaf}
 use Rattle.amqp_json.specs.declared.encoding.leaf.Leaf.TheVariants.{Number, Text, Decimal, Put}
@@ -81,10 +81,6 @@ IsLast (OfObject o) k read rest old new = (d : Data) × (read ≡ Some (d, rest)
 abbrev pub HasNoTypeName : Entries → Option (List ℕ) → Type 0
 HasNoTypeName es None = sole_type (members_json es) ≡ None
 HasNoTypeName es (Some k) = BecomesTable (Some k) (members_json es)
-
--- n is the natural number at the start of ts
-abbrev pub IsNaturalRead : ℕ → List Token → List Token → Type 0
-IsNaturalRead n ts rest = ((depth : ℕ) → converted of_json (value depth ts) ≡ Some (natural n, rest)) × (length rest < length ts)
 
 -- the table of the entries `es` is read from those before and the members from a key on, and no name
 -- of a type is its only key

@@ -1,7 +1,7 @@
 //! From the tokens of a text to an encoding of its value, without the value in memory: the pairs of
 //! a table are in the order of the text, and keys may occur again.
 
-ghost use Rattle.std.specs.Prelude.{ℕ, ◌≡◌, ◌<◌, ◌≤◌, ◌∷◌, length, List, Some, None, true, codes, IfOk, OnOk, IfSome, option_map};
+ghost use Rattle.std.specs.Prelude.{◌≡◌, ◌<◌, ◌≤◌, ◌∷◌, length, List, Some, None, true, codes, IfOk, OnOk, IfSome, option_map};
 ghost use Rattle.json.specs.Token.{Token as SpecToken};
 ghost use Rattle.json.specs.Token as token;
 ghost use Rattle.json.specs.Reads.{token_of};
@@ -10,8 +10,8 @@ ghost use Rattle.serde_json.specs.Data.{Data, array, number};
 ghost use Rattle.serde_json.specs.Read.{of_json, of_items, converted, number_of};
 ghost use Rattle.amqp_value_core.specs.Values.{Entries};
 ghost use Rattle.amqp_json.specs.InMemory.{EntriesStored};
-ghost use Rattle.amqp_json.specs.Encodes.{IsObject, IsEncodedMeaning, PutsEncodingOf, PutsValues, PutsPairs, AreEntriesRead, HasNoTypeName, IsLast, IsPending, IsNamedRead, IsNaturalRead};
-ghost use Rattle.amqp_json.specs.Json.{json, items_json, under, decimal_json};
+ghost use Rattle.amqp_json.specs.Encodes.{IsObject, IsEncodedMeaning, PutsEncodingOf, PutsValues, PutsPairs, AreEntriesRead, HasNoTypeName, IsLast, IsPending, IsNamedRead};
+ghost use Rattle.amqp_json.specs.Json.{json, items_json, under};
 ghost use Rattle.amqp_json.specs.Names.{type_named};
 
 mod fields;
@@ -24,8 +24,8 @@ pub(crate) mod put;
 
 use crate::error::ValueError;
 use crate::names::type_of_name;
-use crate::numerals::{integer, natural_number};
-use amqp_value_core::types::{AMQPType, DecimalValue};
+use crate::numerals::integer;
+use amqp_value_core::types::AMQPType;
 use fields::last_of_table;
 use json::{Scratch, Token};
 use last::{Last, is_same, object_of, put_first, put_sole, take_back};
@@ -248,8 +248,8 @@ fn put_object_from<'a>(
     put_table(alloc, reader, out, first, depth)
 }
 
-// What is after an opening brace under the name of a decimal's type. What doesn't begin with the scale
-// is put as a table.
+// What is after an opening brace under the name of a decimal's type. What isn't exactly a scale and
+// a number is put as a table first.
 #[cycle(encode)]
 #[inline(never)]
 fn last_fields<'a>(
@@ -264,13 +264,14 @@ fn last_fields<'a>(
     ensures shorter { IfOk result (λ last. length reader.new < length reader.old) }
 {
     let first = reader.next_key()?;
-    if is_scale(first) {
-        let d = decimal(reader)?;
+    if is_scale(first)
+        && let Some(d) = reader.decimal_fields()
+    {
         return Ok(Last::Leaf(Leaf::Decimal(d)));
     }
     let start = out.len();
     put_object_from(alloc, reader, out, first, depth)?;
-    last_of_table(alloc, out, start, name)
+    last_of_table(out, start, name)
 }
 
 // What is after an opening brace under the name of a table's type: an object, of which nothing is put
@@ -475,45 +476,4 @@ fn is_scale(first: Option<&str>) -> bool
         Some(key) => key == "scale",
         None => false,
     }
-}
-
-// What is after a decimal's first key, that of its scale: this, its number and the brace.
-#[inline(never)]
-fn decimal(reader: &mut Lexer<'_>) -> Result<DecimalValue, Stop>
-    ensures json { IfOk result (λ d. (depth : ℕ) (ts : List SpecToken) → read_key ts ≡ Some (Some (codes "scale"), reader.old)
-        → IsObject (decimal_json d.scale d.value) (value depth) ts reader.new) }
-    ensures shorter { OnOk result (length reader.new < length reader.old) }
-{
-    let Ok(scale) = u8::try_from(natural(reader)?) else {
-        return Err(Stop::NotHere);
-    };
-    let Some(key) = reader.next_key()? else {
-        return Err(Stop::NotHere);
-    };
-    if key != "value" {
-        return Err(Stop::NotHere);
-    }
-    let Ok(value) = u32::try_from(natural(reader)?) else {
-        return Err(Stop::NotHere);
-    };
-    let next = reader.next_key()?;
-    if next.is_none() {
-        return Ok(DecimalValue { scale, value });
-    }
-    Err(Stop::NotHere)
-}
-
-// A natural number.
-fn natural(reader: &mut Lexer<'_>) -> Result<u64, Stop>
-    ensures json { IfOk result (λ n. IsNaturalRead n reader.old reader.new) }
-    ensures shorter { OnOk result (length reader.new < length reader.old) }
-{
-    let token = reader.next()?;
-    let Token::Number(text) = token else {
-        return Err(Stop::NotHere);
-    };
-    let Some(n) = natural_number(text) else {
-        return Err(Stop::NotHere);
-    };
-    Ok(n)
 }

@@ -12,10 +12,11 @@ ghost use Rattle.json.specs.Token.{Token as SpecToken, string, key, begin_object
 ghost use Rattle.json.specs.Lex.{token, between, lex, after_value, punctuate, tokens};
 ghost use Rattle.json.specs.Json.{read_key, after_end_array};
 ghost use Rattle.json.specs.Reads.{token_of};
-ghost use Rattle.amqp_json.specs.Lexing.{tokens_left, IsVisible, BeginsWith, IsClosing, IsOpening, IsNamed, BeginsWithInteger, IsLastInteger};
+ghost use Rattle.amqp_json.specs.Lexing.{tokens_left, IsVisible, BeginsWith, IsClosing, IsOpening, IsNamed, BeginsWithInteger, IsLastInteger, IsIntegerNext, AreDecimalFields};
 
 use super::Stop;
 use crate::buffer::plain::plain_end;
+use amqp_value_core::types::DecimalValue;
 use json::{Reader, Scratch, Token};
 use std::marker::Model;
 
@@ -279,6 +280,36 @@ fn signed(is_negative: bool, size: u64) -> Option<i64>
     Some(-n)
 }
 
+// An integer, where a value may begin.
+#[inline(always)]
+fn integer_next(text: &str, next: &mut Next) -> Option<i64>
+    ensures { IfSome result (λ n. IsIntegerNext n (tokens_left next.old.place (drop next.old.at text.now))
+        (tokens_left next.new.place (drop next.new.at text.now))) }
+{
+    if let Place::AfterValue = next.place {
+        return None;
+    }
+    integer(text, next)
+}
+
+// What is after the key of a decimal's scale, if it is exactly what a decimal has.
+#[inline(never)]
+fn decimal_fields(text: &str, next: &mut Next) -> Option<DecimalValue>
+    ensures { IfSome result (λ d. AreDecimalFields d (tokens_left next.old.place (drop next.old.at text.now))
+        (tokens_left next.new.place (drop next.new.at text.now))) }
+{
+    let scale = u8::try_from(integer_next(text, next)?).ok()?;
+    if key(text, next)? != "value" {
+        return None;
+    }
+    let value = u32::try_from(integer_next(text, next)?).ok()?;
+    if byte_at(text.as_bytes(), next.at) != b'}' {
+        return None;
+    }
+    close(text, next, Token::EndObject)?;
+    Some(DecimalValue { scale, value })
+}
+
 // Whether the text has a name here, and nothing of a longer one.
 #[inline(always)]
 fn has_name(bytes: &[u8], at: usize, name: &[u8]) -> bool
@@ -513,6 +544,22 @@ impl<'a> Lexer<'a> {
         close(self.text, &mut next, Token::EndObject)?;
         self.next = next;
         Some(n)
+    }
+
+    /// What is after the key of a decimal's scale: this, the key of its number, this, and the end of
+    /// their object. Nothing is taken if what is next is something else, or isn't read from the
+    /// bytes.
+    #[inline(always)]
+    pub(crate) fn decimal_fields(&mut self) -> Option<DecimalValue>
+        ensures { MatchOption result (self.new ≡ self.old) (λ d. AreDecimalFields d self.old self.new) }
+    {
+        if self.reader.is_some() {
+            return None;
+        }
+        let mut next = self.next;
+        let d = decimal_fields(self.text, &mut next)?;
+        self.next = next;
+        Some(d)
     }
 
     /// Whether no token is left.

@@ -26,7 +26,9 @@ use Rattle.amqp_json.proofs.Leading.{leads, leads_as, next_is}
 use Rattle.amqp_json.proofs.Merged.{put_over}
 use Rattle.amqp_json.proofs.Named.{past_turn, sole_object, sole_under, first_pairs, put_pending}
 use Rattle.amqp_json.proofs.Encodes.{PairsLeft, under_object, items_next, items_done, pairs_first, pairs_next, pairs_done, array_put, table_put, puts_weaker, text_put, scalar_put, plain_first, plain_object}
+use Rattle.amqp_json.proofs.Decimals.{decimal_read}
 use Rattle.amqp_json.proofs.encoding.+encode.Goals as goal
+use Rattle.amqp_json.proofs.encoding.+encode.Goals.{last_fields-else-is_scale-via-else-is_scale, last_fields-else-is_scale-via-then-is_scale+in-None-1}
 
 pub put_token-returns-in-Null-clause-ok : goal.put_token-returns-in-Null-clause-ok
 put_token-returns-in-Null-clause-ok t c =
@@ -352,29 +354,35 @@ put_named-returns-in-Some-clause-ok t c =
     (λ v h. sole_under p k s type h.0 (json v) r typed h.1 (is.3 h.0 h.2)) (done k is.0 is.1 old len is.2))
     c.put_sole.ensures
 
-pub last_fields-returns-then-is_scale-clause-ok : goal.last_fields-returns-then-is_scale-clause-ok
-last_fields-returns-then-is_scale-clause-ok t c =
-    let s = c.args.reader.now in
-    let a = c.next_key.new.self in
-    let d = c.in_ok-d.d in
-    let yes : c.is_scale.result ≡ true = search rules in
-    let first : read_key s ≡ Some (Some (codes "scale"), a) = c.in_ok-first.ensures ∙ ap (λ (o : Option (List ℕ)). Some (o, a)) (c.is_scale.ensures yes) in
-    (decimal_json d.scale d.value, c.in_ok-d.ensures.json c.args.depth s first, (refl, refl, (omega arith, omega arith)))
-
 pub last_fields-returns-clause-ok : goal.last_fields-returns-clause-ok
 last_fields-returns-clause-ok t c =
+    let s = c.args.reader.now in
+    let a = c.next_key.new.self in
+    let d = c.in-Some.d in
+    let yes : c.is_scale.result ≡ true = search rules in
+    let first : read_key s ≡ Some (Some (codes "scale"), a) = c.in_ok-first.ensures ∙ ap (λ (o : Option (List ℕ)). Some (o, a)) (c.is_scale.ensures yes) in
+    (decimal_json d.scale d.value, decimal_read c.args.depth d s a c.decimal_fields.new.self first c.in-Some.ensures, (refl, refl, (omega arith, omega arith)))
+
+pub last_fields-returns-2-clause-ok : goal.last_fields-returns-2-clause-ok
+last_fields-returns-2-clause-ok t c =
     let p = value c.args.depth in
     let s = c.args.reader.now in
+    let a = c.next_key.new.self in
     let r = c.put_object_from.new.reader in
     let old = c.args.out.now.items in
     let mid = c.put_object_from.new.out.items in
     let new = c.last_of_table.new.out.items in
-    let put = c.in_ok-put_object_from.ensures.ok s c.in_ok-first.ensures in
+    let same : a ≡ c.else-is_scale.reader = elim c.else-is_scale.branch [
+      | last_fields-else-is_scale-via-else-is_scale w ↦ search rules
+      | last_fields-else-is_scale-via-then-is_scale+in-None-1 w ↦ search rules
+    ] in
+    let first = c.in_ok-first.ensures ∙ ap (λ (ts : List Token). Some (option_map (λ k. k.now) c.in_ok-first.first, ts)) same in
+    let put = c.in_ok-put_object_from.ensures.ok s first in
     let d = json put.1 in
     let at : PutsEncodingOf (λ v. json v ≡ d) old mid = (put.0, put.1, put.2, put.3, put.4, refl) in
     let len : length old ≡ c.len-start.result = grind arith in
     let read : Data → Option (Data × List Token) = λ x. Some (x, r) in
-    weaker _ (λ last. (x : Data) × IsObject x p s r × IsLast last c.args.name.now (read x) r old new) c.last_of_table.result (λ last done. (d, put.5, done d r old len at)) c.last_of_table.ensures
+    weaker _ (λ last. (x : Data) × IsObject x p s r × IsLast last c.args.name.now (read x) r old new) c.last_of_table.result (λ last done. (d, put.5, done d r old len at)) c.last_of_table.ensures.last
 
 pub put_last-returns-else-depth-eq0-clause-ok : goal.put_last-returns-else-depth-eq0-clause-ok
 put_last-returns-else-depth-eq0-clause-ok t c =
