@@ -26,10 +26,8 @@ const UNLIMITED: Limits = Limits {
 };
 
 /// Converts a JSON text to the canonical encoding of its value, which it reads as `from_json` does.
-/// The value is allocated only if the text isn't encoded as its tokens come: if it is rejected, has a
-/// value that is none before another one of its key, or under `DecimalValue` an object that begins
-/// with a scale and has not just a number after it, or the number first and more than 512 bytes as a
-/// table.
+/// The value is allocated only if the text isn't encoded as its tokens come: if it is rejected, or has
+/// a value that is none before another one of its key.
 pub fn encoding_of_json(alloc: Global, json: &str) -> Result<Vec<u8>, EncodeError>
     ensures encoding { IfOk result (λ bytes. IsEncodingOf json.now bytes.items) }
     ensures only { IfOk result (λ bytes. (v : Tree) → IsStored v → JsonTextMeans json.now v

@@ -662,9 +662,8 @@ extern "C" {
     /// `count` becomes how many bytes were written (AMQPV_OK), or which capacity is needed (AMQPV_NO_ROOM), else 0.
     /// Also returns AMQPV_NOT_JSON, AMQPV_NO_MEMORY, or AMQPV_NO_ENCODING if the value contains a ShortString, which
     /// has no type tag, or if a length is too large for its field. It allocates the encoding, and where a table's keys
-    /// don't ascend another and 48 bytes for each of its pairs. It allocates a tree too of JSON that is rejected, of a
-    /// text in which a key comes twice and the value that doesn't count is none, and of one with an object under
-    /// DecimalValue that has a key twice, or another key.
+    /// don't ascend another and 48 bytes for each of its pairs. It allocates a tree too of JSON that is rejected, and
+    /// of a text in which a key comes twice and the value that doesn't count is none.
     pub fn amqpv_from_json(
         text: *const u8,
         length: usize,
