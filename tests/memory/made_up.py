@@ -47,7 +47,7 @@ BY_NUMBER = {
     "self.try_reserve(n)?;": "the same",
     "self.resize(at + n, 0)?;": "the same",
     "let mut values = Vec::with_capacity(alloc, items.len())?;": "items that are there",
-    "let mut pairs = Vec::with_capacity(alloc, table.iter().count())?;": "pairs that are there",
+    "let mut places = Vec::with_capacity(alloc, table.iter().count())?;": "pairs that are there",
     "let mut bytes = Vec::with_capacity(alloc, chunk.len())?;": "bytes that are there",
     "let mut out = Vec::with_capacity(alloc, bytes.len())?;": "the same",
     "let mut out = Vec::with_capacity(alloc, text.len() / 8 + text.len() + 2)?;": "a text that is there, and an eighth more",
