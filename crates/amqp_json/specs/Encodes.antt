@@ -15,6 +15,8 @@ use Rattle.amqp_json.specs.InMemory.{IsStored, AreStoredTrees, EntriesStored}
 use Rattle.amqp_json.specs.Converts.{IsStoredMeaning}
 use Rattle.amqp_json.specs.Json.{json, members_json, decimal_json, under, sole_type, natural}
 use Rattle.amqp_json.specs.Tokens.{BecomesTable}
+use Rattle.amqp_json.specs.declared.encoding.Stop.{Stop}
+use Rattle.amqp_json.specs.declared.encoding.Stop.TheVariants.{NotAValue}
 use Rattle.amqp_json.specs.declared.encoding.leaf.Leaf.{Leaf}
 use Rattle.amqp_json.specs.declared.encoding.leaf.Leaf.TheVariants.{Number, Text, Decimal, Put}
 use Rattle.amqp_json.specs.declared.encoding.object.Object.{Object}
@@ -22,6 +24,11 @@ use Rattle.amqp_json.specs.declared.encoding.object.Kind.{Kind}
 use Rattle.amqp_json.specs.declared.encoding.object.Kind.TheVariants.{Table, Named}
 use Rattle.amqp_json.specs.declared.encoding.last.Last.{Last}
 use Rattle.amqp_json.specs.declared.encoding.last.Last.TheVariants.{Leaf as OfLeaf, Object as OfObject}
+
+-- what stops means no more than that nothing is put, unless it is the JSON of no value: `none`
+abbrev pub IsRefusal : Stop → Type 0 → Type 0
+IsRefusal NotAValue none = none
+IsRefusal e none = Unit {0}
 
 -- the bytes are an encoding of a value that the text means
 abbrev pub IsEncodedMeaning : List ℕ → List ℕ → Type 0

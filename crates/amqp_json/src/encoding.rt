@@ -42,6 +42,8 @@ pub(crate) enum Stop {
     OutOfMemory,
     /// The text isn't encoded here.
     NotHere,
+    /// It is the JSON of no value.
+    NotAValue,
 }
 
 impl From<AllocError> for Stop {
@@ -56,12 +58,16 @@ impl From<AllocError> for Stop {
 }
 
 impl From<ValueError> for Stop {
-    ghost from_gives = { λ _ e. Unit {0} };
+    ghost use Rattle.std.specs.Prelude.{◌≡◌};
+    ghost use Rattle.amqp_json.specs.declared.error.ValueError.TheVariants as value_error;
+    ghost use Rattle.amqp_json.specs.Encodes.{IsRefusal};
+
+    ghost from_gives = { λ error e. IsRefusal e (error ≡ value_error.NotAValue) };
 
     fn from(error: ValueError) -> Stop {
         match error {
             ValueError::OutOfMemory => Stop::OutOfMemory,
-            ValueError::NotAValue => Stop::NotHere,
+            ValueError::NotAValue => Stop::NotAValue,
         }
     }
 }

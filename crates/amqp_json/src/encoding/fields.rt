@@ -75,7 +75,7 @@ pub(crate) fn last_of_table(
             out.truncate(start);
             Ok(Last::Leaf(Leaf::Decimal(d)))
         }
-        Err(Stop::NotHere) => {
+        Err(Stop::NotHere | Stop::NotAValue) => {
             put_before(out, start, name)?;
             Ok(Last::Leaf(Leaf::Put))
         }

@@ -33,14 +33,14 @@ put_token-returns-in-Null-clause-ok t c =
     let r = c.args.reader.now in
     let is : token_of c.args.token ≡ Token.null = grind arith in
     let read = ap (λ k. converted of_json (value c.args.depth (k ∷ r))) is ∙ ap (converted of_json) (value_is c.args.depth _) in
-    on_ok_weaker c.put_void.result (λ same. scalar_put (λ v. converted of_json (value c.args.depth (token_of c.args.token ∷ r)) ≡ Some (json v, r)) _ _ void same tt read) c.put_void.ensures
+    on_ok_weaker c.put_void.result (λ same. scalar_put (λ v. converted of_json (value c.args.depth (token_of c.args.token ∷ r)) ≡ Some (json v, r)) _ _ void same tt read) c.put_void.ensures.ok
 
 pub put_token-returns-in-Bool-clause-ok : goal.put_token-returns-in-Bool-clause-ok
 put_token-returns-in-Bool-clause-ok t c =
     let r = c.args.reader.now in
     let is : token_of c.args.token ≡ Token.boolean c.in-Bool.b = grind arith in
     let read = ap (λ k. converted of_json (value c.args.depth (k ∷ r))) is ∙ ap (converted of_json) (value_is c.args.depth _) in
-    on_ok_weaker c.put_boolean.result (λ same. scalar_put (λ v. converted of_json (value c.args.depth (token_of c.args.token ∷ r)) ≡ Some (json v, r)) _ _ (boolean c.in-Bool.b) same tt read) c.put_boolean.ensures
+    on_ok_weaker c.put_boolean.result (λ same. scalar_put (λ v. converted of_json (value c.args.depth (token_of c.args.token ∷ r)) ≡ Some (json v, r)) _ _ (boolean c.in-Bool.b) same tt read) c.put_boolean.ensures.ok
 
 pub put_token-returns-in-Number-clause-ok : goal.put_token-returns-in-Number-clause-ok
 put_token-returns-in-Number-clause-ok t c =
@@ -57,7 +57,7 @@ put_token-returns-in-String-clause-ok t c =
     let is : token_of c.args.token ≡ Token.string x = grind arith in
     let utf8 : IsUtf8 x = search rules in
     let read = ap (λ k. converted of_json (value c.args.depth (k ∷ r))) is ∙ ap (converted of_json) (value_is c.args.depth _) ∙ ap (λ d. Some (d, r)) (sym (text_is_plain x utf8)) in
-    on_ok_weaker c.put_text.result (λ put. text_put (λ v. converted of_json (value c.args.depth (token_of c.args.token ∷ r)) ≡ Some (json v, r)) _ _ (long x) put.0 put.1 read) c.put_text.ensures
+    on_ok_weaker c.put_text.result (λ put. text_put (λ v. converted of_json (value c.args.depth (token_of c.args.token ∷ r)) ≡ Some (json v, r)) _ _ (long x) put.0 put.1 read) c.put_text.ensures.ok
 
 pub put_token-returns-else-depth-eq0-clause-ok : goal.put_token-returns-else-depth-eq0-clause-ok
 put_token-returns-else-depth-eq0-clause-ok t c =
@@ -134,8 +134,8 @@ put_array-returns-clause-ok t c =
     on_ok_weaker c.fill_length.result (λ done.
     puts_weaker (λ v. (vs : Trees) × (v ≡ values.array vs) × (converted of_items read ≡ Some (items_json vs, r))) (λ v. parse_map array (converted of_items read) ≡ Some (json v, r)) _ _
     (λ v (vs, is, h). ap (parse_map array) h ∙ ap (λ u. Some (json u, r)) (sym is))
-    (array_put (c.len-at.result + 1) _ _ _ _ place done.0 done.1 _ c.in_ok-put_head.ensures c.in_ok-put_items.ensures.ok))
-    c.fill_length.ensures
+    (array_put (c.len-at.result + 1) _ _ _ _ place done.0 done.1 _ c.in_ok-put_head.ensures.ok c.in_ok-put_items.ensures.ok))
+    c.fill_length.ensures.ok
 
 pub put_members-members-init : goal.put_members-members-init
 put_members-members-init t c =
@@ -176,8 +176,8 @@ put_table-returns-clause-ok t c =
     on_ok_weaker c.fill_length.result (λ done plain.
     puts_weaker (λ v. (es : Entries) × (v ≡ values.table es) × AreEntriesRead no_entries es p o a r) (λ v. (ts : List Token) → read_key ts ≡ Some (o, a) → IsObject (json v) p ts r) _ _
     (λ v h ts first. (members_json h.0, plain_object v h.0 h.1 h.2.1, h.2.0 ts (length ts) first (omega arith)))
-    (table_put (c.len-at.result + 1) _ _ _ _ place done.0 done.1 _ c.in_ok-put_head.ensures (c.in_ok-put_members.ensures.ok no_entries tt (plain_first c.args.first plain))))
-    c.fill_length.ensures
+    (table_put (c.len-at.result + 1) _ _ _ _ place done.0 done.1 _ c.in_ok-put_head.ensures.ok (c.in_ok-put_members.ensures.ok no_entries tt (plain_first c.args.first plain))))
+    c.fill_length.ensures.ok
 
 pub put_object_from-returns-2-clause-ok : goal.put_object_from-returns-2-clause-ok
 put_object_from-returns-2-clause-ok t c =
@@ -273,7 +273,7 @@ put_turns-returns-in-Some-2-clause-ok t c =
     λ v h. leads_as p no_members (key k ∷ s) (member k (json v) no_members) r (key j ∷ u) (past_turn p k s l.invariant.0 l.reader r (json v) l.invariant.1 l.invariant.2 h last.shorter) (next_is r (Some j) u next)
     ) other c.in_ok-put_members-in-Some-2.ensures.ok in
     let P : Entries → Type 0 = λ es. IsObjectOfMembers p no_members (key k ∷ s) (members_json es) rest × (sole_type (members_json es) ≡ None) in
-    let done = c.in_ok-fill_length-in-Some-2.ensures in
+    let done = c.in_ok-fill_length-in-Some-2.ensures.ok in
     puts_weaker (λ v. (es : Entries) × (v ≡ values.table es) × P es) (λ v. IsObject (json v) p (key k ∷ s) rest) old new
     (λ v h. (members_json h.0, plain_object v h.0 h.1 h.2.1, h.2.0 (length (key k ∷ s)) (omega arith)))
     (table_put (c.len-start.result + 1) old (old ++ 70 ∷ 0 ∷ 0 ∷ 0 ∷ 0 ∷ []) end new place done.0 done.1 P refl pairs)

@@ -18,4 +18,4 @@ returns-in-DecimalValue-Decimal c =
     let at = subst (λ (l : Leaf). IsLeaf l k read rest old c.args.out.now.items) c.in-DecimalValue-Decimal.is-1 is in
     scalar_put (λ v. (x : Data) × (json v ≡ under c.args.amqp_type x) × (read ≡ Some (x, rest))) old _ (decimal d.scale d.value) (same ∙ ap (λ b. b ++ text (scalar (decimal d.scale d.value))) at.0) at.2
     (decimal_json d.scale d.value, ap (λ t. under t (decimal_json d.scale d.value)) (sym type), at.1))
-    c.put_decimal.ensures
+    c.put_decimal.ensures.ok

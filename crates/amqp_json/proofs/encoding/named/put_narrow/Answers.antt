@@ -30,7 +30,7 @@ returns-in-Ok-try_from c =
     let same : n ≡ unsigned_abs z = search rules in
     let (is, low) = natural_is 8 n z fits same in
     let type : c.args.amqp_type ≡ types.ShortShortUInt = search rules in
-    on_ok_weaker c.put_short_short_uint.result (λ same. subst (λ t. PutsEncodingOf (λ v. json v ≡ under t (number (of_integer z))) c.args.out.now.items c.put_short_short_uint.new.out.items) (sym type) (subst (λ x. PutsEncodingOf (λ v. json v ≡ under types.ShortShortUInt (number (of_integer x))) c.args.out.now.items c.put_short_short_uint.new.out.items) is (unsigned_put types.ShortShortUInt _ _ n low refl same))) c.put_short_short_uint.ensures
+    on_ok_weaker c.put_short_short_uint.result (λ same. subst (λ t. PutsEncodingOf (λ v. json v ≡ under t (number (of_integer z))) c.args.out.now.items c.put_short_short_uint.new.out.items) (sym type) (subst (λ x. PutsEncodingOf (λ v. json v ≡ under types.ShortShortUInt (number (of_integer x))) c.args.out.now.items c.put_short_short_uint.new.out.items) is (unsigned_put types.ShortShortUInt _ _ n low refl same))) c.put_short_short_uint.ensures.ok
 
 pub returns-in-Ok-try_from-2 : goal.returns-in-Ok-try_from-2
 returns-in-Ok-try_from-2 c =
@@ -49,7 +49,7 @@ returns-in-Ok-try_from-3 c =
     let same : n ≡ unsigned_abs z = search rules in
     let (is, low) = natural_is 16 n z fits same in
     let type : c.args.amqp_type ≡ types.ShortUInt = search rules in
-    on_ok_weaker c.put_short_uint.result (λ same. subst (λ t. PutsEncodingOf (λ v. json v ≡ under t (number (of_integer z))) c.args.out.now.items c.put_short_uint.new.out.items) (sym type) (subst (λ x. PutsEncodingOf (λ v. json v ≡ under types.ShortUInt (number (of_integer x))) c.args.out.now.items c.put_short_uint.new.out.items) is (unsigned_put types.ShortUInt _ _ n low refl same))) c.put_short_uint.ensures
+    on_ok_weaker c.put_short_uint.result (λ same. subst (λ t. PutsEncodingOf (λ v. json v ≡ under t (number (of_integer z))) c.args.out.now.items c.put_short_uint.new.out.items) (sym type) (subst (λ x. PutsEncodingOf (λ v. json v ≡ under types.ShortUInt (number (of_integer x))) c.args.out.now.items c.put_short_uint.new.out.items) is (unsigned_put types.ShortUInt _ _ n low refl same))) c.put_short_uint.ensures.ok
 
 pub returns-in-Ok-try_from-4 : goal.returns-in-Ok-try_from-4
 returns-in-Ok-try_from-4 c =
@@ -68,7 +68,7 @@ returns-in-Ok-try_from-5 c =
     let same : n ≡ unsigned_abs z = search rules in
     let (is, low) = natural_is 32 n z fits same in
     let type : c.args.amqp_type ≡ types.LongUInt = search rules in
-    on_ok_weaker c.put_long_uint.result (λ same. subst (λ t. PutsEncodingOf (λ v. json v ≡ under t (number (of_integer z))) c.args.out.now.items c.put_long_uint.new.out.items) (sym type) (subst (λ x. PutsEncodingOf (λ v. json v ≡ under types.LongUInt (number (of_integer x))) c.args.out.now.items c.put_long_uint.new.out.items) is (unsigned_put types.LongUInt _ _ n low refl same))) c.put_long_uint.ensures
+    on_ok_weaker c.put_long_uint.result (λ same. subst (λ t. PutsEncodingOf (λ v. json v ≡ under t (number (of_integer z))) c.args.out.now.items c.put_long_uint.new.out.items) (sym type) (subst (λ x. PutsEncodingOf (λ v. json v ≡ under types.LongUInt (number (of_integer x))) c.args.out.now.items c.put_long_uint.new.out.items) is (unsigned_put types.LongUInt _ _ n low refl same))) c.put_long_uint.ensures.ok
 
 pub returns-in-Ok-try_from-6 : goal.returns-in-Ok-try_from-6
 returns-in-Ok-try_from-6 c =
@@ -78,4 +78,4 @@ returns-in-Ok-try_from-6 c =
     let same : n ≡ unsigned_abs z = search rules in
     let (is, low) = natural_is 64 n z fits same in
     let type : c.args.amqp_type ≡ types.Timestamp = search rules in
-    on_ok_weaker c.put_timestamp.result (λ same. subst (λ t. PutsEncodingOf (λ v. json v ≡ under t (number (of_integer z))) c.args.out.now.items c.put_timestamp.new.out.items) (sym type) (subst (λ x. PutsEncodingOf (λ v. json v ≡ under types.Timestamp (number (of_integer x))) c.args.out.now.items c.put_timestamp.new.out.items) is (unsigned_put types.Timestamp _ _ n low refl same))) c.put_timestamp.ensures
+    on_ok_weaker c.put_timestamp.result (λ same. subst (λ t. PutsEncodingOf (λ v. json v ≡ under t (number (of_integer z))) c.args.out.now.items c.put_timestamp.new.out.items) (sym type) (subst (λ x. PutsEncodingOf (λ v. json v ≡ under types.Timestamp (number (of_integer x))) c.args.out.now.items c.put_timestamp.new.out.items) is (unsigned_put types.Timestamp _ _ n low refl same))) c.put_timestamp.ensures.ok

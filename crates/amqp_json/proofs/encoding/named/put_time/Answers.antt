@@ -9,4 +9,4 @@ pub returns : goal.returns
 returns c =
     let n = c.in-Some.n in
     let low : n < 2 ^ 64 = search rules in
-    on_ok_weaker c.put_timestamp.result (λ same. number_put types.Timestamp _ _ c.args.text.now (unsigned n) c.in-Some.ensures (unsigned_put types.Timestamp _ _ n low refl same)) c.put_timestamp.ensures
+    on_ok_weaker c.put_timestamp.result (λ same. number_put types.Timestamp _ _ c.args.text.now (unsigned n) c.in-Some.ensures (unsigned_put types.Timestamp _ _ n low refl same)) c.put_timestamp.ensures.ok
