@@ -4,6 +4,7 @@ mod Numbers
 mod Signed
 mod Stored
 mod ReadWalks
+mod Refused
 mod Back
 mod Only
 mod Ones

@@ -2,8 +2,9 @@
 use Rattle.std.specs.Prelude.{ℕ, zero, suc, ◌≡◌, ◌<◌, ◌≤◌, IsTrue, List, [], ◌∷◌, ◌++◌, length, Option, Some, None, option_map}
 use Rattle.json.specs.Token.{Token, key}
 use Rattle.json.specs.Json.{Json, Parse, members, read_key, value}
-use Rattle.serde_json.specs.Data.{Data, Members, number, string, object, member, no_members}
+use Rattle.serde_json.specs.Data.{Num, Data, Members, number, string, object, member, no_members}
 use Rattle.serde_json.specs.Read.{of_json, of_members, converted, number_of}
+use Rattle.amqp_value_core.specs.declared.types.amqp_type.AMQPType.{AMQPType}
 use Rattle.amqp_value_core.specs.declared.types.amqp_type.AMQPType.TheVariants as amqp
 use Rattle.amqp_value_core.specs.Names.{name_of}
 use Rattle.amqp_value_core.specs.Values.{decimal, Tree, Trees, Entries, insert_all, readable}
@@ -14,6 +15,7 @@ use Rattle.amqp_value_core.specs.Strings.{IsShort}
 use Rattle.amqp_json.specs.InMemory.{IsStored, AreStoredTrees, EntriesStored}
 use Rattle.amqp_json.specs.Converts.{IsStoredMeaning}
 use Rattle.amqp_json.specs.Json.{json, members_json, decimal_json, under, sole_type, natural}
+use Rattle.amqp_json.specs.Reading.{value_of, value_named, ambiguous_table}
 use Rattle.amqp_json.specs.Tokens.{BecomesTable}
 use Rattle.amqp_json.specs.declared.encoding.Stop.{Stop}
 use Rattle.amqp_json.specs.declared.encoding.Stop.TheVariants.{NotAValue}
@@ -29,6 +31,14 @@ use Rattle.amqp_json.specs.declared.encoding.last.Last.TheVariants.{Leaf as OfLe
 abbrev pub IsRefusal : Stop → Type 0 → Type 0
 IsRefusal NotAValue none = none
 IsRefusal e none = Unit {0}
+
+-- under the name of a type it is the JSON of no value
+abbrev pub IsNoneUnder : AMQPType → Data → Type 0
+IsNoneUnder type d = value_named type d (ambiguous_table d) ≡ None
+
+-- it is the text of a number, and P is so of that as JSON
+abbrev pub IsNumberWith : (Data → Type 0) → List ℕ → Type 0
+IsNumberWith P s = (x : Num) × (number_of s ≡ Some x) × P (number x)
 
 -- the bytes are an encoding of a value that the text means
 abbrev pub IsEncodedMeaning : List ℕ → List ℕ → Type 0

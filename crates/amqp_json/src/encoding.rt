@@ -1,7 +1,7 @@
 //! From the tokens of a text to an encoding of its value, without the value in memory: the pairs of
 //! a table are in the order of the text, and keys may occur again.
 
-ghost use Rattle.std.specs.Prelude.{ℕ, ◌≡◌, ◌<◌, ◌≤◌, ◌∷◌, length, List, Some, None, true, codes, IfOk, OnOk, IfSome, option_map};
+ghost use Rattle.std.specs.Prelude.{ℕ, ◌≡◌, ◌<◌, ◌≤◌, ◌∷◌, length, List, Some, None, true, codes, IfOk, OnOk, IfErr, IfSome, option_map};
 ghost use Rattle.json.specs.Token.{Token as SpecToken};
 ghost use Rattle.json.specs.Token as token;
 ghost use Rattle.json.specs.Reads.{token_of};
@@ -10,9 +10,10 @@ ghost use Rattle.serde_json.specs.Data.{Data, array, number};
 ghost use Rattle.serde_json.specs.Read.{of_json, of_items, converted, number_of};
 ghost use Rattle.amqp_value_core.specs.Values.{Entries};
 ghost use Rattle.amqp_json.specs.InMemory.{EntriesStored};
-ghost use Rattle.amqp_json.specs.Encodes.{IsObject, IsEncodedMeaning, PutsEncodingOf, PutsValues, PutsPairs, AreEntriesRead, HasNoTypeName, IsLast, IsPending, IsNamedRead, IsNaturalRead};
+ghost use Rattle.amqp_json.specs.Encodes.{IsObject, IsEncodedMeaning, PutsEncodingOf, PutsValues, PutsPairs, AreEntriesRead, HasNoTypeName, IsLast, IsPending, IsNamedRead, IsNaturalRead, IsRefusal, IsNumberWith};
 ghost use Rattle.amqp_json.specs.Json.{json, items_json, under, decimal_json};
 ghost use Rattle.amqp_json.specs.Names.{type_named};
+ghost use Rattle.amqp_json.specs.Reading.{value_of};
 
 mod fields;
 mod last;
@@ -24,7 +25,8 @@ pub(crate) mod put;
 
 use crate::error::ValueError;
 use crate::names::type_of_name;
-use crate::numerals::{integer, natural_number};
+use crate::numerals::{integer, natural_number, number};
+use crate::reading::long_long_int;
 use amqp_value_core::types::{AMQPType, DecimalValue};
 use fields::last_of_table;
 use json::{Scratch, Token};
@@ -162,13 +164,28 @@ fn put_token<'a>(
 // A number without a type's name.
 #[inline(always)]
 fn put_integer(out: &mut Vec<u8>, text: &str) -> Result<(), Stop>
-    ensures { OnOk result (PutsEncodingOf (λ v. option_map number (number_of text.now) ≡ Some (json v))
+    ensures ok { OnOk result (PutsEncodingOf (λ v. option_map number (number_of text.now) ≡ Some (json v))
         out.old.items out.new.items) }
+    ensures refused { IfErr result (λ e. IsRefusal e (IsNumberWith (λ d. value_of d ≡ None) text.now)) }
 {
     let Some(n) = integer(text) else {
-        return Err(Stop::NotHere);
+        return Err(number_refusal(text));
     };
     put_long_long_int(out, n)
+}
+
+// Why a number without a type's name isn't put.
+#[inline(never)]
+fn number_refusal(text: &str) -> Stop
+    ensures { IsRefusal result (IsNumberWith (λ d. value_of d ≡ None) text.now) }
+{
+    let Some(n) = number(text) else {
+        return Stop::NotHere;
+    };
+    match long_long_int(&n) {
+        Some(_) => Stop::NotHere,
+        None => Stop::NotAValue,
+    }
 }
 
 #[cycle(encode)]

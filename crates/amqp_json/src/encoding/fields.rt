@@ -1,11 +1,11 @@
 //! The table of a decimal's scale and number, which may be under the decimal's type or not.
 
-ghost use Rattle.std.specs.Prelude.{ℕ, ◌≡◌, length, List, Some, OnOk, IfOk};
+ghost use Rattle.std.specs.Prelude.{ℕ, ◌≡◌, length, List, Some, OnOk, IfOk, IfErr};
 ghost use Rattle.json.specs.Token.{Token as SpecToken};
 ghost use Rattle.serde_json.specs.Data.{Data};
 ghost use Rattle.amqp_value_core.specs.Values.{Tree};
 ghost use Rattle.amqp_value_core.specs.Grammar.{Wire};
-ghost use Rattle.amqp_json.specs.Encodes.{PutsEncodingOf, IsLast};
+ghost use Rattle.amqp_json.specs.Encodes.{PutsEncodingOf, IsLast, IsRefusal};
 ghost use Rattle.amqp_json.specs.Json.{json, decimal_json};
 
 use super::Stop;
@@ -22,7 +22,8 @@ const MOST_BYTES: usize = 512;
 
 /// The table of a decimal's scale and number.
 pub(crate) fn put_fields(out: &mut Vec<u8>, scale: u8, value: u32) -> Result<(), Stop>
-    ensures { OnOk result (PutsEncodingOf (λ v. json v ≡ decimal_json scale value) out.old.items out.new.items) }
+    ensures ok { OnOk result (PutsEncodingOf (λ v. json v ≡ decimal_json scale value) out.old.items out.new.items) }
+    ensures refused { IfErr result (λ e. IsRefusal e ⊥) }
 {
     let at = out.len() + 1;
     put_head(out, b'F')?;

@@ -48,7 +48,7 @@ put_token-returns-in-Number-clause-ok t c =
     let x = c.in-Number.text.now in
     let is : token_of c.args.token ≡ Token.number x = grind arith in
     on_ok_weaker c.put_integer.result (puts_weaker (λ v. option_map number (number_of x) ≡ Some (json v)) (λ v. converted of_json (value c.args.depth (token_of c.args.token ∷ r)) ≡ Some (json v, r)) _ _
-    (λ v read. ap (λ k. converted of_json (value c.args.depth (k ∷ r))) is ∙ ap (converted of_json) (value_is c.args.depth _) ∙ ap (λ o. option_map (λ (d : Data). (d, r)) o) read)) c.put_integer.ensures
+    (λ v read. ap (λ k. converted of_json (value c.args.depth (k ∷ r))) is ∙ ap (converted of_json) (value_is c.args.depth _) ∙ ap (λ o. option_map (λ (d : Data). (d, r)) o) read)) c.put_integer.ensures.ok
 
 pub put_token-returns-in-String-clause-ok : goal.put_token-returns-in-String-clause-ok
 put_token-returns-in-String-clause-ok t c =
@@ -85,7 +85,7 @@ put_typed-returns-in-Some-clause-ok t c =
     let last = c.in-Some.ensures in
     let end = c.last_integer.new.self in
     let d = number (of_integer z) in
-    let put = subst (λ x. OnOk c.put_narrow.result (PutsEncodingOf (λ v. json v ≡ under type (number (of_integer x))) c.args.out.now.items c.put_narrow.new.out.items)) (to_z-of_z w64 z last.fits) c.put_narrow.ensures in
+    let put = subst (λ x. OnOk c.put_narrow.result (PutsEncodingOf (λ v. json v ≡ under type (number (of_integer x))) c.args.out.now.items c.put_narrow.new.out.items)) (to_z-of_z w64 z last.fits) c.put_narrow.ensures.ok in
     let read : converted of_json (p s) ≡ Some (d, Token.end_object ∷ end) =
     ap (λ ts. converted of_json (p ts)) last.first ∙ number_read c.args.depth last.digits (Token.end_object ∷ end) d (ap (option_map number) last.denoted) in
     on_ok_weaker c.put_narrow.result (λ done named. puts_weaker (λ v. json v ≡ under type d) (λ v. IsObject (json v) p (key k ∷ s) end) _ _

@@ -8,7 +8,7 @@ use Rattle.amqp_json.proofs.encoding.fields.decimal_of.Goals as goal
 pub returns-then-eq : goal.returns-then-eq
 returns-then-eq c v is =
     let bytes = c.in_ok-canonical.canonical.items in
-    let put = c.in_ok-put_fields.ensures in
+    let put = c.in_ok-put_fields.ensures.ok in
     let w = put.0 in
     let u = put.1 in
     let same : c.put_fields.new.out.items ≡ bytes = search rules in

@@ -8,8 +8,8 @@ use Rattle.amqp_value_core.specs.Values.{scalar, number}
 use Rattle.amqp_json.proofs.Encodes.{fields_put}
 use Rattle.amqp_json.proofs.encoding.fields.put_fields.Goals as goal
 
-pub returns : goal.returns
-returns c =
+pub returns-clause-ok : goal.returns-clause-ok
+returns-clause-ok c =
     let old = c.args.out.now.items in
     let a = c.put_head.new.out.items in
     let b = c.put_key.new.out.items in

@@ -10,8 +10,8 @@ use Rattle.amqp_json.proofs.Bytes.{text_is_plain}
 use Rattle.amqp_json.proofs.Encodes.{text_put}
 use Rattle.amqp_json.proofs.encoding.leaf.put_first_leaf.Goals as goal
 
-pub returns-in_ok-put_key-in-Text : goal.returns-in_ok-put_key-in-Text
-returns-in_ok-put_key-in-Text c =
+pub returns-in_ok-put_key-in-Text-clause-ok : goal.returns-in_ok-put_key-in-Text-clause-ok
+returns-in_ok-put_key-in-Text-clause-ok c =
     let k = c.args.name.now in
     let x = c.in-Text.text.now in
     let new = c.put_text.new.out.items in
