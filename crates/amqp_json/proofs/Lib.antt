@@ -4,7 +4,6 @@ mod Numbers
 mod Signed
 mod Stored
 mod ReadWalks
-mod Refused
 mod Back
 mod Only
 mod Ones
@@ -28,6 +27,7 @@ mod Passing
 mod Merged
 mod Leading
 mod Forms
+mod Refused
 mod Digits
 mod Encodes
 mod Named

@@ -8,6 +8,7 @@ ghost use Rattle.json.specs.Reads.{token_of};
 ghost use Rattle.json.specs.Json.{value, items, parse_map, read_key};
 ghost use Rattle.serde_json.specs.Data.{Data, array, number};
 ghost use Rattle.serde_json.specs.Read.{of_json, of_items, converted, number_of};
+ghost use Rattle.amqp_value_core.specs.declared.types.amqp_type.AMQPType.TheVariants as amqp;
 ghost use Rattle.amqp_value_core.specs.Values.{Entries};
 ghost use Rattle.amqp_json.specs.InMemory.{EntriesStored};
 ghost use Rattle.amqp_json.specs.Encodes.{IsObject, IsEncodedMeaning, PutsEncodingOf, PutsValues, PutsPairs, AreEntriesRead, HasNoTypeName, IsLast, IsPending, IsNamedRead, IsNaturalRead, IsRefusal, IsNumberWith};
@@ -283,7 +284,7 @@ fn last_fields<'a>(
     depth: usize,
 ) -> Result<Last<'a>, Stop>
     ensures ok { IfOk result (λ last. (d : Data) × IsObject d (value depth) reader.old reader.new
-        × IsLast last name.now (Some (d, reader.new)) reader.new out.old.items out.new.items) }
+        × IsLast last amqp.DecimalValue name.now (Some (d, reader.new)) reader.new out.old.items out.new.items) }
     ensures shorter { IfOk result (λ last. length reader.new < length reader.old) }
 {
     let first = reader.next_key()?;
@@ -427,7 +428,7 @@ fn put_turns<'a>(
     amqp_type: AMQPType,
     depth: usize,
 ) -> Result<Option<Last<'a>>, Stop>
-    ensures ok { IfOk result (λ found. IsNamedRead found (value depth) name.now reader.old reader.new
+    ensures ok { IfOk result (λ found. IsNamedRead found amqp_type (value depth) name.now reader.old reader.new
         out.old.items out.new.items) }
     ensures shorter { IfOk result (λ found. length reader.new < length reader.old) }
 {
@@ -460,7 +461,7 @@ fn put_last<'a>(
     amqp_type: AMQPType,
     depth: usize,
 ) -> Result<Last<'a>, Stop>
-    ensures ok { IfOk result (λ last. IsLast last name.now
+    ensures ok { IfOk result (λ last. IsLast last amqp_type name.now
         (converted of_json (value depth reader.old)) reader.new out.old.items out.new.items) }
     ensures shorter { IfOk result (λ last. length reader.new < length reader.old) }
 {

@@ -32,7 +32,7 @@ pub(crate) fn put_sole(
     last: Last<'_>,
 ) -> Result<(), Stop>
     ensures { OnOk result ((k : List ℕ) (read : Option (Data × List SpecToken)) (rest : List SpecToken) (old : List ℕ)
-        → length old ≡ start → IsLast last.entry k read rest old out.old.items
+        → length old ≡ start → IsLast last.entry amqp_type k read rest old out.old.items
         → PutsEncodingOf (λ v. (d : Data) × (json v ≡ under amqp_type d) × (read ≡ Some (d, rest))) old out.new.items) }
 {
     match last {
@@ -65,7 +65,7 @@ fn under_table(amqp_type: AMQPType, object: Object<'_>) -> Result<Object<'_>, St
 #[inline(never)]
 pub(crate) fn object_of(amqp_type: AMQPType, last: Last<'_>) -> Result<Object<'_>, Stop>
     ensures { IfOk result (λ o. (read : Option (Data × List SpecToken)) (rest : List SpecToken) (old new : List ℕ)
-        → IsLast last.entry (name_of amqp_type) read rest old new
+        → IsLast last.entry amqp_type (name_of amqp_type) read rest old new
         → (d : Data) × (read ≡ Some (d, rest)) × IsPending o (under amqp_type d) old new) }
 {
     match last {
@@ -91,8 +91,8 @@ pub(crate) fn put_first(
     name: &str,
     last: Last<'_>,
 ) -> Result<(), Stop>
-    ensures { OnOk result ((read : Option (Data × List SpecToken)) (rest : List SpecToken) (old : List ℕ)
-        → length old ≡ start → IsLast last.entry name.now read rest old out.old.items
+    ensures { OnOk result ((type : AMQPType) (read : Option (Data × List SpecToken)) (rest : List SpecToken) (old : List ℕ)
+        → length old ≡ start → IsLast last.entry type name.now read rest old out.old.items
         → PutsFirst name.now (λ v. read ≡ Some (json v, rest)) old out.new.items) }
 {
     match last {
@@ -107,8 +107,8 @@ pub(crate) fn put_first(
 /// Takes back what is put of a value, as its key follows again.
 #[inline(never)]
 pub(crate) fn take_back(out: &mut Vec<u8>, start: usize, last: Last<'_>) -> Result<(), Stop>
-    ensures { OnOk result ((k : List ℕ) (read : Option (Data × List SpecToken)) (rest : List SpecToken) (old : List ℕ)
-        → length old ≡ start → IsLast last.entry k read rest old out.old.items
+    ensures { OnOk result ((type : AMQPType) (k : List ℕ) (read : Option (Data × List SpecToken)) (rest : List SpecToken) (old : List ℕ)
+        → length old ≡ start → IsLast last.entry type k read rest old out.old.items
         → (out.new.items ≡ old) × ((d : Data) × (read ≡ Some (d, rest)))) }
 {
     if !is_last_json(last) {
@@ -119,8 +119,8 @@ pub(crate) fn take_back(out: &mut Vec<u8>, start: usize, last: Last<'_>) -> Resu
 }
 
 fn is_last_json(last: Last<'_>) -> bool
-    ensures { result ≡ true → (k : List ℕ) (read : Option (Data × List SpecToken)) (rest : List SpecToken) (old new : List ℕ)
-        → IsLast last.entry k read rest old new → (d : Data) × (read ≡ Some (d, rest)) }
+    ensures { result ≡ true → (type : AMQPType) (k : List ℕ) (read : Option (Data × List SpecToken)) (rest : List SpecToken) (old new : List ℕ)
+        → IsLast last.entry type k read rest old new → (d : Data) × (read ≡ Some (d, rest)) }
 {
     match last {
         Last::Leaf(leaf) => is_json(leaf),

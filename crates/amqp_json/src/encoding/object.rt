@@ -95,7 +95,7 @@ fn put_sole_leaf(
     leaf: Leaf<'_>,
 ) -> Result<(), Stop>
     ensures { OnOk result ((d : Data) (old : List ℕ) → length old ≡ start
-        → IsLeaf leaf.entry (name_of amqp_type) (Some (d, [])) [] old out.old.items
+        → IsLeaf leaf.entry amqp_type (name_of amqp_type) (Some (d, [])) [] old out.old.items
         → PutsEncodingOf (λ v. json v ≡ under amqp.FieldTable (under amqp_type d)) old out.new.items) }
 {
     put_first_leaf(out, name_of(amqp_type), leaf)?;

@@ -12,9 +12,12 @@ use Rattle.json.proofs.Grammar.{value_is, value-begin_array, value-begin_object,
 use Rattle.serde_json.specs.Data.{Data, number, array, object, no_members, member}
 use Rattle.serde_json.specs.Find.{of_integer}
 use Rattle.serde_json.specs.Read.{of_json, of_items, converted, number_of}
+use Rattle.amqp_value_core.specs.declared.types.amqp_type.AMQPType.TheVariants as amqp
 use Rattle.amqp_value_core.specs.Values as values
 use Rattle.amqp_value_core.specs.Values.{Tree, Trees, Entries, no_entries, scalar, boolean, void, long}
-use Rattle.amqp_json.specs.Encodes.{AreEntriesRead, IsLast, IsNamedRead, IsPending, PutsEncodingOf, PutsFirst}
+use Rattle.amqp_value_core.specs.Grammar.{short_field}
+use Rattle.amqp_json.specs.Encodes.{AreEntriesRead, IsLast, IsNamedRead, IsPending, IsUnnamed, PutsEncodingOf, PutsFirst}
+use Rattle.amqp_json.proofs.Refused.{IsPutToken, put_unnamed}
 use Rattle.amqp_json.specs.Names.{type_named}
 use Rattle.amqp_json.specs.declared.encoding.last.Last.{Last}
 use Rattle.amqp_json.proofs.Only.{is_name}
@@ -214,7 +217,7 @@ put_turns-turns-preserved t c =
     let u = c.next_key.new.self in
     let last = c.in_ok-last.ensures in
     let len : length l.out.items ≡ c.len-start.result = grind (arith, l.invariant.4) in
-    let back = c.in_ok-take_back-in-Some.ensures k (converted of_json (p l.reader)) r l.out.items len last.ok in
+    let back = c.in_ok-take_back-in-Some.ensures c.args.amqp_type k (converted of_json (p l.reader)) r l.out.items len last.ok in
     let d = back.1.0 in
     let same : c.in-Some.key.now ≡ k = search rules in
     let next : read_key r ≡ Some (Some k, u) = c.in_ok-next.ensures ∙ ap (λ (o : Option (Bor (List ℕ))). Some (option_map (λ b. b.now) o, u)) c.in-Some.is ∙ ap (λ (j : List ℕ). Some (Some j, u)) same in
@@ -237,7 +240,7 @@ put_turns-returns-in-None-clause-ok t c =
     let u = c.next_key.new.self in
     let last = c.in_ok-last.ensures in
     let read = converted of_json (p l.reader) in
-    let here = subst (λ (b : List ℕ). IsLast c.in_ok-last.last k read r b c.put_last.new.out.items) l.invariant.4 last.ok in (
+    let here = subst (λ (b : List ℕ). IsLast c.in_ok-last.last c.args.amqp_type k read r b c.put_last.new.out.items) l.invariant.4 last.ok in (
       read,
       r,
       here,
@@ -267,8 +270,8 @@ put_turns-returns-in-Some-2-clause-ok t c =
     let len : length old ≡ c.len-start.result = grind arith in
     let other : j ≢ k = search rules in
     let next : read_key r ≡ Some (Some j, u) = c.in_ok-next.ensures ∙ ap (λ (o : Option (Bor (List ℕ))). Some (option_map (λ b. b.now) o, u)) c.in-Some-2.is in
-    let here = subst (λ (b : List ℕ). IsLast c.in_ok-last.last k read r b c.put_last.new.out.items) l.invariant.4 last.ok in
-    let first : PutsFirst k (λ v. read ≡ Some (json v, r)) old mid = c.in_ok-put_first-in-Some-2.ensures read r old len here in
+    let here = subst (λ (b : List ℕ). IsLast c.in_ok-last.last c.args.amqp_type k read r b c.put_last.new.out.items) l.invariant.4 last.ok in
+    let first : PutsFirst k (λ v. read ≡ Some (json v, r)) old mid = c.in_ok-put_first-in-Some-2.ensures c.args.amqp_type read r old len here in
     let pairs = first_pairs p k s j u rest old mid end (λ v. read ≡ Some (json v, r)) first (
     λ v h. leads_as p no_members (key k ∷ s) (member k (json v) no_members) r (key j ∷ u) (past_turn p k s l.invariant.0 l.reader r (json v) l.invariant.1 l.invariant.2 h last.shorter) (next_is r (Some j) u next)
     ) other c.in_ok-put_members-in-Some-2.ensures.ok in
@@ -309,7 +312,7 @@ object_under_table-returns-in_default-clause-ok t c =
     let first : read_key s ≡ Some (Some k, a) = c.in_ok-first.ensures ∙ ap (λ (o : Option (Bor (List ℕ))). Some (option_map (λ b. b.now) o, a)) c.in-Some.is in
     let next = next_is s (Some k) a first in
     let none : c.in_ok-found.found ≡ None = search rules in
-    let put = subst (λ (f : Option Last). IsNamedRead f p k a r old new) none c.in_ok-found.ensures.ok in
+    let put = subst (λ (f : Option Last). IsNamedRead f c.in-Some-type_of_name.amqp_type p k a r old new) none c.in_ok-found.ensures.ok in
     put_pending p s r old new (subst (λ (ts : List Token). PutsEncodingOf (λ v. IsObject (json v) p ts r) old new) (sym next) put)
 
 pub object_under_table-returns-clause-ok : goal.object_under_table-returns-clause-ok
@@ -326,8 +329,8 @@ object_under_table-returns-clause-ok t c =
     let first : read_key s ≡ Some (Some k, a) = c.in_ok-first.ensures ∙ ap (λ (o : Option (Bor (List ℕ))). Some (option_map (λ b. b.now) o, a)) c.in-Some.is in
     let next = next_is s (Some k) a first in
     let typed : type_named k ≡ Some type = search rules in
-    let is = subst (λ (f : Option Last). IsNamedRead f p k a r old new) c.in-Some-found.is c.in_ok-found.ensures.ok in
-    let under_name = subst (λ (j : List ℕ). IsLast last j is.0 is.1 old new) (is_name k type typed) is.2 in
+    let is = subst (λ (f : Option Last). IsNamedRead f type p k a r old new) c.in-Some-found.is c.in_ok-found.ensures.ok in
+    let under_name = subst (λ (j : List ℕ). IsLast last type j is.0 is.1 old new) (is_name k type typed) is.2 in
     weaker _ (λ o. (d : Data) × IsObject d p s r × IsPending o d old new) c.object_of.result
     (λ o done.
     let at = done is.0 is.1 old new under_name in
@@ -345,7 +348,7 @@ put_named-returns-in-Some-clause-ok t c =
     let old = c.args.out.now.items in
     let mid = c.put_turns.new.out.items in
     let new = c.put_sole.new.out.items in
-    let is = subst (λ (f : Option Last). IsNamedRead f p k s r old mid) c.in-Some.is c.in_ok-put_turns.ensures.ok in
+    let is = subst (λ (f : Option Last). IsNamedRead f type p k s r old mid) c.in-Some.is c.in_ok-put_turns.ensures.ok in
     let len : length old ≡ c.len-start.result = grind arith in
     on_ok_weaker c.put_sole.result (λ done typed.
     puts_weaker (λ v. (d : Data) × (json v ≡ under type d) × (is.0 ≡ Some (d, is.1))) (λ v. IsObject (json v) p (key k ∷ s) r) old new
@@ -374,7 +377,7 @@ last_fields-returns-clause-ok t c =
     let at : PutsEncodingOf (λ v. json v ≡ d) old mid = (put.0, put.1, put.2, put.3, put.4, refl) in
     let len : length old ≡ c.len-start.result = grind arith in
     let read : Data → Option (Data × List Token) = λ x. Some (x, r) in
-    weaker _ (λ last. (x : Data) × IsObject x p s r × IsLast last c.args.name.now (read x) r old new) c.last_of_table.result (λ last done. (d, put.5, done d r old len at)) c.last_of_table.ensures
+    weaker _ (λ last. (x : Data) × IsObject x p s r × IsLast last amqp.DecimalValue c.args.name.now (read x) r old new) c.last_of_table.result (λ last done. (d, put.5, done d r old len at)) c.last_of_table.ensures
 
 pub put_last-returns-else-depth-eq0-clause-ok : goal.put_last-returns-else-depth-eq0-clause-ok
 put_last-returns-else-depth-eq0-clause-ok t c =
@@ -387,8 +390,28 @@ put_last-returns-else-depth-eq0-clause-ok t c =
     let new = c.last_fields.new.out.items in
     let is : s ≡ Token.begin_object ∷ r = grind arith in
     let opened = ap (λ ts. converted of_json (value depth ts)) is ∙ ap (converted of_json) (value-begin_object depth r (omega arith)) ∙ converted-object (members (value (depth - 1)) (length r) r) in
-    weaker _ (λ last. IsLast last k (converted of_json (value depth s)) u old new) c.last_fields.result
+    let type : amqp.DecimalValue ≡ c.args.amqp_type = search rules in
+    weaker _ (λ last. IsLast last c.args.amqp_type k (converted of_json (value depth s)) u old new) c.last_fields.result
     (λ last done.
     let read : converted of_json (value depth s) ≡ Some (done.0, u) = opened ∙ ap (parse_map object) done.1.2 ∙ ap (λ d. Some (d, u)) (sym done.1.1) in
-    subst (λ (o : Option (Data × List Token)). IsLast last k o u old new) (sym read) done.2)
+    subst (λ t. IsLast last t k (converted of_json (value depth s)) u old new) type (subst (λ (o : Option (Data × List Token)). IsLast last amqp.DecimalValue k o u old new) (sym read) done.2))
     c.last_fields.ensures.ok
+
+pub put_last-returns-in_ok-put_token-in_default-clause-ok : goal.put_last-returns-in_ok-put_token-in_default-clause-ok
+put_last-returns-in_ok-put_token-in_default-clause-ok t c =
+    let depth = c.args.depth in
+    let type = c.args.amqp_type in
+    let k = c.in_ok-token.token in
+    let s = c.next.new.self in
+    let r = c.put_token.new.reader in
+    let old = c.args.out.now.items in
+    let first : c.args.reader.now ≡ token_of k ∷ s = grind arith in
+    let opened = ap (λ ts. converted of_json (value depth ts)) first in
+    let is_put : IsPutToken type (token_of k) = search rules in
+    let head = (old ++ 70 ∷ 0 ∷ 0 ∷ 0 ∷ 0 ∷ []) ++ short_field c.args.name.now in
+    let at : c.put_key.new.out.items ≡ head = c.in_ok-put_key-in_default.ensures.ok ∙ ap (λ b. b ++ short_field c.args.name.now) c.in_ok-put_head-in_default.ensures.ok in
+    let put = subst (λ (b : List ℕ). PutsEncodingOf (λ v. converted of_json (value depth (token_of k ∷ s)) ≡ Some (json v, r)) b c.put_token.new.out.items) at c.in_ok-put_token-in_default.ensures.ok in (
+      c.in_ok-put_key-in_default.ensures.short,
+      puts_weaker (λ v. converted of_json (value depth (token_of k ∷ s)) ≡ Some (json v, r)) (λ v. (converted of_json (value depth c.args.reader.now) ≡ Some (json v, r)) × IsUnnamed type (json v)) head c.put_token.new.out.items
+      (λ v e. (opened ∙ e, λ other. put_unnamed type depth (token_of k) s r (json v) is_put e)) put,
+    )

@@ -13,7 +13,7 @@ returns-in_ok-outer-in-Object c =
     let now = c.args.out.now.items in
     let new = c.put_object_of.new.out.items in
     on_ok_weaker c.put_object_of.result (λ done k read rest old size h.
-    let is = subst (λ (l : Last). IsLast l k read rest old now) c.in-Object.is h in
+    let is = subst (λ (l : Last). IsLast l type k read rest old now) c.in-Object.is h in
     puts_weaker (λ v. json v ≡ under type is.0) (λ v. (d : Data) × (json v ≡ under type d) × (read ≡ Some (d, rest))) old new (λ v e. (is.0, e, is.1))
     (done (under type is.0) old size (c.in_ok-outer-in-Object.ensures is.0 old now is.2)))
     c.put_object_of.ensures
