@@ -27,10 +27,10 @@ mod Passing
 mod Merged
 mod Leading
 mod Forms
-mod Refused
 mod Digits
 mod Encodes
 mod Named
+mod Refused
 mod CanonicalSteps
 pub mod Lanes
 mod Lexing

@@ -1,5 +1,7 @@
 -- What it means that nothing is put.
-use Rattle.std.proofs.Common.{◌≡◌, ℕ, zero, suc, List, [], ◌∷◌, length, Option, Some, None, Result, Ok, Err, IfErr, Bool, refl, sym, ap, ◌∙◌, subst}
+use Rattle.std.proofs.Common.{◌≡◌, ℕ, zero, suc, ◌-◌, ◌*◌, ◌/◌, ◌%◌, ◌<◌, nat_le, true, false, arith, List, [], ◌∷◌, length, Option, Some, None, Result, Ok, Err, IfErr, Bool, refl, sym, ap, ◌∙◌, subst}
+use Rattle.std.specs.Prelude.{if◌then◌else◌}
+use Rattle.std.specs.Option.{option_map, option_and_then}
 use Rattle.json.specs.Token.{Token}
 use Rattle.json.specs.Json.{parse_map, value, items, members}
 use Rattle.json.proofs.Grammar.{value_is}
@@ -7,12 +9,17 @@ use Rattle.serde_json.specs.Data.{Data, null, boolean, number, string, array, ob
 use Rattle.serde_json.specs.Read.{of_json, of_items, of_members, converted}
 use Rattle.amqp_value_core.specs.declared.types.amqp_type.AMQPType.{AMQPType}
 use Rattle.amqp_value_core.specs.declared.types.amqp_type.AMQPType.TheVariants as amqp
-use Rattle.amqp_json.specs.Json.{decimal_json}
+use Rattle.amqp_value_core.specs.Names.{name_of}
+use Rattle.amqp_value_core.specs.Values.{table, Entries, no_entries, entry}
+use Rattle.amqp_json.specs.Json.{decimal_json, under}
+use Rattle.amqp_json.specs.Reading.{value_of, value_named, ambiguous_table, ambiguous_in, with_entry}
 use Rattle.amqp_json.specs.declared.encoding.Stop.{Stop}
 use Rattle.amqp_json.specs.declared.encoding.Stop.TheVariants.{OutOfMemory, NotHere, NotAValue}
-use Rattle.amqp_json.specs.Encodes.{IsRefusal, IsNoneUnder, IsOtherThanDecimal}
+use Rattle.amqp_json.specs.Encodes.{IsRefusal, IsNoneUnder, IsOtherThanDecimal, wrapped}
 use Rattle.amqp_json.specs.Tokens.{IsOtherThanTable}
-use Rattle.amqp_json.proofs.Forms.{never, same_data}
+use Rattle.amqp_json.proofs.Back.{named}
+use Rattle.amqp_json.proofs.Forms.{never, same_data, named_object}
+use Rattle.amqp_json.proofs.Named.{wrapped_less, wrapped_half}
 use Rattle.amqp_json.proofs.Turns.{converted-array, converted-object}
 
 pub refusal_weaker : (e : Stop) (P Q : Type 0) → (P → Q) → IsRefusal e P → IsRefusal e Q
@@ -108,3 +115,38 @@ unnamed type _ h = tt
 
 pub put_unnamed : (type : AMQPType) (depth : ℕ) (t : Token) (s r : List Token) (d : Data) → IsPutToken type t → converted of_json (value depth (t ∷ s)) ≡ Some (d, r) → IsNoneUnder type d
 put_unnamed type depth t s r d h e = of_token (IsNoneUnder type) depth t s r d (unnamed type t h) e
+
+-- ---- objects whose only key is the name of a type
+
+pub under_is : (type : AMQPType) (d : Data) → value_of (under type d) ≡ value_named type d (ambiguous_table d)
+under_is type d = named_object (name_of type) d type (named type)
+
+no_entry : (k : List ℕ) (es : Option Entries) (b : Bool) → (if b then option_and_then (λ x. option_map (entry k x) es) None else None) ≡ None
+no_entry k es true = refl
+no_entry k es false = refl
+
+unread_table : (o : Option Entries) → o ≡ None → option_map table o ≡ None
+unread_table o none = ap (option_map table) none
+
+-- the table whose only entry is none
+pub under_table : (type : AMQPType) (d : Data) → value_of d ≡ None → value_of (under amqp.FieldTable (under type d)) ≡ None
+under_table type d none =
+    let k = name_of type in
+    under_is amqp.FieldTable (under type d)
+    ∙ ap (λ o. ambiguous_in o (with_entry k (value_of d) (Some no_entries))) (named type)
+    ∙ unread_table (with_entry k (value_of d) (Some no_entries)) (ap (λ v. with_entry k v (Some no_entries)) none ∙ no_entry k (Some no_entries) (nat_le (length k) 255))
+
+pub wrapped_unread : (n : ℕ) (d : Data) → value_of d ≡ None → value_of (wrapped (2 * n) d) ≡ None
+wrapped_unread zero d none =
+    let over : 2 * 0 ≡ 0 = omega arith in
+    ap (λ m. value_of (wrapped m d)) over ∙ none
+wrapped_unread (suc n) d none =
+    let less : suc n - 1 ≡ n = omega arith in
+    ap value_of (wrapped_less (suc n) d (omega arith) ∙ ap (λ m. wrapped (2 * m) (under amqp.FieldTable (under amqp.FieldTable d))) less)
+    ∙ wrapped_unread n (under amqp.FieldTable (under amqp.FieldTable d)) (under_table amqp.FieldTable d none)
+
+-- within an even number of these, or in one of them within an even number
+pub halves_unread : (n : ℕ) (d : Data) (odd : Bool) → (odd ≡ true → n % 2 ≡ 1) → (odd ≡ false → n % 2 ≡ 0) → value_of (if odd then under amqp.FieldTable d else d) ≡ None → value_of (wrapped n d) ≡ None
+halves_unread n d odd is_one is_even none =
+    let inner : Data = if odd then under amqp.FieldTable d else d in
+    ap value_of (wrapped_half n d odd is_one is_even) ∙ wrapped_unread (n / 2) inner none

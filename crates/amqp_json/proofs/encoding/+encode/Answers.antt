@@ -217,7 +217,7 @@ put_turns-turns-preserved t c =
     let u = c.next_key.new.self in
     let last = c.in_ok-last.ensures in
     let len : length l.out.items ≡ c.len-start.result = grind (arith, l.invariant.4) in
-    let back = c.in_ok-take_back-in-Some.ensures c.args.amqp_type k (converted of_json (p l.reader)) r l.out.items len last.ok in
+    let back = c.in_ok-take_back-in-Some.ensures.ok c.args.amqp_type k (converted of_json (p l.reader)) r l.out.items len last.ok in
     let d = back.1.0 in
     let same : c.in-Some.key.now ≡ k = search rules in
     let next : read_key r ≡ Some (Some k, u) = c.in_ok-next.ensures ∙ ap (λ (o : Option (Bor (List ℕ))). Some (option_map (λ b. b.now) o, u)) c.in-Some.is ∙ ap (λ (j : List ℕ). Some (Some j, u)) same in
@@ -271,7 +271,7 @@ put_turns-returns-in-Some-2-clause-ok t c =
     let other : j ≢ k = search rules in
     let next : read_key r ≡ Some (Some j, u) = c.in_ok-next.ensures ∙ ap (λ (o : Option (Bor (List ℕ))). Some (option_map (λ b. b.now) o, u)) c.in-Some-2.is in
     let here = subst (λ (b : List ℕ). IsLast c.in_ok-last.last c.args.amqp_type k read r b c.put_last.new.out.items) l.invariant.4 last.ok in
-    let first : PutsFirst k (λ v. read ≡ Some (json v, r)) old mid = c.in_ok-put_first-in-Some-2.ensures c.args.amqp_type read r old len here in
+    let first : PutsFirst k (λ v. read ≡ Some (json v, r)) old mid = c.in_ok-put_first-in-Some-2.ensures.ok c.args.amqp_type read r old len here in
     let pairs = first_pairs p k s j u rest old mid end (λ v. read ≡ Some (json v, r)) first (
     λ v h. leads_as p no_members (key k ∷ s) (member k (json v) no_members) r (key j ∷ u) (past_turn p k s l.invariant.0 l.reader r (json v) l.invariant.1 l.invariant.2 h last.shorter) (next_is r (Some j) u next)
     ) other c.in_ok-put_members-in-Some-2.ensures.ok in
@@ -336,7 +336,7 @@ object_under_table-returns-clause-ok t c =
     let at = done is.0 is.1 old new under_name in
     let d = under type at.0 in
     (d, subst (λ (ts : List Token). IsObject d p ts r) (sym next) (sole_under p k a type at.0 d r typed refl (is.3 at.0 at.1)), at.2))
-    c.object_of.ensures
+    c.object_of.ensures.ok
 
 pub put_named-returns-in-Some-clause-ok : goal.put_named-returns-in-Some-clause-ok
 put_named-returns-in-Some-clause-ok t c =
@@ -353,7 +353,7 @@ put_named-returns-in-Some-clause-ok t c =
     on_ok_weaker c.put_sole.result (λ done typed.
     puts_weaker (λ v. (d : Data) × (json v ≡ under type d) × (is.0 ≡ Some (d, is.1))) (λ v. IsObject (json v) p (key k ∷ s) r) old new
     (λ v h. sole_under p k s type h.0 (json v) r typed h.1 (is.3 h.0 h.2)) (done k is.0 is.1 old len is.2))
-    c.put_sole.ensures
+    c.put_sole.ensures.ok
 
 pub last_fields-returns-then-is_scale-clause-ok : goal.last_fields-returns-then-is_scale-clause-ok
 last_fields-returns-then-is_scale-clause-ok t c =
