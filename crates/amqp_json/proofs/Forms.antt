@@ -106,7 +106,7 @@ unread_named type (object ms) h none text = under_object type
 pub no_table : (ms : Members) → sole_type ms ≡ None → entries_of ms ≡ None → value_of (object ms) ≡ None
 no_table ms sole none = rw (sole, none) refl
 
-no_ambiguous : (ms : Members) → sole_type ms ≡ None → ambiguous_table (object ms) ≡ None
+pub no_ambiguous : (ms : Members) → sole_type ms ≡ None → ambiguous_table (object ms) ≡ None
 no_ambiguous ms sole = rw sole refl
 
 pub no_table_forms : (ms : Members) → sole_type ms ≡ None → entries_of ms ≡ None → (value_of (object ms) ≡ None) × (ambiguous_table (object ms) ≡ None)

@@ -19,7 +19,7 @@ use Rattle.amqp_json.specs.Json as amqp
 use Rattle.amqp_json.specs.Json.{members_json, sole_type, under, table_json, decimal_json}
 use Rattle.amqp_json.specs.Names.{type_named}
 use Rattle.amqp_json.specs.Tokens.{MembersLeadTo, IsObjectOfMembers}
-use Rattle.amqp_json.specs.Encodes.{IsObject, PutsEncodingOf, PutsFirst, PutsPairs, HasNoTypeName, AreEntriesRead, IsLeaf, IsKind, IsLast, IsUnnamed, wrapped}
+use Rattle.amqp_json.specs.Encodes.{IsObject, PutsEncodingOf, PutsFirst, PutsPairs, HasNoTypeName, AreEntriesRead, IsLeaf, IsKind, IsLast, IsNoneUnder, IsUnnamed, wrapped}
 use Rattle.amqp_json.specs.declared.encoding.leaf.Leaf.{Leaf}
 use Rattle.amqp_json.specs.declared.encoding.leaf.Leaf.TheVariants.{Number, Text, Decimal, Put}
 use Rattle.amqp_json.specs.declared.encoding.object.Kind.{Kind}
@@ -150,9 +150,9 @@ leaf_again Put type k rest d old new h =
         (λ v e. let is : d ≡ amqp.json v = ap (data_of d) e.0 in (ap (λ y. Some (with_rest [] y)) is, e.1)) h.1)
 
 -- an object that is put is one that may be under the name of a table's type
-pub put_pending : (p : Parse json.Json) (ts rest : List Token) (old new : List ℕ) → PutsEncodingOf (λ v. IsObject (amqp.json v) p ts rest) old new
-    → (d : Data) × IsObject d p ts rest × ((e : Data) × (d ≡ e) × PutsEncodingOf (λ v. amqp.json v ≡ e) old new)
-put_pending p ts rest old new (w, v, same, is, stored, h) = (amqp.json v, h, (amqp.json v, refl, (w, v, same, is, stored, refl)))
+pub put_pending : (p : Parse json.Json) (ts rest : List Token) (old new : List ℕ) → PutsEncodingOf (λ v. IsObject (amqp.json v) p ts rest × IsNoneUnder types.FieldTable (amqp.json v)) old new
+    → (d : Data) × IsObject d p ts rest × ((e : Data) × (d ≡ e) × (PutsEncodingOf (λ v. amqp.json v ≡ e) old new × IsNoneUnder types.FieldTable e))
+put_pending p ts rest old new (w, v, same, is, stored, h) = (amqp.json v, h.0, (amqp.json v, refl, ((w, v, same, is, stored, refl), h.1)))
 
 nothing_put : (old new : List ℕ) → new ≡ old → (w : List ℕ) × (new ≡ old ++ w)
 nothing_put old new same = ([], same ∙ sym (append-nil old))
@@ -166,7 +166,7 @@ leaf_after Put type k read rest old new h =
     (head ++ (short_field k ++ h.1.0), h.1.2 ∙ append_assoc (old ++ head) (short_field k) h.1.0 ∙ append_assoc old head (short_field k ++ h.1.0))
 
 kind_after : (kind : Kind) (d : Data) (old new : List ℕ) → IsKind kind d old new → (w : List ℕ) × (new ≡ old ++ w)
-kind_after Table d old new h = (h.0, h.2)
+kind_after Table d old new h = (h.0.0, h.0.2)
 kind_after (Named type leaf) d old new h = leaf_after leaf type (name_of type) (Some (h.0, [])) [] old new h.2
 
 pub last_after : (last : Last) (type : AMQPType) (k : List ℕ) (read : Option (Data × List Token)) (rest : List Token) (old new : List ℕ) → IsLast last type k read rest old new → (w : List ℕ) × (new ≡ old ++ w)

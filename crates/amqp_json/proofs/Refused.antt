@@ -10,15 +10,16 @@ use Rattle.serde_json.specs.Read.{of_json, of_items, of_members, converted}
 use Rattle.amqp_value_core.specs.declared.types.amqp_type.AMQPType.{AMQPType}
 use Rattle.amqp_value_core.specs.declared.types.amqp_type.AMQPType.TheVariants as amqp
 use Rattle.amqp_value_core.specs.Names.{name_of}
-use Rattle.amqp_value_core.specs.Values.{table, Entries, no_entries, entry}
-use Rattle.amqp_json.specs.Json.{decimal_json, under}
+use Rattle.amqp_value_core.specs.Values.{Tree, table, Entries, no_entries, entry}
+use Rattle.amqp_json.specs.Json.{json, members_json, sole_type, decimal_json, under}
 use Rattle.amqp_json.specs.Reading.{value_of, value_named, ambiguous_table, ambiguous_in, with_entry}
 use Rattle.amqp_json.specs.declared.encoding.Stop.{Stop}
 use Rattle.amqp_json.specs.declared.encoding.Stop.TheVariants.{OutOfMemory, NotHere, NotAValue}
 use Rattle.amqp_json.specs.Encodes.{IsRefusal, IsNoneUnder, IsOtherThanDecimal, wrapped}
 use Rattle.amqp_json.specs.Tokens.{IsOtherThanTable}
 use Rattle.amqp_json.proofs.Back.{named}
-use Rattle.amqp_json.proofs.Forms.{never, same_data, named_object}
+use Rattle.amqp_json.proofs.Forms.{never, same_data, named_object, no_ambiguous}
+use Rattle.amqp_json.proofs.Encodes.{plain_object}
 use Rattle.amqp_json.proofs.Named.{wrapped_less, wrapped_half}
 use Rattle.amqp_json.proofs.Turns.{converted-array, converted-object}
 
@@ -127,6 +128,10 @@ no_entry k es false = refl
 
 unread_table : (o : Option Entries) → o ≡ None → option_map table o ≡ None
 unread_table o none = ap (option_map table) none
+
+-- a table that isn't taken for a value of another type
+pub plain_unnamed : (v : Tree) (es : Entries) → v ≡ table es → sole_type (members_json es) ≡ None → IsNoneUnder amqp.FieldTable (json v)
+plain_unnamed v es is none = ap ambiguous_table (plain_object v es is none) ∙ no_ambiguous (members_json es) none
 
 -- the table whose only entry is none
 pub under_table : (type : AMQPType) (d : Data) → value_of d ≡ None → value_of (under amqp.FieldTable (under type d)) ≡ None

@@ -89,9 +89,10 @@ abbrev pub wrapped : ℕ → Data → Data
 wrapped zero d = d
 wrapped (suc n) d = under amqp.FieldTable (wrapped n d)
 
--- the object is d: a table, which is put, or the name of a type is its only key
+-- the object is d: a table, which is put and needs no name of its type, or the name of a type is its
+-- only key
 abbrev pub IsKind : Kind → Data → List ℕ → List ℕ → Type 0
-IsKind Table d old new = PutsEncodingOf (λ v. json v ≡ d) old new
+IsKind Table d old new = PutsEncodingOf (λ v. json v ≡ d) old new × IsNoneUnder amqp.FieldTable d
 IsKind (Named type leaf) d old new = (e : Data) × (d ≡ under type e) × IsLeaf leaf type (name_of type) (Some (e, [])) [] old new
 
 abbrev pub IsPending : Object → Data → List ℕ → List ℕ → Type 0
@@ -124,9 +125,10 @@ abbrev pub IsObject : Data → Parse Json → List Token → List Token → Type
 IsObject d value ts rest =
     (ms : Members) × (d ≡ object ms) × (converted (λ found. of_members found no_members) (members value (length ts) ts) ≡ Some (ms, rest))
 
--- what is under the first key, the name of a type, if that is the only one; otherwise a table is put
+-- what is under the first key, the name of a type, if that is the only one; otherwise a table is put,
+-- which needs no name of its type
 abbrev pub IsNamedRead : Option Last → AMQPType → Parse Json → List ℕ → List Token → List Token → List ℕ → List ℕ → Type 0
-IsNamedRead None type value k ts rest old new = PutsEncodingOf (λ v. IsObject (json v) value (key k ∷ ts) rest) old new
+IsNamedRead None type value k ts rest old new = PutsEncodingOf (λ v. IsObject (json v) value (key k ∷ ts) rest × IsNoneUnder amqp.FieldTable (json v)) old new
 IsNamedRead (Some last) type value k ts rest old new =
     (read : Option (Data × List Token)) × (after : List Token) × IsLast last type k read after old new
     × ((d : Data) → read ≡ Some (d, after) → IsObject (object (member k d no_members)) value (key k ∷ ts) rest)

@@ -11,7 +11,7 @@ ghost use Rattle.serde_json.specs.Read.{of_json, of_items, converted, number_of}
 ghost use Rattle.amqp_value_core.specs.declared.types.amqp_type.AMQPType.TheVariants as amqp;
 ghost use Rattle.amqp_value_core.specs.Values.{Entries};
 ghost use Rattle.amqp_json.specs.InMemory.{EntriesStored};
-ghost use Rattle.amqp_json.specs.Encodes.{IsObject, IsEncodedMeaning, PutsEncodingOf, PutsValues, PutsPairs, AreEntriesRead, HasNoTypeName, IsLast, IsPending, IsNamedRead, IsNaturalRead, IsRefusal, IsNumberWith};
+ghost use Rattle.amqp_json.specs.Encodes.{IsObject, IsEncodedMeaning, PutsEncodingOf, PutsValues, PutsPairs, AreEntriesRead, HasNoTypeName, IsLast, IsPending, IsNamedRead, IsNaturalRead, IsRefusal, IsNoneUnder, IsNumberWith};
 ghost use Rattle.amqp_json.specs.Json.{json, items_json, under, decimal_json};
 ghost use Rattle.amqp_json.specs.Names.{type_named};
 ghost use Rattle.amqp_json.specs.Reading.{value_of};
@@ -336,8 +336,8 @@ fn put_table<'a>(
     depth: usize,
 ) -> Result<(), Stop>
     ensures ok { OnOk result (IfSome first.entry (λ k. type_named k.now ≡ None)
-        → PutsEncodingOf (λ v. (ts : List SpecToken) → read_key ts ≡ Some (option_map (λ s. s.now) first.entry, reader.old)
-        → IsObject (json v) (value depth) ts reader.new) out.old.items out.new.items) }
+        → PutsEncodingOf (λ v. ((ts : List SpecToken) → read_key ts ≡ Some (option_map (λ s. s.now) first.entry, reader.old)
+        → IsObject (json v) (value depth) ts reader.new) × IsNoneUnder amqp.FieldTable (json v)) out.old.items out.new.items) }
     ensures shorter { OnOk result (length reader.new ≤ length reader.old) }
 {
     let at = out.len() + 1;

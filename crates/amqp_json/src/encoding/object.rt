@@ -87,7 +87,7 @@ fn put_kind(
 {
     match (kind, is_table) {
         (Kind::Table, false) => Ok(()),
-        (Kind::Table, true) => Err(Stop::NotHere),
+        (Kind::Table, true) => Err(Stop::NotAValue),
         (Kind::Named(amqp_type, leaf), false) => put_leaf(alloc, out, amqp_type, leaf),
         (Kind::Named(amqp_type, leaf), true) => put_sole_leaf(out, start, amqp_type, leaf),
     }

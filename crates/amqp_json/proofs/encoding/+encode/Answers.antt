@@ -16,8 +16,8 @@ use Rattle.amqp_value_core.specs.declared.types.amqp_type.AMQPType.TheVariants a
 use Rattle.amqp_value_core.specs.Values as values
 use Rattle.amqp_value_core.specs.Values.{Tree, Trees, Entries, no_entries, scalar, boolean, void, long}
 use Rattle.amqp_value_core.specs.Grammar.{short_field}
-use Rattle.amqp_json.specs.Encodes.{AreEntriesRead, IsLast, IsNamedRead, IsPending, IsUnnamed, PutsEncodingOf, PutsFirst}
-use Rattle.amqp_json.proofs.Refused.{IsPutToken, put_unnamed}
+use Rattle.amqp_json.specs.Encodes.{AreEntriesRead, IsLast, IsNamedRead, IsPending, IsNoneUnder, IsUnnamed, PutsEncodingOf, PutsFirst}
+use Rattle.amqp_json.proofs.Refused.{IsPutToken, put_unnamed, plain_unnamed}
 use Rattle.amqp_json.specs.Names.{type_named}
 use Rattle.amqp_json.specs.declared.encoding.last.Last.{Last}
 use Rattle.amqp_json.proofs.Only.{is_name}
@@ -177,8 +177,8 @@ put_table-returns-clause-ok t c =
     let o = option_map (λ (b : Bor (List ℕ)). b.now) c.args.first in
     let place : c.len-at.result + 1 ≡ length c.args.out.now.items + 1 = grind arith in
     on_ok_weaker c.fill_length.result (λ done plain.
-    puts_weaker (λ v. (es : Entries) × (v ≡ values.table es) × AreEntriesRead no_entries es p o a r) (λ v. (ts : List Token) → read_key ts ≡ Some (o, a) → IsObject (json v) p ts r) _ _
-    (λ v h ts first. (members_json h.0, plain_object v h.0 h.1 h.2.1, h.2.0 ts (length ts) first (omega arith)))
+    puts_weaker (λ v. (es : Entries) × (v ≡ values.table es) × AreEntriesRead no_entries es p o a r) (λ v. ((ts : List Token) → read_key ts ≡ Some (o, a) → IsObject (json v) p ts r) × IsNoneUnder amqp.FieldTable (json v)) _ _
+    (λ v h. (λ ts first. (members_json h.0, plain_object v h.0 h.1 h.2.1, h.2.0 ts (length ts) first (omega arith)), plain_unnamed v h.0 h.1 h.2.1))
     (table_put (c.len-at.result + 1) _ _ _ _ place done.0 done.1 _ c.in_ok-put_head.ensures.ok (c.in_ok-put_members.ensures.ok no_entries tt (plain_first c.args.first plain))))
     c.fill_length.ensures.ok
 
@@ -189,7 +189,7 @@ put_object_from-returns-2-clause-ok t c =
     let r = c.put_table.new.reader in
     let o = option_map (λ (b : Bor (List ℕ)). b.now) c.args.first in
     on_ok_weaker c.put_table.result (λ done ts first.
-    puts_weaker (λ v. (us : List Token) → read_key us ≡ Some (o, a) → IsObject (json v) p us r) (λ v. IsObject (json v) p ts r) _ _ (λ v h. h ts first) (done (search rules)))
+    puts_weaker (λ v. ((us : List Token) → read_key us ≡ Some (o, a) → IsObject (json v) p us r) × IsNoneUnder amqp.FieldTable (json v)) (λ v. IsObject (json v) p ts r) _ _ (λ v h. h.0 ts first) (done (search rules)))
     c.put_table.ensures.ok
 
 pub put_last-returns-in_default-Number-clause-ok : goal.put_last-returns-in_default-Number-clause-ok
@@ -277,8 +277,8 @@ put_turns-returns-in-Some-2-clause-ok t c =
     ) other c.in_ok-put_members-in-Some-2.ensures.ok in
     let P : Entries → Type 0 = λ es. IsObjectOfMembers p no_members (key k ∷ s) (members_json es) rest × (sole_type (members_json es) ≡ None) in
     let done = c.in_ok-fill_length-in-Some-2.ensures.ok in
-    puts_weaker (λ v. (es : Entries) × (v ≡ values.table es) × P es) (λ v. IsObject (json v) p (key k ∷ s) rest) old new
-    (λ v h. (members_json h.0, plain_object v h.0 h.1 h.2.1, h.2.0 (length (key k ∷ s)) (omega arith)))
+    puts_weaker (λ v. (es : Entries) × (v ≡ values.table es) × P es) (λ v. IsObject (json v) p (key k ∷ s) rest × IsNoneUnder amqp.FieldTable (json v)) old new
+    (λ v h. ((members_json h.0, plain_object v h.0 h.1 h.2.1, h.2.0 (length (key k ∷ s)) (omega arith)), plain_unnamed v h.0 h.1 h.2.1))
     (table_put (c.len-start.result + 1) old (old ++ 70 ∷ 0 ∷ 0 ∷ 0 ∷ 0 ∷ []) end new place done.0 done.1 P refl pairs)
 
 pub put_last-returns-in_ok-object-in-FieldTable-BeginObject-clause-ok : goal.put_last-returns-in_ok-object-in-FieldTable-BeginObject-clause-ok
@@ -298,7 +298,7 @@ object_under_table-returns-2-clause-ok t c =
     let r = c.put_table.new.reader in
     let a = c.next_key.new.self in
     let o = option_map (λ (b : Bor (List ℕ)). b.now) c.in_ok-first.first in
-    put_pending p s r _ _ (puts_weaker (λ v. (ts : List Token) → read_key ts ≡ Some (o, a) → IsObject (json v) p ts r) (λ v. IsObject (json v) p s r) _ _ (λ v h. h s c.in_ok-first.ensures) (c.in_ok-put_table.ensures.ok (search rules)))
+    put_pending p s r _ _ (puts_weaker (λ v. ((ts : List Token) → read_key ts ≡ Some (o, a) → IsObject (json v) p ts r) × IsNoneUnder amqp.FieldTable (json v)) (λ v. IsObject (json v) p s r × IsNoneUnder amqp.FieldTable (json v)) _ _ (λ v h. (h.0 s c.in_ok-first.ensures, h.1)) (c.in_ok-put_table.ensures.ok (search rules)))
 
 pub object_under_table-returns-in_default-clause-ok : goal.object_under_table-returns-in_default-clause-ok
 object_under_table-returns-in_default-clause-ok t c =
@@ -313,7 +313,7 @@ object_under_table-returns-in_default-clause-ok t c =
     let next = next_is s (Some k) a first in
     let none : c.in_ok-found.found ≡ None = search rules in
     let put = subst (λ (f : Option Last). IsNamedRead f c.in-Some-type_of_name.amqp_type p k a r old new) none c.in_ok-found.ensures.ok in
-    put_pending p s r old new (subst (λ (ts : List Token). PutsEncodingOf (λ v. IsObject (json v) p ts r) old new) (sym next) put)
+    put_pending p s r old new (subst (λ (ts : List Token). PutsEncodingOf (λ v. IsObject (json v) p ts r × IsNoneUnder amqp.FieldTable (json v)) old new) (sym next) put)
 
 pub object_under_table-returns-clause-ok : goal.object_under_table-returns-clause-ok
 object_under_table-returns-clause-ok t c =
@@ -415,3 +415,16 @@ put_last-returns-in_ok-put_token-in_default-clause-ok t c =
       puts_weaker (λ v. converted of_json (value depth (token_of k ∷ s)) ≡ Some (json v, r)) (λ v. (converted of_json (value depth c.args.reader.now) ≡ Some (json v, r)) × IsUnnamed type (json v)) head c.put_token.new.out.items
       (λ v e. (opened ∙ e, λ other. put_unnamed type depth (token_of k) s r (json v) is_put e)) put,
     )
+
+pub put_named-returns-in-None-clause-ok : goal.put_named-returns-in-None-clause-ok
+put_named-returns-in-None-clause-ok t c typed =
+    let p = value c.args.depth in
+    let s = c.args.reader.now in
+    let k = c.args.name.now in
+    let r = c.put_turns.new.reader in
+    let type = c.args.amqp_type in
+    let old = c.args.out.now.items in
+    let new = c.put_turns.new.out.items in
+    let none : c.in_ok-put_turns.field-0 ≡ None = search rules in
+    let put = subst (λ (f : Option Last). IsNamedRead f type p k s r old new) none c.in_ok-put_turns.ensures.ok in
+    puts_weaker (λ v. IsObject (json v) p (key k ∷ s) r × IsNoneUnder amqp.FieldTable (json v)) (λ v. IsObject (json v) p (key k ∷ s) r) old new (λ v h. h.0) put
