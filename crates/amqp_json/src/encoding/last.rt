@@ -129,8 +129,10 @@ pub(crate) fn take_back(out: &mut Vec<u8>, start: usize, last: Last<'_>) -> Resu
 }
 
 fn is_last_json(last: Last<'_>) -> bool
-    ensures { result ≡ true → (type : AMQPType) (k : List ℕ) (read : Option (Data × List SpecToken)) (rest : List SpecToken) (old new : List ℕ)
+    ensures yes { result ≡ true → (type : AMQPType) (k : List ℕ) (read : Option (Data × List SpecToken)) (rest : List SpecToken) (old new : List ℕ)
         → IsLast last.entry type k read rest old new → (d : Data) × (read ≡ Some (d, rest)) }
+    ensures no { result ≡ false → (type : AMQPType) (k : List ℕ) (read : Option (Data × List SpecToken)) (rest : List SpecToken) (old new : List ℕ)
+        → IsLast last.entry type k read rest old new → read ≡ None }
 {
     match last {
         Last::Leaf(leaf) => is_json(leaf),

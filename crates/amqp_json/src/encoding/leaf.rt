@@ -1,7 +1,7 @@
 //! What is under the name of a type, if it is no table: nothing of it is put until what follows says
 //! whether the name is its type.
 
-ghost use Rattle.std.specs.Prelude.{ℕ, ◌≡◌, ◌≤◌, List, length, Option, Some, None, true, OnOk, IfErr};
+ghost use Rattle.std.specs.Prelude.{ℕ, ◌≡◌, ◌≤◌, List, length, Option, Some, None, true, false, OnOk, IfErr};
 ghost use Rattle.json.specs.Token.{Token as SpecToken};
 ghost use Rattle.serde_json.specs.Data.{Data};
 ghost use Rattle.amqp_json.specs.Encodes.{PutsEncodingOf, PutsFirst, IsLeaf, IsRefusal, IsNoneUnder};
@@ -82,8 +82,10 @@ pub(crate) fn put_first_leaf(out: &mut Vec<u8>, name: &str, leaf: Leaf<'_>) -> R
 /// Whether it is JSON, as the text of a number may not be that is too large.
 #[inline(never)]
 pub(crate) fn is_json(leaf: Leaf<'_>) -> bool
-    ensures { result ≡ true → (type : AMQPType) (k : List ℕ) (read : Option (Data × List SpecToken)) (rest : List SpecToken) (old new : List ℕ)
+    ensures yes { result ≡ true → (type : AMQPType) (k : List ℕ) (read : Option (Data × List SpecToken)) (rest : List SpecToken) (old new : List ℕ)
         → IsLeaf leaf.entry type k read rest old new → (d : Data) × (read ≡ Some (d, rest)) }
+    ensures no { result ≡ false → (type : AMQPType) (k : List ℕ) (read : Option (Data × List SpecToken)) (rest : List SpecToken) (old new : List ℕ)
+        → IsLeaf leaf.entry type k read rest old new → read ≡ None }
 {
     match leaf {
         Leaf::Number(text) => integer(text).is_some() || number(text).is_some(),

@@ -16,7 +16,7 @@ returns-else-not-is_json-clause-ok c read rest old new h =
     let leaf = c.in-Leaf.leaf in
     let is = subst (λ (l : Last). IsLast l type k read rest old new) c.in-Leaf.is h in
     let yes : c.is_json.result ≡ true = search rules in
-    let known = c.is_json.ensures yes type k read rest old new is in
+    let known = c.is_json.ensures.yes yes type k read rest old new is in
     let d = known.0 in
     (d, known.1, (under type d, refl, (d, refl, leaf_again leaf type k rest d old new (subst (λ (o : Option (Data × List Token)). IsLeaf leaf type k o rest old new) known.1 is))))
 

@@ -6,4 +6,4 @@ pub returns-clause-ok : goal.returns-clause-ok
 returns-clause-ok c type k read rest old size h =
     let now = c.args.out.now.items in
     let yes : c.is_last_json.result ≡ true = search rules in
-    (c.truncate.ensures.items ∙ back_to c.args.start old now size (last_after c.args.last type k read rest old now h), c.is_last_json.ensures yes type k read rest old now h)
+    (c.truncate.ensures.items ∙ back_to c.args.start old now size (last_after c.args.last type k read rest old now h), c.is_last_json.ensures.yes yes type k read rest old now h)
