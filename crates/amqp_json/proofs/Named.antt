@@ -145,9 +145,11 @@ pub leaf_again : (leaf : Leaf) (type : AMQPType) (k : List ℕ) (rest : List Tok
 leaf_again (Number s) type k rest d old new h = (h.0, again rest d (option_map number (number_of s.now)) h.1)
 leaf_again (Text s) type k rest d old new h = let is : d ≡ string s.now = ap (data_of d) h.1 in (h.0, ap (λ y. Some (with_rest [] y)) is)
 leaf_again (Decimal x) type k rest d old new h = let is : d ≡ decimal_json x.scale x.value = ap (data_of d) h.1 in (h.0, ap (λ y. Some (with_rest [] y)) is, h.2)
-leaf_again Put type k rest d old new h =
-    (h.0, puts_weaker (λ v. (Some (with_rest rest d) ≡ Some (amqp.json v, rest)) × IsUnnamed type (amqp.json v)) (λ v. (Some (with_rest [] d) ≡ Some (amqp.json v, [])) × IsUnnamed type (amqp.json v)) _ new
-        (λ v e. let is : d ≡ amqp.json v = ap (data_of d) e.0 in (ap (λ y. Some (with_rest [] y)) is, e.1)) h.1)
+leaf_again Put type k rest d old new h = (
+  h.0,
+  puts_weaker (λ v. (Some (with_rest rest d) ≡ Some (amqp.json v, rest)) × IsUnnamed type (amqp.json v)) (λ v. (Some (with_rest [] d) ≡ Some (amqp.json v, [])) × IsUnnamed type (amqp.json v)) _ new
+      (λ v e. let is : d ≡ amqp.json v = ap (data_of d) e.0 in (ap (λ y. Some (with_rest [] y)) is, e.1)) h.1,
+)
 
 -- an object that is put is one that may be under the name of a table's type
 pub put_pending : (p : Parse json.Json) (ts rest : List Token) (old new : List ℕ) → PutsEncodingOf (λ v. IsObject (amqp.json v) p ts rest × IsNoneUnder types.FieldTable (amqp.json v)) old new

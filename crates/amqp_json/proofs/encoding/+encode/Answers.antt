@@ -413,7 +413,7 @@ put_last-returns-in_ok-put_token-in_default-clause-ok t c =
     let put = subst (λ (b : List ℕ). PutsEncodingOf (λ v. converted of_json (value depth (token_of k ∷ s)) ≡ Some (json v, r)) b c.put_token.new.out.items) at c.in_ok-put_token-in_default.ensures.ok in (
       c.in_ok-put_key-in_default.ensures.short,
       puts_weaker (λ v. converted of_json (value depth (token_of k ∷ s)) ≡ Some (json v, r)) (λ v. (converted of_json (value depth c.args.reader.now) ≡ Some (json v, r)) × IsUnnamed type (json v)) head c.put_token.new.out.items
-      (λ v e. (opened ∙ e, λ other. put_unnamed type depth (token_of k) s r (json v) is_put e)) put,
+          (λ v e. (opened ∙ e, λ other. put_unnamed type depth (token_of k) s r (json v) is_put e)) put,
     )
 
 pub put_named-returns-in-None-clause-ok : goal.put_named-returns-in-None-clause-ok
