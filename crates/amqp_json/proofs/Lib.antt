@@ -30,6 +30,7 @@ mod Forms
 mod Digits
 mod Encodes
 mod Named
+mod Refused
 mod CanonicalSteps
 pub mod Lanes
 mod Lexing

@@ -40,7 +40,7 @@ pub fn encoding_of_json(alloc: Global, json: &str) -> Result<Vec<u8>, EncodeErro
     match direct_encoding(alloc, json) {
         Ok(bytes) => return Ok(bytes),
         Err(Stop::OutOfMemory) => return Err(EncodeError::OutOfMemory),
-        Err(Stop::NotHere) => {}
+        Err(Stop::NotHere | Stop::NotAValue) => {}
     }
     // Most texts that are rejected are no JSON: then no value is made.
     check_syntax(alloc, json)?;

@@ -1,18 +1,20 @@
 //! From the tokens of a text to an encoding of its value, without the value in memory: the pairs of
 //! a table are in the order of the text, and keys may occur again.
 
-ghost use Rattle.std.specs.Prelude.{◌≡◌, ◌<◌, ◌≤◌, ◌∷◌, length, List, Some, None, true, codes, IfOk, OnOk, IfSome, option_map};
+ghost use Rattle.std.specs.Prelude.{◌≡◌, ◌<◌, ◌≤◌, ◌∷◌, length, List, Some, None, true, codes, IfOk, OnOk, IfErr, IfSome, option_map};
 ghost use Rattle.json.specs.Token.{Token as SpecToken};
 ghost use Rattle.json.specs.Token as token;
 ghost use Rattle.json.specs.Reads.{token_of};
 ghost use Rattle.json.specs.Json.{value, items, parse_map, read_key};
 ghost use Rattle.serde_json.specs.Data.{Data, array, number};
 ghost use Rattle.serde_json.specs.Read.{of_json, of_items, converted, number_of};
+ghost use Rattle.amqp_value_core.specs.declared.types.amqp_type.AMQPType.TheVariants as amqp;
 ghost use Rattle.amqp_value_core.specs.Values.{Entries};
 ghost use Rattle.amqp_json.specs.InMemory.{EntriesStored};
-ghost use Rattle.amqp_json.specs.Encodes.{IsObject, IsEncodedMeaning, PutsEncodingOf, PutsValues, PutsPairs, AreEntriesRead, HasNoTypeName, IsLast, IsPending, IsNamedRead};
+ghost use Rattle.amqp_json.specs.Encodes.{IsObject, IsEncodedMeaning, PutsEncodingOf, PutsValues, PutsPairs, AreEntriesRead, HasNoTypeName, IsLast, IsPending, IsNamedRead, IsRefusal, IsNoneUnder, IsNumberWith};
 ghost use Rattle.amqp_json.specs.Json.{json, items_json, under};
 ghost use Rattle.amqp_json.specs.Names.{type_named};
+ghost use Rattle.amqp_json.specs.Reading.{value_of};
 
 mod fields;
 mod last;
@@ -24,7 +26,8 @@ pub(crate) mod put;
 
 use crate::error::ValueError;
 use crate::names::type_of_name;
-use crate::numerals::integer;
+use crate::numerals::{integer, number};
+use crate::reading::long_long_int;
 use amqp_value_core::types::AMQPType;
 use fields::last_of_table;
 use json::{Scratch, Token};
@@ -42,6 +45,8 @@ pub(crate) enum Stop {
     OutOfMemory,
     /// The text isn't encoded here.
     NotHere,
+    /// It is the JSON of no value.
+    NotAValue,
 }
 
 impl From<AllocError> for Stop {
@@ -56,12 +61,16 @@ impl From<AllocError> for Stop {
 }
 
 impl From<ValueError> for Stop {
-    ghost from_gives = { λ _ e. Unit {0} };
+    ghost use Rattle.std.specs.Prelude.{◌≡◌};
+    ghost use Rattle.amqp_json.specs.declared.error.ValueError.TheVariants as value_error;
+    ghost use Rattle.amqp_json.specs.Encodes.{IsRefusal};
+
+    ghost from_gives = { λ error e. IsRefusal e (error ≡ value_error.NotAValue) };
 
     fn from(error: ValueError) -> Stop {
         match error {
             ValueError::OutOfMemory => Stop::OutOfMemory,
-            ValueError::NotAValue => Stop::NotHere,
+            ValueError::NotAValue => Stop::NotAValue,
         }
     }
 }
@@ -156,13 +165,28 @@ fn put_token<'a>(
 // A number without a type's name.
 #[inline(always)]
 fn put_integer(out: &mut Vec<u8>, text: &str) -> Result<(), Stop>
-    ensures { OnOk result (PutsEncodingOf (λ v. option_map number (number_of text.now) ≡ Some (json v))
+    ensures ok { OnOk result (PutsEncodingOf (λ v. option_map number (number_of text.now) ≡ Some (json v))
         out.old.items out.new.items) }
+    ensures refused { IfErr result (λ e. IsRefusal e (IsNumberWith (λ d. value_of d ≡ None) text.now)) }
 {
     let Some(n) = integer(text) else {
-        return Err(Stop::NotHere);
+        return Err(number_refusal(text));
     };
     put_long_long_int(out, n)
+}
+
+// Why a number without a type's name isn't put.
+#[inline(never)]
+fn number_refusal(text: &str) -> Stop
+    ensures { IsRefusal result (IsNumberWith (λ d. value_of d ≡ None) text.now) }
+{
+    let Some(n) = number(text) else {
+        return Stop::NotHere;
+    };
+    match long_long_int(&n) {
+        Some(_) => Stop::NotHere,
+        None => Stop::NotAValue,
+    }
 }
 
 #[cycle(encode)]
@@ -260,7 +284,7 @@ fn last_fields<'a>(
     depth: usize,
 ) -> Result<Last<'a>, Stop>
     ensures ok { IfOk result (λ last. (d : Data) × IsObject d (value depth) reader.old reader.new
-        × IsLast last name.now (Some (d, reader.new)) reader.new out.old.items out.new.items) }
+        × IsLast last amqp.DecimalValue name.now (Some (d, reader.new)) reader.new out.old.items out.new.items) }
     ensures shorter { IfOk result (λ last. length reader.new < length reader.old) }
 {
     let first = reader.next_key()?;
@@ -313,8 +337,8 @@ fn put_table<'a>(
     depth: usize,
 ) -> Result<(), Stop>
     ensures ok { OnOk result (IfSome first.entry (λ k. type_named k.now ≡ None)
-        → PutsEncodingOf (λ v. (ts : List SpecToken) → read_key ts ≡ Some (option_map (λ s. s.now) first.entry, reader.old)
-        → IsObject (json v) (value depth) ts reader.new) out.old.items out.new.items) }
+        → PutsEncodingOf (λ v. ((ts : List SpecToken) → read_key ts ≡ Some (option_map (λ s. s.now) first.entry, reader.old)
+        → IsObject (json v) (value depth) ts reader.new) × IsNoneUnder amqp.FieldTable (json v)) out.old.items out.new.items) }
     ensures shorter { OnOk result (length reader.new ≤ length reader.old) }
 {
     let at = out.len() + 1;
@@ -405,7 +429,7 @@ fn put_turns<'a>(
     amqp_type: AMQPType,
     depth: usize,
 ) -> Result<Option<Last<'a>>, Stop>
-    ensures ok { IfOk result (λ found. IsNamedRead found (value depth) name.now reader.old reader.new
+    ensures ok { IfOk result (λ found. IsNamedRead found amqp_type (value depth) name.now reader.old reader.new
         out.old.items out.new.items) }
     ensures shorter { IfOk result (λ found. length reader.new < length reader.old) }
 {
@@ -438,7 +462,7 @@ fn put_last<'a>(
     amqp_type: AMQPType,
     depth: usize,
 ) -> Result<Last<'a>, Stop>
-    ensures ok { IfOk result (λ last. IsLast last name.now
+    ensures ok { IfOk result (λ last. IsLast last amqp_type name.now
         (converted of_json (value depth reader.old)) reader.new out.old.items out.new.items) }
     ensures shorter { IfOk result (λ last. length reader.new < length reader.old) }
 {

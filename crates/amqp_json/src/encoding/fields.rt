@@ -1,18 +1,17 @@
 //! The table of a decimal's scale and number, which may be under the decimal's type or not.
 
-ghost use Rattle.std.specs.Prelude.{ℕ, ◌≡◌, length, List, Some, None, OnOk, IfOk, option_map};
+ghost use Rattle.std.specs.Prelude.{ℕ, ◌≡◌, length, List, Some, OnOk, IfOk, IfErr, option_map};
 ghost use Rattle.json.specs.Token.{Token as SpecToken};
 ghost use Rattle.serde_json.specs.Data.{Data};
+ghost use Rattle.amqp_value_core.specs.declared.types.amqp_type.AMQPType.TheVariants as amqp;
 ghost use Rattle.amqp_value_core.specs.Values.{Tree, Entries, scalar, decimal, table as table_tree};
 ghost use Rattle.amqp_value_core.specs.Grammar.{Wire, TableBody};
 ghost use Rattle.amqp_in_place.specs.Bodies.{HasEntries};
 ghost use Rattle.amqp_in_place.specs.Refs.{table_body};
-ghost use Rattle.amqp_json.specs.Encodes.{PutsEncodingOf, IsLast};
+ghost use Rattle.amqp_json.specs.Encodes.{PutsEncodingOf, IsLast, IsRefusal};
 ghost use Rattle.amqp_json.specs.Json.{json, decimal_json};
 ghost use Rattle.amqp_json.specs.Reading.{decimal_in};
 ghost use Rattle.amqp_json.specs.Decimals.{have_field_keys, natural_at};
-ghost use Rattle.amqp_json.specs.declared.encoding.leaf.Leaf.TheVariants.{Put};
-ghost use Rattle.amqp_json.specs.declared.encoding.last.Last.TheVariants.{Leaf as OfLeaf};
 
 use super::Stop;
 use super::last::Last;
@@ -24,7 +23,8 @@ use amqp_value_core::types::DecimalValue;
 
 /// The table of a decimal's scale and number.
 pub(crate) fn put_fields(out: &mut Vec<u8>, scale: u8, value: u32) -> Result<(), Stop>
-    ensures { OnOk result (PutsEncodingOf (λ v. json v ≡ decimal_json scale value) out.old.items out.new.items) }
+    ensures ok { OnOk result (PutsEncodingOf (λ v. json v ≡ decimal_json scale value) out.old.items out.new.items) }
+    ensures refused { IfErr result (λ e. IsRefusal e ⊥) }
 {
     let at = out.len() + 1;
     put_head(out, b'F')?;
@@ -93,12 +93,9 @@ pub(crate) fn last_of_table(
     start: usize,
     name: &str,
 ) -> Result<Last<'static>, Stop>
-    ensures last { IfOk result (λ last. (d : Data) (rest : List SpecToken) (old : List ℕ) → length old ≡ start
+    ensures { IfOk result (λ last. (d : Data) (rest : List SpecToken) (old : List ℕ) → length old ≡ start
         → PutsEncodingOf (λ v. json v ≡ d) old out.old.items
-        → IsLast last name.now (Some (d, rest)) rest old out.new.items) }
-    ensures no_decimal { IfOk result (λ last. (d : Data) (old : List ℕ) → length old ≡ start
-        → PutsEncodingOf (λ v. json v ≡ d) old out.old.items
-        → last ≡ OfLeaf Put → decimal_in d ≡ None) }
+        → IsLast last amqp.DecimalValue name.now (Some (d, rest)) rest old out.new.items) }
 {
     if out.len() < start {
         return Err(Stop::NotHere);

@@ -10,12 +10,12 @@ use Rattle.amqp_json.proofs.canonical.+canonical.Goals as goal
 pub put_array-returns : goal.put_array-returns
 put_array-returns t c =
     let place : c.len-at.result + 1 ≡ length c.args.out.now.items + 1 = grind arith in
-    on_ok_weaker c.fill_length.result (λ done vs all. (length_filled 65 (c.len-at.result + 1) _ _ _ _ (body vs) place c.in_ok-put_head.ensures (c.in_ok-put_items.ensures vs all) done.0).1) c.fill_length.ensures
+    on_ok_weaker c.fill_length.result (λ done vs all. (length_filled 65 (c.len-at.result + 1) _ _ _ _ (body vs) place c.in_ok-put_head.ensures.ok (c.in_ok-put_items.ensures vs all) done.0).1) c.fill_length.ensures.ok
 
 pub put_table-returns : goal.put_table-returns
 put_table-returns t c =
     let place : c.len-at.result + 1 ≡ length c.args.out.now.items + 1 = grind arith in
-    on_ok_weaker c.fill_length.result (λ done es has. (length_filled 70 (c.len-at.result + 1) _ _ _ _ (pairs es) place c.in_ok-put_head.ensures (c.in_ok-put_entries.ensures es has) done.0).1) c.fill_length.ensures
+    on_ok_weaker c.fill_length.result (λ done es has. (length_filled 70 (c.len-at.result + 1) _ _ _ _ (pairs es) place c.in_ok-put_head.ensures.ok (c.in_ok-put_entries.ensures es has) done.0).1) c.fill_length.ensures.ok
 
 pub put_entries-returns-then-keys_rise : goal.put_entries-returns-then-keys_rise
 put_entries-returns-then-keys_rise t c =

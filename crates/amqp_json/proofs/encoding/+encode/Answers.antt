@@ -12,9 +12,12 @@ use Rattle.json.proofs.Grammar.{value_is, value-begin_array, value-begin_object,
 use Rattle.serde_json.specs.Data.{Data, number, array, object, no_members, member}
 use Rattle.serde_json.specs.Find.{of_integer}
 use Rattle.serde_json.specs.Read.{of_json, of_items, converted, number_of}
+use Rattle.amqp_value_core.specs.declared.types.amqp_type.AMQPType.TheVariants as amqp
 use Rattle.amqp_value_core.specs.Values as values
 use Rattle.amqp_value_core.specs.Values.{Tree, Trees, Entries, no_entries, scalar, boolean, void, long}
-use Rattle.amqp_json.specs.Encodes.{AreEntriesRead, IsLast, IsNamedRead, IsPending, PutsEncodingOf, PutsFirst}
+use Rattle.amqp_value_core.specs.Grammar.{short_field}
+use Rattle.amqp_json.specs.Encodes.{AreEntriesRead, IsLast, IsNamedRead, IsPending, IsNoneUnder, PutsEncodingOf, PutsFirst}
+use Rattle.amqp_json.proofs.Refused.{IsPutToken, put_unnamed, plain_unnamed}
 use Rattle.amqp_json.specs.Names.{type_named}
 use Rattle.amqp_json.specs.declared.encoding.last.Last.{Last}
 use Rattle.amqp_json.proofs.Only.{is_name}
@@ -35,14 +38,14 @@ put_token-returns-in-Null-clause-ok t c =
     let r = c.args.reader.now in
     let is : token_of c.args.token ≡ Token.null = grind arith in
     let read = ap (λ k. converted of_json (value c.args.depth (k ∷ r))) is ∙ ap (converted of_json) (value_is c.args.depth _) in
-    on_ok_weaker c.put_void.result (λ same. scalar_put (λ v. converted of_json (value c.args.depth (token_of c.args.token ∷ r)) ≡ Some (json v, r)) _ _ void same tt read) c.put_void.ensures
+    on_ok_weaker c.put_void.result (λ same. scalar_put (λ v. converted of_json (value c.args.depth (token_of c.args.token ∷ r)) ≡ Some (json v, r)) _ _ void same tt read) c.put_void.ensures.ok
 
 pub put_token-returns-in-Bool-clause-ok : goal.put_token-returns-in-Bool-clause-ok
 put_token-returns-in-Bool-clause-ok t c =
     let r = c.args.reader.now in
     let is : token_of c.args.token ≡ Token.boolean c.in-Bool.b = grind arith in
     let read = ap (λ k. converted of_json (value c.args.depth (k ∷ r))) is ∙ ap (converted of_json) (value_is c.args.depth _) in
-    on_ok_weaker c.put_boolean.result (λ same. scalar_put (λ v. converted of_json (value c.args.depth (token_of c.args.token ∷ r)) ≡ Some (json v, r)) _ _ (boolean c.in-Bool.b) same tt read) c.put_boolean.ensures
+    on_ok_weaker c.put_boolean.result (λ same. scalar_put (λ v. converted of_json (value c.args.depth (token_of c.args.token ∷ r)) ≡ Some (json v, r)) _ _ (boolean c.in-Bool.b) same tt read) c.put_boolean.ensures.ok
 
 pub put_token-returns-in-Number-clause-ok : goal.put_token-returns-in-Number-clause-ok
 put_token-returns-in-Number-clause-ok t c =
@@ -50,7 +53,7 @@ put_token-returns-in-Number-clause-ok t c =
     let x = c.in-Number.text.now in
     let is : token_of c.args.token ≡ Token.number x = grind arith in
     on_ok_weaker c.put_integer.result (puts_weaker (λ v. option_map number (number_of x) ≡ Some (json v)) (λ v. converted of_json (value c.args.depth (token_of c.args.token ∷ r)) ≡ Some (json v, r)) _ _
-    (λ v read. ap (λ k. converted of_json (value c.args.depth (k ∷ r))) is ∙ ap (converted of_json) (value_is c.args.depth _) ∙ ap (λ o. option_map (λ (d : Data). (d, r)) o) read)) c.put_integer.ensures
+    (λ v read. ap (λ k. converted of_json (value c.args.depth (k ∷ r))) is ∙ ap (converted of_json) (value_is c.args.depth _) ∙ ap (λ o. option_map (λ (d : Data). (d, r)) o) read)) c.put_integer.ensures.ok
 
 pub put_token-returns-in-String-clause-ok : goal.put_token-returns-in-String-clause-ok
 put_token-returns-in-String-clause-ok t c =
@@ -59,7 +62,7 @@ put_token-returns-in-String-clause-ok t c =
     let is : token_of c.args.token ≡ Token.string x = grind arith in
     let utf8 : IsUtf8 x = search rules in
     let read = ap (λ k. converted of_json (value c.args.depth (k ∷ r))) is ∙ ap (converted of_json) (value_is c.args.depth _) ∙ ap (λ d. Some (d, r)) (sym (text_is_plain x utf8)) in
-    on_ok_weaker c.put_text.result (λ put. text_put (λ v. converted of_json (value c.args.depth (token_of c.args.token ∷ r)) ≡ Some (json v, r)) _ _ (long x) put.0 put.1 read) c.put_text.ensures
+    on_ok_weaker c.put_text.result (λ put. text_put (λ v. converted of_json (value c.args.depth (token_of c.args.token ∷ r)) ≡ Some (json v, r)) _ _ (long x) put.0 put.1 read) c.put_text.ensures.ok
 
 pub put_token-returns-else-depth-eq0-clause-ok : goal.put_token-returns-else-depth-eq0-clause-ok
 put_token-returns-else-depth-eq0-clause-ok t c =
@@ -87,7 +90,7 @@ put_typed-returns-in-Some-clause-ok t c =
     let last = c.in-Some.ensures in
     let end = c.last_integer.new.self in
     let d = number (of_integer z) in
-    let put = subst (λ x. OnOk c.put_narrow.result (PutsEncodingOf (λ v. json v ≡ under type (number (of_integer x))) c.args.out.now.items c.put_narrow.new.out.items)) (to_z-of_z w64 z last.fits) c.put_narrow.ensures in
+    let put = subst (λ x. OnOk c.put_narrow.result (PutsEncodingOf (λ v. json v ≡ under type (number (of_integer x))) c.args.out.now.items c.put_narrow.new.out.items)) (to_z-of_z w64 z last.fits) c.put_narrow.ensures.ok in
     let read : converted of_json (p s) ≡ Some (d, Token.end_object ∷ end) =
     ap (λ ts. converted of_json (p ts)) last.first ∙ number_read c.args.depth last.digits (Token.end_object ∷ end) d (ap (option_map number) last.denoted) in
     on_ok_weaker c.put_narrow.result (λ done named. puts_weaker (λ v. json v ≡ under type d) (λ v. IsObject (json v) p (key k ∷ s) end) _ _
@@ -136,8 +139,8 @@ put_array-returns-clause-ok t c =
     on_ok_weaker c.fill_length.result (λ done.
     puts_weaker (λ v. (vs : Trees) × (v ≡ values.array vs) × (converted of_items read ≡ Some (items_json vs, r))) (λ v. parse_map array (converted of_items read) ≡ Some (json v, r)) _ _
     (λ v (vs, is, h). ap (parse_map array) h ∙ ap (λ u. Some (json u, r)) (sym is))
-    (array_put (c.len-at.result + 1) _ _ _ _ place done.0 done.1 _ c.in_ok-put_head.ensures c.in_ok-put_items.ensures.ok))
-    c.fill_length.ensures
+    (array_put (c.len-at.result + 1) _ _ _ _ place done.0 done.1 _ c.in_ok-put_head.ensures.ok c.in_ok-put_items.ensures.ok))
+    c.fill_length.ensures.ok
 
 pub put_members-members-init : goal.put_members-members-init
 put_members-members-init t c =
@@ -176,10 +179,10 @@ put_table-returns-clause-ok t c =
     let o = option_map (λ (b : Bor (List ℕ)). b.now) c.args.first in
     let place : c.len-at.result + 1 ≡ length c.args.out.now.items + 1 = grind arith in
     on_ok_weaker c.fill_length.result (λ done plain.
-    puts_weaker (λ v. (es : Entries) × (v ≡ values.table es) × AreEntriesRead no_entries es p o a r) (λ v. (ts : List Token) → read_key ts ≡ Some (o, a) → IsObject (json v) p ts r) _ _
-    (λ v h ts first. (members_json h.0, plain_object v h.0 h.1 h.2.1, h.2.0 ts (length ts) first (omega arith)))
-    (table_put (c.len-at.result + 1) _ _ _ _ place done.0 done.1 _ c.in_ok-put_head.ensures (c.in_ok-put_members.ensures.ok no_entries tt (plain_first c.args.first plain))))
-    c.fill_length.ensures
+    puts_weaker (λ v. (es : Entries) × (v ≡ values.table es) × AreEntriesRead no_entries es p o a r) (λ v. ((ts : List Token) → read_key ts ≡ Some (o, a) → IsObject (json v) p ts r) × IsNoneUnder amqp.FieldTable (json v)) _ _
+    (λ v h. (λ ts first. (members_json h.0, plain_object v h.0 h.1 h.2.1, h.2.0 ts (length ts) first (omega arith)), plain_unnamed v h.0 h.1 h.2.1))
+    (table_put (c.len-at.result + 1) _ _ _ _ place done.0 done.1 _ c.in_ok-put_head.ensures.ok (c.in_ok-put_members.ensures.ok no_entries tt (plain_first c.args.first plain))))
+    c.fill_length.ensures.ok
 
 pub put_object_from-returns-2-clause-ok : goal.put_object_from-returns-2-clause-ok
 put_object_from-returns-2-clause-ok t c =
@@ -188,7 +191,7 @@ put_object_from-returns-2-clause-ok t c =
     let r = c.put_table.new.reader in
     let o = option_map (λ (b : Bor (List ℕ)). b.now) c.args.first in
     on_ok_weaker c.put_table.result (λ done ts first.
-    puts_weaker (λ v. (us : List Token) → read_key us ≡ Some (o, a) → IsObject (json v) p us r) (λ v. IsObject (json v) p ts r) _ _ (λ v h. h ts first) (done (search rules)))
+    puts_weaker (λ v. ((us : List Token) → read_key us ≡ Some (o, a) → IsObject (json v) p us r) × IsNoneUnder amqp.FieldTable (json v)) (λ v. IsObject (json v) p ts r) _ _ (λ v h. h.0 ts first) (done (search rules)))
     c.put_table.ensures.ok
 
 pub put_last-returns-in_default-Number-clause-ok : goal.put_last-returns-in_default-Number-clause-ok
@@ -216,7 +219,7 @@ put_turns-turns-preserved t c =
     let u = c.next_key.new.self in
     let last = c.in_ok-last.ensures in
     let len : length l.out.items ≡ c.len-start.result = grind (arith, l.invariant.4) in
-    let back = c.in_ok-take_back-in-Some.ensures k (converted of_json (p l.reader)) r l.out.items len last.ok in
+    let back = c.in_ok-take_back-in-Some.ensures.ok c.args.amqp_type k (converted of_json (p l.reader)) r l.out.items len last.ok in
     let d = back.1.0 in
     let same : c.in-Some.key.now ≡ k = search rules in
     let next : read_key r ≡ Some (Some k, u) = c.in_ok-next.ensures ∙ ap (λ (o : Option (Bor (List ℕ))). Some (option_map (λ b. b.now) o, u)) c.in-Some.is ∙ ap (λ (j : List ℕ). Some (Some j, u)) same in
@@ -239,7 +242,7 @@ put_turns-returns-in-None-clause-ok t c =
     let u = c.next_key.new.self in
     let last = c.in_ok-last.ensures in
     let read = converted of_json (p l.reader) in
-    let here = subst (λ (b : List ℕ). IsLast c.in_ok-last.last k read r b c.put_last.new.out.items) l.invariant.4 last.ok in (
+    let here = subst (λ (b : List ℕ). IsLast c.in_ok-last.last c.args.amqp_type k read r b c.put_last.new.out.items) l.invariant.4 last.ok in (
       read,
       r,
       here,
@@ -269,15 +272,15 @@ put_turns-returns-in-Some-2-clause-ok t c =
     let len : length old ≡ c.len-start.result = grind arith in
     let other : j ≢ k = search rules in
     let next : read_key r ≡ Some (Some j, u) = c.in_ok-next.ensures ∙ ap (λ (o : Option (Bor (List ℕ))). Some (option_map (λ b. b.now) o, u)) c.in-Some-2.is in
-    let here = subst (λ (b : List ℕ). IsLast c.in_ok-last.last k read r b c.put_last.new.out.items) l.invariant.4 last.ok in
-    let first : PutsFirst k (λ v. read ≡ Some (json v, r)) old mid = c.in_ok-put_first-in-Some-2.ensures read r old len here in
+    let here = subst (λ (b : List ℕ). IsLast c.in_ok-last.last c.args.amqp_type k read r b c.put_last.new.out.items) l.invariant.4 last.ok in
+    let first : PutsFirst k (λ v. read ≡ Some (json v, r)) old mid = c.in_ok-put_first-in-Some-2.ensures.ok c.args.amqp_type read r old len here in
     let pairs = first_pairs p k s j u rest old mid end (λ v. read ≡ Some (json v, r)) first (
     λ v h. leads_as p no_members (key k ∷ s) (member k (json v) no_members) r (key j ∷ u) (past_turn p k s l.invariant.0 l.reader r (json v) l.invariant.1 l.invariant.2 h last.shorter) (next_is r (Some j) u next)
     ) other c.in_ok-put_members-in-Some-2.ensures.ok in
     let P : Entries → Type 0 = λ es. IsObjectOfMembers p no_members (key k ∷ s) (members_json es) rest × (sole_type (members_json es) ≡ None) in
-    let done = c.in_ok-fill_length-in-Some-2.ensures in
-    puts_weaker (λ v. (es : Entries) × (v ≡ values.table es) × P es) (λ v. IsObject (json v) p (key k ∷ s) rest) old new
-    (λ v h. (members_json h.0, plain_object v h.0 h.1 h.2.1, h.2.0 (length (key k ∷ s)) (omega arith)))
+    let done = c.in_ok-fill_length-in-Some-2.ensures.ok in
+    puts_weaker (λ v. (es : Entries) × (v ≡ values.table es) × P es) (λ v. IsObject (json v) p (key k ∷ s) rest × IsNoneUnder amqp.FieldTable (json v)) old new
+    (λ v h. ((members_json h.0, plain_object v h.0 h.1 h.2.1, h.2.0 (length (key k ∷ s)) (omega arith)), plain_unnamed v h.0 h.1 h.2.1))
     (table_put (c.len-start.result + 1) old (old ++ 70 ∷ 0 ∷ 0 ∷ 0 ∷ 0 ∷ []) end new place done.0 done.1 P refl pairs)
 
 pub put_last-returns-in_ok-object-in-FieldTable-BeginObject-clause-ok : goal.put_last-returns-in_ok-object-in-FieldTable-BeginObject-clause-ok
@@ -297,7 +300,7 @@ object_under_table-returns-2-clause-ok t c =
     let r = c.put_table.new.reader in
     let a = c.next_key.new.self in
     let o = option_map (λ (b : Bor (List ℕ)). b.now) c.in_ok-first.first in
-    put_pending p s r _ _ (puts_weaker (λ v. (ts : List Token) → read_key ts ≡ Some (o, a) → IsObject (json v) p ts r) (λ v. IsObject (json v) p s r) _ _ (λ v h. h s c.in_ok-first.ensures) (c.in_ok-put_table.ensures.ok (search rules)))
+    put_pending p s r _ _ (puts_weaker (λ v. ((ts : List Token) → read_key ts ≡ Some (o, a) → IsObject (json v) p ts r) × IsNoneUnder amqp.FieldTable (json v)) (λ v. IsObject (json v) p s r × IsNoneUnder amqp.FieldTable (json v)) _ _ (λ v h. (h.0 s c.in_ok-first.ensures, h.1)) (c.in_ok-put_table.ensures.ok (search rules)))
 
 pub object_under_table-returns-in_default-clause-ok : goal.object_under_table-returns-in_default-clause-ok
 object_under_table-returns-in_default-clause-ok t c =
@@ -311,8 +314,8 @@ object_under_table-returns-in_default-clause-ok t c =
     let first : read_key s ≡ Some (Some k, a) = c.in_ok-first.ensures ∙ ap (λ (o : Option (Bor (List ℕ))). Some (option_map (λ b. b.now) o, a)) c.in-Some.is in
     let next = next_is s (Some k) a first in
     let none : c.in_ok-found.found ≡ None = search rules in
-    let put = subst (λ (f : Option Last). IsNamedRead f p k a r old new) none c.in_ok-found.ensures.ok in
-    put_pending p s r old new (subst (λ (ts : List Token). PutsEncodingOf (λ v. IsObject (json v) p ts r) old new) (sym next) put)
+    let put = subst (λ (f : Option Last). IsNamedRead f c.in-Some-type_of_name.amqp_type p k a r old new) none c.in_ok-found.ensures.ok in
+    put_pending p s r old new (subst (λ (ts : List Token). PutsEncodingOf (λ v. IsObject (json v) p ts r × IsNoneUnder amqp.FieldTable (json v)) old new) (sym next) put)
 
 pub object_under_table-returns-clause-ok : goal.object_under_table-returns-clause-ok
 object_under_table-returns-clause-ok t c =
@@ -328,14 +331,14 @@ object_under_table-returns-clause-ok t c =
     let first : read_key s ≡ Some (Some k, a) = c.in_ok-first.ensures ∙ ap (λ (o : Option (Bor (List ℕ))). Some (option_map (λ b. b.now) o, a)) c.in-Some.is in
     let next = next_is s (Some k) a first in
     let typed : type_named k ≡ Some type = search rules in
-    let is = subst (λ (f : Option Last). IsNamedRead f p k a r old new) c.in-Some-found.is c.in_ok-found.ensures.ok in
-    let under_name = subst (λ (j : List ℕ). IsLast last j is.0 is.1 old new) (is_name k type typed) is.2 in
+    let is = subst (λ (f : Option Last). IsNamedRead f type p k a r old new) c.in-Some-found.is c.in_ok-found.ensures.ok in
+    let under_name = subst (λ (j : List ℕ). IsLast last type j is.0 is.1 old new) (is_name k type typed) is.2 in
     weaker _ (λ o. (d : Data) × IsObject d p s r × IsPending o d old new) c.object_of.result
     (λ o done.
     let at = done is.0 is.1 old new under_name in
     let d = under type at.0 in
     (d, subst (λ (ts : List Token). IsObject d p ts r) (sym next) (sole_under p k a type at.0 d r typed refl (is.3 at.0 at.1)), at.2))
-    c.object_of.ensures
+    c.object_of.ensures.ok
 
 pub put_named-returns-in-Some-clause-ok : goal.put_named-returns-in-Some-clause-ok
 put_named-returns-in-Some-clause-ok t c =
@@ -347,12 +350,12 @@ put_named-returns-in-Some-clause-ok t c =
     let old = c.args.out.now.items in
     let mid = c.put_turns.new.out.items in
     let new = c.put_sole.new.out.items in
-    let is = subst (λ (f : Option Last). IsNamedRead f p k s r old mid) c.in-Some.is c.in_ok-put_turns.ensures.ok in
+    let is = subst (λ (f : Option Last). IsNamedRead f type p k s r old mid) c.in-Some.is c.in_ok-put_turns.ensures.ok in
     let len : length old ≡ c.len-start.result = grind arith in
     on_ok_weaker c.put_sole.result (λ done typed.
     puts_weaker (λ v. (d : Data) × (json v ≡ under type d) × (is.0 ≡ Some (d, is.1))) (λ v. IsObject (json v) p (key k ∷ s) r) old new
     (λ v h. sole_under p k s type h.0 (json v) r typed h.1 (is.3 h.0 h.2)) (done k is.0 is.1 old len is.2))
-    c.put_sole.ensures
+    c.put_sole.ensures.ok
 
 pub last_fields-returns-clause-ok : goal.last_fields-returns-clause-ok
 last_fields-returns-clause-ok t c =
@@ -382,7 +385,7 @@ last_fields-returns-2-clause-ok t c =
     let at : PutsEncodingOf (λ v. json v ≡ d) old mid = (put.0, put.1, put.2, put.3, put.4, refl) in
     let len : length old ≡ c.len-start.result = grind arith in
     let read : Data → Option (Data × List Token) = λ x. Some (x, r) in
-    weaker _ (λ last. (x : Data) × IsObject x p s r × IsLast last c.args.name.now (read x) r old new) c.last_of_table.result (λ last done. (d, put.5, done d r old len at)) c.last_of_table.ensures.last
+    weaker _ (λ last. (x : Data) × IsObject x p s r × IsLast last amqp.DecimalValue c.args.name.now (read x) r old new) c.last_of_table.result (λ last done. (d, put.5, done d r old len at)) c.last_of_table.ensures
 
 pub put_last-returns-else-depth-eq0-clause-ok : goal.put_last-returns-else-depth-eq0-clause-ok
 put_last-returns-else-depth-eq0-clause-ok t c =
@@ -395,8 +398,41 @@ put_last-returns-else-depth-eq0-clause-ok t c =
     let new = c.last_fields.new.out.items in
     let is : s ≡ Token.begin_object ∷ r = grind arith in
     let opened = ap (λ ts. converted of_json (value depth ts)) is ∙ ap (converted of_json) (value-begin_object depth r (omega arith)) ∙ converted-object (members (value (depth - 1)) (length r) r) in
-    weaker _ (λ last. IsLast last k (converted of_json (value depth s)) u old new) c.last_fields.result
+    let type : amqp.DecimalValue ≡ c.args.amqp_type = search rules in
+    weaker _ (λ last. IsLast last c.args.amqp_type k (converted of_json (value depth s)) u old new) c.last_fields.result
     (λ last done.
     let read : converted of_json (value depth s) ≡ Some (done.0, u) = opened ∙ ap (parse_map object) done.1.2 ∙ ap (λ d. Some (d, u)) (sym done.1.1) in
-    subst (λ (o : Option (Data × List Token)). IsLast last k o u old new) (sym read) done.2)
+    subst (λ t. IsLast last t k (converted of_json (value depth s)) u old new) type (subst (λ (o : Option (Data × List Token)). IsLast last amqp.DecimalValue k o u old new) (sym read) done.2))
     c.last_fields.ensures.ok
+
+pub put_last-returns-in_ok-put_token-in_default-clause-ok : goal.put_last-returns-in_ok-put_token-in_default-clause-ok
+put_last-returns-in_ok-put_token-in_default-clause-ok t c =
+    let depth = c.args.depth in
+    let type = c.args.amqp_type in
+    let k = c.in_ok-token.token in
+    let s = c.next.new.self in
+    let r = c.put_token.new.reader in
+    let old = c.args.out.now.items in
+    let first : c.args.reader.now ≡ token_of k ∷ s = grind arith in
+    let opened = ap (λ ts. converted of_json (value depth ts)) first in
+    let is_put : IsPutToken type (token_of k) = search rules in
+    let head = (old ++ 70 ∷ 0 ∷ 0 ∷ 0 ∷ 0 ∷ []) ++ short_field c.args.name.now in
+    let at : c.put_key.new.out.items ≡ head = c.in_ok-put_key-in_default.ensures.ok ∙ ap (λ b. b ++ short_field c.args.name.now) c.in_ok-put_head-in_default.ensures.ok in
+    let put = subst (λ (b : List ℕ). PutsEncodingOf (λ v. converted of_json (value depth (token_of k ∷ s)) ≡ Some (json v, r)) b c.put_token.new.out.items) at c.in_ok-put_token-in_default.ensures.ok in (
+      c.in_ok-put_key-in_default.ensures.short,
+      puts_weaker (λ v. converted of_json (value depth (token_of k ∷ s)) ≡ Some (json v, r)) (λ v. (converted of_json (value depth c.args.reader.now) ≡ Some (json v, r)) × IsNoneUnder type (json v)) head c.put_token.new.out.items
+          (λ v e. (opened ∙ e, put_unnamed type depth (token_of k) s r (json v) is_put e)) put,
+    )
+
+pub put_named-returns-in-None-clause-ok : goal.put_named-returns-in-None-clause-ok
+put_named-returns-in-None-clause-ok t c typed =
+    let p = value c.args.depth in
+    let s = c.args.reader.now in
+    let k = c.args.name.now in
+    let r = c.put_turns.new.reader in
+    let type = c.args.amqp_type in
+    let old = c.args.out.now.items in
+    let new = c.put_turns.new.out.items in
+    let none : c.in_ok-put_turns.field-0 ≡ None = search rules in
+    let put = subst (λ (f : Option Last). IsNamedRead f type p k s r old new) none c.in_ok-put_turns.ensures.ok in
+    puts_weaker (λ v. IsObject (json v) p (key k ∷ s) r × IsNoneUnder amqp.FieldTable (json v)) (λ v. IsObject (json v) p (key k ∷ s) r) old new (λ v h. h.0) put
