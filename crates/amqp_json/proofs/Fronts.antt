@@ -1,6 +1,6 @@
 -- Bytes that are compared by their first eight, as numbers.
 use Rattle.std.proofs.Common.{◌≡◌, ◌≢◌, ◌<◌, ◌≤◌, ◌+◌, ◌*◌, ℕ, zero, suc, List, [], ◌∷◌, length, take, Ordering, Less, Equal, Greater, refl, sym, ap, ◌∙◌, arith, tests}
-use Rattle.std.specs.Int.{w64, from_be_bytes}
+use Rattle.std.specs.Int.{w32, w64, from_be_bytes}
 use Rattle.std.specs.Ordering.{nat_cmp, ordering_then}
 use Rattle.std.specs.Cmp.Lexicographic.{slice_cmp}
 use Rattle.std.specs.Slice.Scan.{big_endian}
@@ -72,3 +72,18 @@ fronts_decide xs ys p q a b other =
     let x = spelled xs a in
     let y = spelled ys b in
     first_decide 8 0 xs ys a b p q (λ e. other (x ∙ e ∙ sym y)) ∙ ap (λ (n : ℕ). nat_cmp n (big_endian 0 (take 8 ys))) (sym x) ∙ ap (nat_cmp (from_be_bytes w64 (take 8 xs))) (sym y)
+
+-- and four
+spelled_short : (s : List ℕ) → 4 ≤ length s → from_be_bytes w32 (take 4 s) ≡ big_endian 0 (take 4 s)
+spelled_short [] few = absurd (omega (arith, few))
+spelled_short (a ∷ []) few = absurd (omega (arith, few))
+spelled_short (a ∷ b ∷ []) few = absurd (omega (arith, few))
+spelled_short (a ∷ b ∷ c ∷ []) few = absurd (omega (arith, few))
+spelled_short (a ∷ b ∷ c ∷ d ∷ s) few = omega arith
+
+pub short_fronts_decide : (xs ys : List ℕ) → IsBytes (take 4 xs) → IsBytes (take 4 ys) → 4 ≤ length xs → 4 ≤ length ys → from_be_bytes w32 (take 4 xs) ≢ from_be_bytes w32 (take 4 ys)
+    → slice_cmp nat_cmp xs ys ≡ nat_cmp (from_be_bytes w32 (take 4 xs)) (from_be_bytes w32 (take 4 ys))
+short_fronts_decide xs ys p q a b other =
+    let x = spelled_short xs a in
+    let y = spelled_short ys b in
+    first_decide 4 0 xs ys a b p q (λ e. other (x ∙ e ∙ sym y)) ∙ ap (λ (n : ℕ). nat_cmp n (big_endian 0 (take 4 ys))) (sym x) ∙ ap (nat_cmp (from_be_bytes w32 (take 4 xs))) (sym y)

@@ -1,7 +1,7 @@
 //! The pairs of a table in the order of their keys, for keys that don't ascend.
 
 ghost use Rattle.std.specs.Prelude.{◌≡◌, ◌≤◌, is_some, length, take, drop, IfSome, IfOk};
-ghost use Rattle.std.specs.Int.{w64, from_be_bytes};
+ghost use Rattle.std.specs.Int.{w32, w64, from_be_bytes};
 ghost use Rattle.std.specs.Ordering.{nat_cmp};
 ghost use Rattle.std.specs.Cmp.Lexicographic.{slice_cmp};
 ghost use Rattle.amqp_value_core.specs.Inputs.{IsBytes};
@@ -132,6 +132,17 @@ fn order_of_keys(a: &[u8], b: &[u8]) -> Ordering
 {
     match (front_of(a), front_of(b)) {
         (Some(x), Some(y)) if x != y => x.cmp(&y),
+        _ => order_of_short_keys(a, b),
+    }
+}
+
+// By their bytes: mostly the first four tell.
+#[inline(always)]
+fn order_of_short_keys(a: &[u8], b: &[u8]) -> Ordering
+    ensures { result ≡ slice_cmp nat_cmp a.now b.now }
+{
+    match (short_front_of(a), short_front_of(b)) {
+        (Some(x), Some(y)) if x != y => x.cmp(&y),
         _ => a.cmp(b),
     }
 }
@@ -144,6 +155,18 @@ fn front_of(key: &[u8]) -> Option<u64>
 {
     match key.first_chunk::<8>() {
         Some(front) => Some(u64::from_be_bytes(*front)),
+        None => None,
+    }
+}
+
+// The first four.
+#[inline(always)]
+fn short_front_of(key: &[u8]) -> Option<u32>
+    ensures number { IfSome result (λ n. (4 ≤ length key.now) × (n ≡ from_be_bytes w32 (take 4 key.now))) }
+    ensures bytes { IfSome result (λ _. IsBytes (take 4 key.now)) }
+{
+    match key.first_chunk::<4>() {
+        Some(front) => Some(u32::from_be_bytes(*front)),
         None => None,
     }
 }
