@@ -95,6 +95,22 @@ TEXTS: dict[str, str] = {
     "arrays in arrays": "[" * 126 + "]" * 126, "objects in objects": '{"":' * 126 + "0" + "}" * 126,
     "objects in objects, of a letter": '{"a":' * 126 + "0" + "}" * 126, "spaces": " " * 99 + "0",
 }  # fmt: skip
+# Values that are encoded as their tokens come, each in a way of its own: no tree is made of them, nor of what follows.
+FIRST: dict[str, str] = {
+    "spaces": ' { "a" : 0 , "b" : [ true , "c" ] } , { "LongInt" : -1 } , { "Float" : "00000000" } , { } , [ ] , null ',
+    "lines": '\n{\r\n\t"a":\t0,\n\t"b":\r[\ntrue\n,\t"c"\r]\n}\n,\n[\n{\n}\n,\n{\n"LongInt"\n:\n-1\n}\n]\n',
+    "numbers below zero": '-1,-9223372036854775808,{"LongInt":-2147483648},{"FieldTable":{"ShortInt":-1}}',
+    "a late time": '{"Timestamp":18446744073709551615}',
+    "an escape": '"\\n",{"\\u0061":[-1,true,{"c":null}],"b":"\\u00e9"},{"Long\\u0049nt":1}',
+    "bits and bytes": '{"Float":"00000000"},{"Double":"0000000000000000"},{"LongString":"ff"},{"ByteArray":"ff"}',
+    "decimals": '{"DecimalValue":{"scale":1,"value":2}},{"DecimalValue":{"value":1,"scale":2}},{"DecimalValue":{"a":1},"b":2}',
+    "a type's name twice": '{"LongInt":1,"LongInt":2},{"LongInt":null,"LongInt":-2},{"ByteArray":"00","ByteArray":"ff"}',
+    "types' names and other keys": '{"ByteArray":"00","":2},{"Void":[],"LongInt":1},{"FieldTable":{"LongInt":1},"b":2}',
+    "tables under their type": '{"FieldTable":{"LongInt":1}},' + '{"FieldTable":' * 5 + '{"Void":[]}' + "}" * 5,
+    "keys that fall and come twice": '{"b":[{"d":1,"c":2}],"a":{"b":1,"a":2},"b":3}',
+    "objects of equal keys in objects": '{"":0,"":' * 125 + "0" + "}" * 125,
+    "a long key and a long string": '{"' + "k" * 255 + '":"' + "x" * 256 + '"}',
+}  # fmt: skip
 # The JSON of no value.
 NO_VALUE = '{"Void":0}'
 # A decimal with a key twice.
@@ -165,6 +181,10 @@ def texts(n: int) -> Iterator[tuple[str, str]]:
         yield f"JSON, {name}, after the name of a type", f'[{{"LongInt":0,"":0}},{",".join(items)}]'
         # (of which a tree is made, as after no value)
         yield f"JSON, {name}, after a scale that comes twice", f'[{TWICE},{",".join(items)}]'
+    # (of which a tree takes most)
+    objects = ",".join(['{"":0}'] * (n // 7))
+    for name, first in FIRST.items():
+        yield f"JSON, {name} first", f" [{first},{objects}]\n"
     for name, of_table in tables(n):
         yield f"JSON, keys {name}", "{" + ",".join(f'"{it.decode()}":0' for it in of_table) + "}"
         yield f"JSON of no value, keys {name}", "{" + ",".join(f'"{it.decode()}":{NO_VALUE}' for it in of_table) + "}"
