@@ -1,11 +1,11 @@
 //! What is under the name of a type, until what follows says what it is: a value of that type, or
 //! an entry of a table.
 
-ghost use Rattle.std.specs.Prelude.{ℕ, ◌≡◌, ◌≢◌, List, Option, Some, length, true, false, OnOk, IfOk};
+ghost use Rattle.std.specs.Prelude.{ℕ, ◌≡◌, ◌≢◌, List, Option, Some, length, true, false, OnOk, IfOk, IfErr};
 ghost use Rattle.json.specs.Token.{Token as SpecToken};
 ghost use Rattle.serde_json.specs.Data.{Data};
 ghost use Rattle.amqp_value_core.specs.Names.{name_of};
-ghost use Rattle.amqp_json.specs.Encodes.{PutsEncodingOf, PutsFirst, IsLast, IsPending};
+ghost use Rattle.amqp_json.specs.Encodes.{PutsEncodingOf, PutsFirst, IsLast, IsPending, IsRefusal};
 ghost use Rattle.amqp_json.specs.Json.{json, under};
 
 use super::Stop;
@@ -107,9 +107,10 @@ pub(crate) fn put_first(
 /// Takes back what is put of a value, as its key follows again.
 #[inline(never)]
 pub(crate) fn take_back(out: &mut Vec<u8>, start: usize, last: Last<'_>) -> Result<(), Stop>
-    ensures { OnOk result ((k : List ℕ) (read : Option (Data × List SpecToken)) (rest : List SpecToken) (old : List ℕ)
+    ensures ok { OnOk result ((k : List ℕ) (read : Option (Data × List SpecToken)) (rest : List SpecToken) (old : List ℕ)
         → length old ≡ start → IsLast last.entry k read rest old out.old.items
         → (out.new.items ≡ old) × ((d : Data) × (read ≡ Some (d, rest)))) }
+    ensures refused { IfErr result (λ e. IsRefusal e ⊥) }
 {
     if !is_last_json(last) {
         return Err(Stop::NotHere);

@@ -14,8 +14,8 @@ returns-then-is_none-clause-json c depth ts first =
     let end = c.next_key-2.new.self in
     let none : c.in_ok-next.next ≡ None = search rules in
     let same : c.in-Some.key.now ≡ codes "value" = search rules in
-    let key : read_key vs ≡ Some (Some (codes "value"), ws) = c.in_ok-key.ensures ∙ ap (λ (o : Option (Bor (List ℕ))). Some (option_map (λ b. b.now) o, ws)) c.in-Some.is ∙ ap (λ (j : List ℕ). Some (Some j, ws)) same in
+    let key : read_key vs ≡ Some (Some (codes "value"), ws) = c.in_ok-key.ensures.ok ∙ ap (λ (o : Option (Bor (List ℕ))). Some (option_map (λ b. b.now) o, ws)) c.in-Some.is ∙ ap (λ (j : List ℕ). Some (Some j, ws)) same in
     let scale : c.in_ok-natural.field-0 ≡ c.in-Ok.scale = search rules in
     let number : c.in_ok-natural-2.field-0 ≡ c.in-Ok-try_from.value = search rules in
     decimal_read depth c.in-Ok.scale c.in-Ok-try_from.value ts us vs ws xs end first
-    (subst (λ (n : ℕ). IsNaturalRead n us vs) scale c.in_ok-natural.ensures.json) key (subst (λ (n : ℕ). IsNaturalRead n ws xs) number c.in_ok-natural-2.ensures.json) (closed _ xs end c.in_ok-next.ensures none)
+    (subst (λ (n : ℕ). IsNaturalRead n us vs) scale c.in_ok-natural.ensures.json) key (subst (λ (n : ℕ). IsNaturalRead n ws xs) number c.in_ok-natural-2.ensures.json) (closed _ xs end c.in_ok-next.ensures.ok none)

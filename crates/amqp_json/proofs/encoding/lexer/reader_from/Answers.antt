@@ -5,8 +5,8 @@ use Rattle.json.specs.Lex.{tokens}
 use Rattle.amqp_json.proofs.Lexing.{any_place}
 use Rattle.amqp_json.proofs.encoding.lexer.reader_from.Goals as goal
 
-pub returns : goal.returns
-returns c =
+pub returns-clause-ok : goal.returns-clause-ok
+returns-clause-ok c =
     let t = c.args.text.now in
     let at = c.args.from.at in
     let quote : head (drop at t) ≡ 34 = grind arith in
