@@ -4,7 +4,6 @@ mod Numbers
 mod Signed
 mod Stored
 mod ReadWalks
-mod Refused
 mod Back
 mod Only
 mod Ones
@@ -32,6 +31,7 @@ mod Digits
 mod Encodes
 mod Named
 mod Unread
+mod Refused
 mod CanonicalSteps
 pub mod Lanes
 mod Lexing

@@ -36,6 +36,14 @@ IsRefusal e none = Unit {0}
 abbrev pub IsNoneUnder : AMQPType → Data → Type 0
 IsNoneUnder type d = value_named type d (ambiguous_table d) ≡ None
 
+abbrev pub IsOtherThanDecimal : AMQPType → Type 0
+IsOtherThanDecimal amqp.DecimalValue = ⊥
+IsOtherThanDecimal type = Unit {0}
+
+-- under the name of a type, if it isn't that of decimals, it is the JSON of no value
+abbrev pub IsUnnamed : AMQPType → Data → Type 0
+IsUnnamed type d = IsOtherThanDecimal type → IsNoneUnder type d
+
 -- it is the text of a number, and P is so of that as JSON
 abbrev pub IsNumberWith : (Data → Type 0) → List ℕ → Type 0
 IsNumberWith P s = (x : Num) × (number_of s ≡ Some x) × P (number x)
@@ -77,30 +85,31 @@ abbrev pub PutsFirst : List ℕ → (Tree → Type 0) → List ℕ → List ℕ 
 PutsFirst k P old new = IsShort k × PutsEncodingOf P ((old ++ 70 ∷ 0 ∷ 0 ∷ 0 ∷ 0 ∷ []) ++ short_field k) new
 
 -- what is read is under the key k, the name of a type: nothing of it is put, or it is put as the first
--- of a table
-abbrev pub IsLeaf : Leaf → List ℕ → Option (Data × List Token) → List Token → List ℕ → List ℕ → Type 0
-IsLeaf (Number s) k read rest old new = (new ≡ old) × (read ≡ option_map (λ d. (d, rest)) (option_map number (number_of s.now)))
-IsLeaf (Text s) k read rest old new = (new ≡ old) × (read ≡ Some (string s.now, rest))
-IsLeaf (Decimal d) k read rest old new = (new ≡ old) × (read ≡ Some (decimal_json d.scale d.value, rest)) × IsScalar (decimal d.scale d.value)
-IsLeaf Put k read rest old new = PutsFirst k (λ v. read ≡ Some (json v, rest)) old new
+-- of a table, and is no value of that type
+abbrev pub IsLeaf : Leaf → AMQPType → List ℕ → Option (Data × List Token) → List Token → List ℕ → List ℕ → Type 0
+IsLeaf (Number s) type k read rest old new = (new ≡ old) × (read ≡ option_map (λ d. (d, rest)) (option_map number (number_of s.now)))
+IsLeaf (Text s) type k read rest old new = (new ≡ old) × (read ≡ Some (string s.now, rest))
+IsLeaf (Decimal d) type k read rest old new = (new ≡ old) × (read ≡ Some (decimal_json d.scale d.value, rest)) × IsScalar (decimal d.scale d.value)
+IsLeaf Put type k read rest old new = PutsFirst k (λ v. (read ≡ Some (json v, rest)) × IsUnnamed type (json v)) old new
 
 -- an object under the name of a table's type, n times
 abbrev pub wrapped : ℕ → Data → Data
 wrapped zero d = d
 wrapped (suc n) d = under amqp.FieldTable (wrapped n d)
 
--- the object is d: a table, which is put, or the name of a type is its only key
+-- the object is d: a table, which is put and needs no name of its type, or the name of a type is its
+-- only key
 abbrev pub IsKind : Kind → Data → List ℕ → List ℕ → Type 0
-IsKind Table d old new = PutsEncodingOf (λ v. json v ≡ d) old new
-IsKind (Named type leaf) d old new = (e : Data) × (d ≡ under type e) × IsLeaf leaf (name_of type) (Some (e, [])) [] old new
+IsKind Table d old new = PutsEncodingOf (λ v. json v ≡ d) old new × IsNoneUnder amqp.FieldTable d
+IsKind (Named type leaf) d old new = (e : Data) × (d ≡ under type e) × IsLeaf leaf type (name_of type) (Some (e, [])) [] old new
 
 abbrev pub IsPending : Object → Data → List ℕ → List ℕ → Type 0
 IsPending o d old new = (e : Data) × (d ≡ wrapped o.wraps e) × IsKind o.kind e old new
 
 -- what is read is under the key k, the name of a type
-abbrev pub IsLast : Last → List ℕ → Option (Data × List Token) → List Token → List ℕ → List ℕ → Type 0
-IsLast (OfLeaf leaf) k read rest old new = IsLeaf leaf k read rest old new
-IsLast (OfObject o) k read rest old new = (d : Data) × (read ≡ Some (d, rest)) × IsPending o d old new
+abbrev pub IsLast : Last → AMQPType → List ℕ → Option (Data × List Token) → List Token → List ℕ → List ℕ → Type 0
+IsLast (OfLeaf leaf) type k read rest old new = IsLeaf leaf type k read rest old new
+IsLast (OfObject o) type k read rest old new = (d : Data) × (read ≡ Some (d, rest)) × IsPending o d old new
 
 -- no name of a type is the only key of the entries, also not with the next key
 abbrev pub HasNoTypeName : Entries → Option (List ℕ) → Type 0
@@ -135,9 +144,10 @@ abbrev pub IsObject : Data → Parse Json → List Token → List Token → Type
 IsObject d value ts rest =
     (ms : Members) × (d ≡ object ms) × (converted (λ found. of_members found no_members) (members value (length ts) ts) ≡ Some (ms, rest))
 
--- what is under the first key, the name of a type, if that is the only one; otherwise a table is put
-abbrev pub IsNamedRead : Option Last → Parse Json → List ℕ → List Token → List Token → List ℕ → List ℕ → Type 0
-IsNamedRead None value k ts rest old new = PutsEncodingOf (λ v. IsObject (json v) value (key k ∷ ts) rest) old new
-IsNamedRead (Some last) value k ts rest old new =
-    (read : Option (Data × List Token)) × (after : List Token) × IsLast last k read after old new
+-- what is under the first key, the name of a type, if that is the only one; otherwise a table is put,
+-- which needs no name of its type
+abbrev pub IsNamedRead : Option Last → AMQPType → Parse Json → List ℕ → List Token → List Token → List ℕ → List ℕ → Type 0
+IsNamedRead None type value k ts rest old new = PutsEncodingOf (λ v. IsObject (json v) value (key k ∷ ts) rest × IsNoneUnder amqp.FieldTable (json v)) old new
+IsNamedRead (Some last) type value k ts rest old new =
+    (read : Option (Data × List Token)) × (after : List Token) × IsLast last type k read after old new
     × ((d : Data) → read ≡ Some (d, after) → IsObject (object (member k d no_members)) value (key k ∷ ts) rest)

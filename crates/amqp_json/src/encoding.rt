@@ -8,9 +8,10 @@ ghost use Rattle.json.specs.Reads.{token_of};
 ghost use Rattle.json.specs.Json.{value, items, parse_map, read_key};
 ghost use Rattle.serde_json.specs.Data.{Data, array, number, no_members, put};
 ghost use Rattle.serde_json.specs.Read.{of_json, of_items, converted, number_of};
+ghost use Rattle.amqp_value_core.specs.declared.types.amqp_type.AMQPType.TheVariants as amqp;
 ghost use Rattle.amqp_value_core.specs.Values.{Entries};
 ghost use Rattle.amqp_json.specs.InMemory.{EntriesStored};
-ghost use Rattle.amqp_json.specs.Encodes.{IsObject, IsEncodedMeaning, PutsEncodingOf, PutsValues, PutsPairs, AreEntriesRead, HasNoTypeName, IsLast, IsPending, IsNamedRead, IsNaturalRead, IsRefusal, IsNumberWith, EncodesNone, Extends, IsMemberPut, IsTableOf};
+ghost use Rattle.amqp_json.specs.Encodes.{IsObject, IsEncodedMeaning, PutsEncodingOf, PutsValues, PutsPairs, AreEntriesRead, HasNoTypeName, IsLast, IsPending, IsNamedRead, IsNaturalRead, IsRefusal, IsNoneUnder, IsNumberWith, EncodesNone, Extends, IsMemberPut, IsTableOf};
 ghost use Rattle.amqp_json.specs.Tokens.{Ends, IsUnread, IsNoTable, IsNoEntry, BecomesTable, next_token};
 ghost use Rattle.amqp_json.specs.Refusals.{IsErrorWithin};
 ghost use Rattle.amqp_json.specs.Converts.{IsRefused};
@@ -393,7 +394,7 @@ fn last_fields<'a>(
     depth: usize,
 ) -> Result<Last<'a>, Stop>
     ensures ok { IfOk result (λ last. (d : Data) × IsObject d (value depth) reader.old reader.new
-        × IsLast last name.now (Some (d, reader.new)) reader.new out.old.items out.new.items) }
+        × IsLast last amqp.DecimalValue name.now (Some (d, reader.new)) reader.new out.old.items out.new.items) }
     ensures shorter { IfOk result (λ last. length reader.new < length reader.old) }
 {
     let first = reader.next_key()?;
@@ -445,8 +446,8 @@ fn put_table<'a>(
     depth: usize,
 ) -> Result<(), Stop>
     ensures ok { OnOk result (IfSome first.entry (λ k. type_named k.now ≡ None)
-        → PutsEncodingOf (λ v. (ts : List SpecToken) → read_key ts ≡ Some (option_map (λ s. s.now) first.entry, reader.old)
-        → IsObject (json v) (value depth) ts reader.new) out.old.items out.new.items) }
+        → PutsEncodingOf (λ v. ((ts : List SpecToken) → read_key ts ≡ Some (option_map (λ s. s.now) first.entry, reader.old)
+        → IsObject (json v) (value depth) ts reader.new) × IsNoneUnder amqp.FieldTable (json v)) out.old.items out.new.items) }
     ensures shorter { OnOk result (length reader.new ≤ length reader.old) }
     ensures refused { IfErr result (λ e. IsRefusal e (IfSome first.entry (λ k. type_named k.now ≡ None)
         → IsNoTable (value depth) no_members (next_token (option_map (λ s. s.now) first.entry) ∷ reader.old)
@@ -653,7 +654,7 @@ fn put_turns<'a>(
     amqp_type: AMQPType,
     depth: usize,
 ) -> Result<Option<Last<'a>>, Stop>
-    ensures ok { IfOk result (λ found. IsNamedRead found (value depth) name.now reader.old reader.new
+    ensures ok { IfOk result (λ found. IsNamedRead found amqp_type (value depth) name.now reader.old reader.new
         out.old.items out.new.items) }
     ensures shorter { IfOk result (λ found. length reader.new < length reader.old) }
     ensures refused { IfErr result (λ e. IsRefusal e (EncodesNone
@@ -701,7 +702,7 @@ fn put_last<'a>(
     amqp_type: AMQPType,
     depth: usize,
 ) -> Result<Last<'a>, Stop>
-    ensures ok { IfOk result (λ last. IsLast last name.now
+    ensures ok { IfOk result (λ last. IsLast last amqp_type name.now
         (converted of_json (value depth reader.old)) reader.new out.old.items out.new.items) }
     ensures shorter { IfOk result (λ last. length reader.new < length reader.old) }
     ensures refused { IfErr result (λ e. IsRefusal e ⊥) }

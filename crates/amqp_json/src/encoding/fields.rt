@@ -3,6 +3,7 @@
 ghost use Rattle.std.specs.Prelude.{ℕ, ◌≡◌, length, List, Some, OnOk, IfOk, IfErr};
 ghost use Rattle.json.specs.Token.{Token as SpecToken};
 ghost use Rattle.serde_json.specs.Data.{Data};
+ghost use Rattle.amqp_value_core.specs.declared.types.amqp_type.AMQPType.TheVariants as amqp;
 ghost use Rattle.amqp_value_core.specs.Values.{Tree};
 ghost use Rattle.amqp_value_core.specs.Grammar.{Wire};
 ghost use Rattle.amqp_json.specs.Encodes.{PutsEncodingOf, IsLast, IsRefusal};
@@ -66,7 +67,7 @@ pub(crate) fn last_of_table(
 ) -> Result<Last<'static>, Stop>
     ensures { IfOk result (λ last. (d : Data) (rest : List SpecToken) (old : List ℕ) → length old ≡ start
         → PutsEncodingOf (λ v. json v ≡ d) old out.old.items
-        → IsLast last name.now (Some (d, rest)) rest old out.new.items) }
+        → IsLast last amqp.DecimalValue name.now (Some (d, rest)) rest old out.new.items) }
 {
     if out.len() < start {
         return Err(Stop::NotHere);

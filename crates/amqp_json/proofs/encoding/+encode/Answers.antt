@@ -17,9 +17,11 @@ use Rattle.amqp_json.specs.declared.encoding.Stop.{Stop}
 use Rattle.amqp_json.specs.declared.encoding.Stop.TheVariants.{NotAValue}
 use Rattle.serde_json.specs.Find.{of_integer}
 use Rattle.serde_json.specs.Read.{of_json, of_items, converted, number_of}
+use Rattle.amqp_value_core.specs.declared.types.amqp_type.AMQPType.TheVariants as amqp
 use Rattle.amqp_value_core.specs.Values as values
 use Rattle.amqp_value_core.specs.Values.{Tree, Trees, Entries, no_entries, scalar, boolean, void, long}
-use Rattle.amqp_json.specs.Encodes.{AreEntriesRead, IsLast, IsNamedRead, IsPending, PutsEncodingOf, PutsFirst, PutsPairs, EncodesNone, Extends, IsRefusal, IsMemberPut, IsTableOf}
+use Rattle.amqp_json.specs.Encodes.{AreEntriesRead, IsLast, IsNamedRead, IsNoneUnder, IsPending, IsUnnamed, PutsEncodingOf, PutsFirst, PutsPairs, EncodesNone, Extends, IsRefusal, IsMemberPut, IsTableOf}
+use Rattle.amqp_json.proofs.Refused.{IsPutToken, put_unnamed, plain_unnamed}
 use Rattle.amqp_json.specs.Names.{type_named}
 use Rattle.amqp_json.specs.declared.encoding.last.Last.{Last}
 use Rattle.amqp_json.proofs.Only.{is_name}
@@ -409,8 +411,8 @@ put_table-returns-clause-ok t c =
     let o = option_map (λ (b : Bor (List ℕ)). b.now) c.args.first in
     let place : c.len-at.result + 1 ≡ length c.args.out.now.items + 1 = grind arith in
     on_ok_weaker c.fill_length.result (λ done plain.
-    puts_weaker (λ v. (es : Entries) × (v ≡ values.table es) × AreEntriesRead no_entries es p o a r) (λ v. (ts : List Token) → read_key ts ≡ Some (o, a) → IsObject (json v) p ts r) _ _
-    (λ v h ts first. (members_json h.0, plain_object v h.0 h.1 h.2.1, h.2.0 ts (length ts) first (omega arith)))
+    puts_weaker (λ v. (es : Entries) × (v ≡ values.table es) × AreEntriesRead no_entries es p o a r) (λ v. ((ts : List Token) → read_key ts ≡ Some (o, a) → IsObject (json v) p ts r) × IsNoneUnder amqp.FieldTable (json v)) _ _
+    (λ v h. (λ ts first. (members_json h.0, plain_object v h.0 h.1 h.2.1, h.2.0 ts (length ts) first (omega arith)), plain_unnamed v h.0 h.1 h.2.1))
     (table_put (c.len-at.result + 1) _ _ _ _ place done.0 done.1 _ c.in_ok-put_head.ensures.ok (c.in_ok-put_members.ensures.ok no_entries tt (plain_first c.args.first plain))))
     c.fill_length.ensures.ok
 
@@ -439,7 +441,7 @@ put_object_from-returns-2-clause-ok t c =
     let r = c.put_table.new.reader in
     let o = option_map (λ (b : Bor (List ℕ)). b.now) c.args.first in
     on_ok_weaker c.put_table.result (λ done ts first.
-    puts_weaker (λ v. (us : List Token) → read_key us ≡ Some (o, a) → IsObject (json v) p us r) (λ v. IsObject (json v) p ts r) _ _ (λ v h. h ts first) (done (search rules)))
+    puts_weaker (λ v. ((us : List Token) → read_key us ≡ Some (o, a) → IsObject (json v) p us r) × IsNoneUnder amqp.FieldTable (json v)) (λ v. IsObject (json v) p ts r) _ _ (λ v h. h.0 ts first) (done (search rules)))
     c.put_table.ensures.ok
 
 pub put_last-returns-in_default-Number-clause-ok : goal.put_last-returns-in_default-Number-clause-ok
@@ -467,7 +469,7 @@ put_turns-turns-preserved t c =
     let u = c.next_key.new.self in
     let last = c.in_ok-last.ensures in
     let len : length l.out.items ≡ c.len-start.result = grind (arith, l.invariant.4) in
-    let back = c.in_ok-take_back-in-Some.ensures.ok k (converted of_json (p l.reader)) r l.out.items len last.ok in
+    let back = c.in_ok-take_back-in-Some.ensures.ok c.args.amqp_type k (converted of_json (p l.reader)) r l.out.items len last.ok in
     let d = back.1.0 in
     let same : c.in-Some.key.now ≡ k = search rules in
     let next : read_key r ≡ Some (Some k, u) = c.in_ok-next.ensures.ok ∙ ap (λ (o : Option (Bor (List ℕ))). Some (option_map (λ b. b.now) o, u)) c.in-Some.is ∙ ap (λ (j : List ℕ). Some (Some j, u)) same in
@@ -490,7 +492,7 @@ put_turns-returns-in-None-clause-ok t c =
     let u = c.next_key.new.self in
     let last = c.in_ok-last.ensures in
     let read = converted of_json (p l.reader) in
-    let here = subst (λ (b : List ℕ). IsLast c.in_ok-last.last k read r b c.put_last.new.out.items) l.invariant.4 last.ok in (
+    let here = subst (λ (b : List ℕ). IsLast c.in_ok-last.last c.args.amqp_type k read r b c.put_last.new.out.items) l.invariant.4 last.ok in (
       read,
       r,
       here,
@@ -520,15 +522,15 @@ put_turns-returns-in-Some-2-clause-ok t c =
     let len : length old ≡ c.len-start.result = grind arith in
     let other : j ≢ k = search rules in
     let next : read_key r ≡ Some (Some j, u) = c.in_ok-next.ensures.ok ∙ ap (λ (o : Option (Bor (List ℕ))). Some (option_map (λ b. b.now) o, u)) c.in-Some-2.is in
-    let here = subst (λ (b : List ℕ). IsLast c.in_ok-last.last k read r b c.put_last.new.out.items) l.invariant.4 last.ok in
-    let first : PutsFirst k (λ v. read ≡ Some (json v, r)) old mid = on_ok c.put_first.result tt _ (search rules) c.put_first.ensures read r old len here in
+    let here = subst (λ (b : List ℕ). IsLast c.in_ok-last.last c.args.amqp_type k read r b c.put_last.new.out.items) l.invariant.4 last.ok in
+    let first : PutsFirst k (λ v. read ≡ Some (json v, r)) old mid = on_ok c.put_first.result tt _ (search rules) c.put_first.ensures.ok c.args.amqp_type read r old len here in
     let pairs = first_pairs p k s j u rest old mid end (λ v. read ≡ Some (json v, r)) first (
     λ v h. leads_as p no_members (key k ∷ s) (member k (json v) no_members) r (key j ∷ u) (past_turn p k s l.invariant.0 l.reader r (json v) l.invariant.1 l.invariant.2 h last.shorter) (next_is r (Some j) u next)
     ) other c.in_ok-put_members-in-Some-2.ensures.ok in
     let P : Entries → Type 0 = λ es. IsObjectOfMembers p no_members (key k ∷ s) (members_json es) rest × (sole_type (members_json es) ≡ None) in
     let done = c.in_ok-fill_length-in-Some-2.ensures.ok in
-    puts_weaker (λ v. (es : Entries) × (v ≡ values.table es) × P es) (λ v. IsObject (json v) p (key k ∷ s) rest) old new
-    (λ v h. (members_json h.0, plain_object v h.0 h.1 h.2.1, h.2.0 (length (key k ∷ s)) (omega arith)))
+    puts_weaker (λ v. (es : Entries) × (v ≡ values.table es) × P es) (λ v. IsObject (json v) p (key k ∷ s) rest × IsNoneUnder amqp.FieldTable (json v)) old new
+    (λ v h. ((members_json h.0, plain_object v h.0 h.1 h.2.1, h.2.0 (length (key k ∷ s)) (omega arith)), plain_unnamed v h.0 h.1 h.2.1))
     (table_put (c.len-start.result + 1) old (old ++ 70 ∷ 0 ∷ 0 ∷ 0 ∷ 0 ∷ []) end new place done.0 done.1 P refl pairs)
 
 pub put_turns-returns-in_err-put_members-in-Some-2-clause-refused : goal.put_turns-returns-in_err-put_members-in-Some-2-clause-refused
@@ -549,8 +551,8 @@ put_turns-returns-in_err-put_members-in-Some-2-clause-refused t c =
     let len : length old ≡ c.len-start.result = grind arith in
     let other : j ≢ k = search rules in
     let next : read_key r ≡ Some (Some j, u) = c.in_ok-next.ensures.ok ∙ ap (λ (o : Option (Bor (List ℕ))). Some (option_map (λ b. b.now) o, u)) c.in-Some-2.is in
-    let here = subst (λ (b : List ℕ). IsLast c.in_ok-last.last k read r b c.put_last.new.out.items) l.invariant.4 last.ok in
-    let first : PutsFirst k (λ v. read ≡ Some (json v, r)) old mid = on_ok c.put_first.result tt _ (search rules) c.put_first.ensures read r old len here in
+    let here = subst (λ (b : List ℕ). IsLast c.in_ok-last.last c.args.amqp_type k read r b c.put_last.new.out.items) l.invariant.4 last.ok in
+    let first : PutsFirst k (λ v. read ≡ Some (json v, r)) old mid = on_ok c.put_first.result tt _ (search rules) c.put_first.ensures.ok c.args.amqp_type read r old len here in
     let refused = refusal_weaker c.in_err-put_members-in-Some-2.field-0.0 _ (EncodesNone (λ d. IsObject d p (key k ∷ s) rest) old end)
     (first_none p k j s u rest old mid end (λ v. read ≡ Some (json v, r)) first (
     λ v h. leads_as p no_members (key k ∷ s) (member k (json v) no_members) r (key j ∷ u) (past_turn p k s l.invariant.0 l.reader r (json v) l.invariant.1 l.invariant.2 h last.shorter) (next_is r (Some j) u next)
@@ -575,7 +577,7 @@ object_under_table-returns-2-clause-ok t c =
     let r = c.put_table.new.reader in
     let a = c.next_key.new.self in
     let o = option_map (λ (b : Bor (List ℕ)). b.now) c.in_ok-first.first in
-    put_pending p s r _ _ (puts_weaker (λ v. (ts : List Token) → read_key ts ≡ Some (o, a) → IsObject (json v) p ts r) (λ v. IsObject (json v) p s r) _ _ (λ v h. h s c.in_ok-first.ensures.ok) (c.in_ok-put_table.ensures.ok (search rules)))
+    put_pending p s r _ _ (puts_weaker (λ v. ((ts : List Token) → read_key ts ≡ Some (o, a) → IsObject (json v) p ts r) × IsNoneUnder amqp.FieldTable (json v)) (λ v. IsObject (json v) p s r × IsNoneUnder amqp.FieldTable (json v)) _ _ (λ v h. (h.0 s c.in_ok-first.ensures.ok, h.1)) (c.in_ok-put_table.ensures.ok (search rules)))
 
 pub object_under_table-returns-in_default-clause-ok : goal.object_under_table-returns-in_default-clause-ok
 object_under_table-returns-in_default-clause-ok t c =
@@ -589,8 +591,8 @@ object_under_table-returns-in_default-clause-ok t c =
     let first : read_key s ≡ Some (Some k, a) = c.in_ok-first.ensures.ok ∙ ap (λ (o : Option (Bor (List ℕ))). Some (option_map (λ b. b.now) o, a)) c.in-Some.is in
     let next = next_is s (Some k) a first in
     let none : c.in_ok-found.found ≡ None = search rules in
-    let put = subst (λ (f : Option Last). IsNamedRead f p k a r old new) none c.in_ok-found.ensures.ok in
-    put_pending p s r old new (subst (λ (ts : List Token). PutsEncodingOf (λ v. IsObject (json v) p ts r) old new) (sym next) put)
+    let put = subst (λ (f : Option Last). IsNamedRead f c.in-Some-type_of_name.amqp_type p k a r old new) none c.in_ok-found.ensures.ok in
+    put_pending p s r old new (subst (λ (ts : List Token). PutsEncodingOf (λ v. IsObject (json v) p ts r × IsNoneUnder amqp.FieldTable (json v)) old new) (sym next) put)
 
 pub object_under_table-returns-clause-ok : goal.object_under_table-returns-clause-ok
 object_under_table-returns-clause-ok t c =
@@ -606,14 +608,14 @@ object_under_table-returns-clause-ok t c =
     let first : read_key s ≡ Some (Some k, a) = c.in_ok-first.ensures.ok ∙ ap (λ (o : Option (Bor (List ℕ))). Some (option_map (λ b. b.now) o, a)) c.in-Some.is in
     let next = next_is s (Some k) a first in
     let typed : type_named k ≡ Some type = search rules in
-    let is = subst (λ (f : Option Last). IsNamedRead f p k a r old new) c.in-Some-found.is c.in_ok-found.ensures.ok in
-    let under_name = subst (λ (j : List ℕ). IsLast last j is.0 is.1 old new) (is_name k type typed) is.2 in
+    let is = subst (λ (f : Option Last). IsNamedRead f type p k a r old new) c.in-Some-found.is c.in_ok-found.ensures.ok in
+    let under_name = subst (λ (j : List ℕ). IsLast last type j is.0 is.1 old new) (is_name k type typed) is.2 in
     weaker _ (λ o. (d : Data) × IsObject d p s r × IsPending o d old new) c.object_of.result
     (λ o done.
     let at = done is.0 is.1 old new under_name in
     let d = under type at.0 in
     (d, subst (λ (ts : List Token). IsObject d p ts r) (sym next) (sole_under p k a type at.0 d r typed refl (is.3 at.0 at.1)), at.2))
-    c.object_of.ensures
+    c.object_of.ensures.ok
 
 pub put_named-returns-in-Ok-clause-ok : goal.put_named-returns-in-Ok-clause-ok
 put_named-returns-in-Ok-clause-ok t c =
@@ -625,10 +627,10 @@ put_named-returns-in-Ok-clause-ok t c =
     let old = c.args.out.now.items in
     let mid = c.put_turns.new.out.items in
     let new = c.put_sole.new.out.items in
-    let is = subst (λ (f : Option Last). IsNamedRead f p k s r old mid) c.in-Some.is c.in_ok-put_turns.ensures.ok in
+    let is = subst (λ (f : Option Last). IsNamedRead f type p k s r old mid) c.in-Some.is c.in_ok-put_turns.ensures.ok in
     let len : length old ≡ c.len-start.result = grind arith in
     let result : c.put_sole.result ≡ Ok tt = search rules in
-    let done = on_ok c.put_sole.result tt _ result c.put_sole.ensures in
+    let done = on_ok c.put_sole.result tt _ result c.put_sole.ensures.ok in
     λ typed.
     puts_weaker (λ v. (d : Data) × (json v ≡ under type d) × (is.0 ≡ Some (d, is.1))) (λ v. IsObject (json v) p (key k ∷ s) r) old new
     (λ v h. sole_under p k s type h.0 (json v) r typed h.1 (is.3 h.0 h.2)) (done k is.0 is.1 old len is.2)
@@ -655,7 +657,7 @@ last_fields-returns-clause-ok t c =
     let at : PutsEncodingOf (λ v. json v ≡ d) old mid = (put.0, put.1, put.2, put.3, put.4, refl) in
     let len : length old ≡ c.len-start.result = grind arith in
     let read : Data → Option (Data × List Token) = λ x. Some (x, r) in
-    weaker _ (λ last. (x : Data) × IsObject x p s r × IsLast last c.args.name.now (read x) r old new) c.last_of_table.result (λ last done. (d, put.5, done d r old len at)) c.last_of_table.ensures
+    weaker _ (λ last. (x : Data) × IsObject x p s r × IsLast last amqp.DecimalValue c.args.name.now (read x) r old new) c.last_of_table.result (λ last done. (d, put.5, done d r old len at)) c.last_of_table.ensures
 
 pub put_last-returns-in-Ok-clause-ok : goal.put_last-returns-in-Ok-clause-ok
 put_last-returns-in-Ok-clause-ok t c =
@@ -671,4 +673,39 @@ put_last-returns-in-Ok-clause-ok t c =
     let result : c.last_fields.result ≡ Ok c.in-Ok.last = search rules in
     let done = when_ok c.last_fields.result c.in-Ok.last _ result c.last_fields.ensures.ok in
     let read : converted of_json (value depth s) ≡ Some (done.0, u) = opened ∙ ap (parse_map object) done.1.2 ∙ ap (λ d. Some (d, u)) (sym done.1.1) in
-    subst (λ (o : Option (Data × List Token)). IsLast c.in-Ok.last k o u old new) (sym read) done.2
+    let type : amqp.DecimalValue ≡ c.args.amqp_type = search rules in
+    subst (λ t. IsLast c.in-Ok.last t k (converted of_json (value depth s)) u old new) type (subst (λ (o : Option (Data × List Token)). IsLast c.in-Ok.last amqp.DecimalValue k o u old new) (sym read) done.2)
+
+pub put_last-returns-in-Ok-put_token-clause-ok : goal.put_last-returns-in-Ok-put_token-clause-ok
+put_last-returns-in-Ok-put_token-clause-ok t c =
+    let depth = c.args.depth in
+    let type = c.args.amqp_type in
+    let k = c.in_ok-token.token in
+    let s = c.next.new.self in
+    let r = c.put_token.new.reader in
+    let old = c.args.out.now.items in
+    let first : c.args.reader.now ≡ token_of k ∷ s = grind arith in
+    let opened = ap (λ ts. converted of_json (value depth ts)) first in
+    let is_put : IsPutToken type (token_of k) = search rules in
+    let head = (old ++ 70 ∷ 0 ∷ 0 ∷ 0 ∷ 0 ∷ []) ++ short_field c.args.name.now in
+    let keyed : c.put_key.result ≡ Ok tt = search rules in
+    let result : c.put_token.result ≡ Ok tt = search rules in
+    let at : c.put_key.new.out.items ≡ head = on_ok c.put_key.result tt _ keyed c.put_key.ensures.ok ∙ ap (λ b. b ++ short_field c.args.name.now) c.in_ok-put_head-in_default.ensures.ok in
+    let put = subst (λ (b : List ℕ). PutsEncodingOf (λ v. converted of_json (value depth (token_of k ∷ s)) ≡ Some (json v, r)) b c.put_token.new.out.items) at (on_ok c.put_token.result tt _ result c.put_token.ensures.ok) in (
+      on_ok c.put_key.result tt _ keyed c.put_key.ensures.short,
+      puts_weaker (λ v. converted of_json (value depth (token_of k ∷ s)) ≡ Some (json v, r)) (λ v. (converted of_json (value depth c.args.reader.now) ≡ Some (json v, r)) × IsUnnamed type (json v)) head c.put_token.new.out.items
+          (λ v e. (opened ∙ e, λ other. put_unnamed type depth (token_of k) s r (json v) is_put e)) put,
+    )
+
+pub put_named-returns-in-None-clause-ok : goal.put_named-returns-in-None-clause-ok
+put_named-returns-in-None-clause-ok t c typed =
+    let p = value c.args.depth in
+    let s = c.args.reader.now in
+    let k = c.args.name.now in
+    let r = c.put_turns.new.reader in
+    let type = c.args.amqp_type in
+    let old = c.args.out.now.items in
+    let new = c.put_turns.new.out.items in
+    let none : c.in_ok-put_turns.field-0 ≡ None = search rules in
+    let put = subst (λ (f : Option Last). IsNamedRead f type p k s r old new) none c.in_ok-put_turns.ensures.ok in
+    puts_weaker (λ v. IsObject (json v) p (key k ∷ s) r × IsNoneUnder amqp.FieldTable (json v)) (λ v. IsObject (json v) p (key k ∷ s) r) old new (λ v h. h.0) put

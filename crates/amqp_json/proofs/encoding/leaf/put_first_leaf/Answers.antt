@@ -16,8 +16,8 @@ returns-in_ok-put_key-in-Text-clause-ok c =
     let x = c.in-Text.text.now in
     let new = c.put_text.new.out.items in
     let utf8 : IsUtf8 x = search rules in
-    on_ok_weaker c.put_text.result (λ done read rest old is.
-    let at = subst (λ (l : Leaf). IsLeaf l k read rest old c.args.out.now.items) c.in-Text.is is in
+    on_ok_weaker c.put_text.result (λ done type read rest old is.
+    let at = subst (λ (l : Leaf). IsLeaf l type k read rest old c.args.out.now.items) c.in-Text.is is in
     let head = c.in_ok-put_head-in-Text.ensures.ok ∙ ap (λ b. b ++ 70 ∷ 0 ∷ 0 ∷ 0 ∷ 0 ∷ []) at.0 in
     let keyed = c.in_ok-put_key-in-Text.ensures.ok ∙ ap (λ b. b ++ short_field k) head in (
       c.in_ok-put_key-in-Text.ensures.short,
