@@ -5,7 +5,7 @@ ghost use Rattle.std.specs.Prelude.{ℕ, ◌≡◌, ◌≢◌, ◌≤◌, List, 
 ghost use Rattle.json.specs.Token.{Token as SpecToken};
 ghost use Rattle.serde_json.specs.Data.{Data};
 ghost use Rattle.amqp_value_core.specs.Names.{name_of};
-ghost use Rattle.amqp_json.specs.Encodes.{PutsEncodingOf, PutsFirst, IsLast, IsPending, IsRefusal, IsNoneUnder};
+ghost use Rattle.amqp_json.specs.Encodes.{PutsEncodingOf, PutsFirst, IsLast, IsPending, Extends, IsRefusal, IsNoneUnder};
 ghost use Rattle.amqp_json.specs.Json.{json, under};
 ghost use Rattle.amqp_json.specs.Reading.{value_of};
 
@@ -38,6 +38,7 @@ pub(crate) fn put_sole(
     ensures refused { IfErr result (λ e. IsRefusal e ((k : List ℕ) (read : Option (Data × List SpecToken)) (rest : List SpecToken) (old : List ℕ)
         → length old ≡ start → IsLast last.entry amqp_type k read rest old out.old.items
         → (d : Data) × (read ≡ Some (d, rest)) × IsNoneUnder amqp_type d)) }
+    ensures kept { IfErr result (λ e. IsRefusal e (Extends out.old.items out.new.items)) }
 {
     match last {
         Last::Leaf(leaf) => put_leaf(alloc, out, amqp_type, leaf),
@@ -103,6 +104,7 @@ pub(crate) fn put_first(
     ensures refused { IfErr result (λ e. IsRefusal e ((type : AMQPType) (read : Option (Data × List SpecToken)) (rest : List SpecToken) (old : List ℕ)
         → length old ≡ start → length name.now ≤ 255 → IsLast last.entry type name.now read rest old out.old.items
         → (d : Data) × (read ≡ Some (d, rest)) × (value_of d ≡ None))) }
+    ensures kept { IfErr result (λ e. IsRefusal e (length name.now ≤ 255 → Extends out.old.items out.new.items)) }
 {
     match last {
         Last::Leaf(leaf) => put_first_leaf(out, name, leaf),
