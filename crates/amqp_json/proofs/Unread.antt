@@ -1,5 +1,5 @@
 -- What of a text is no value, after what is put as an encoding.
-use Rattle.std.proofs.Common.{◌≡◌, ◌≢◌, ℕ, ◌-◌, ◌<◌, ◌≤◌, List, [], ◌∷◌, ◌++◌, length, Option, Some, None, option_map, MatchOption, Result, Ok, Err, IfSome, IfOk, OnOk, IfErr, Bor, refl, sym, ap, ◌∙◌, subst, arith, append_assoc, append-nil}
+use Rattle.std.proofs.Common.{◌≡◌, ◌≢◌, ℕ, ℤ, ◌-◌, ◌<◌, ◌≤◌, List, [], ◌∷◌, ◌++◌, length, Option, Some, None, option_map, MatchOption, Result, Ok, Err, IfSome, IfOk, OnOk, IfErr, Bor, refl, sym, ap, ◌∙◌, subst, arith, append_assoc, append-nil}
 use Rattle.std.proofs.lemmas.Bool.{lt-leb}
 use Rattle.std.specs.BTreeMap.{insert_entry}
 use Rattle.std.specs.Map.{remove_entry}
@@ -14,19 +14,25 @@ use Rattle.amqp_value_core.specs.Grammar.{TableBody, no_pairs, pair, short_field
 use Rattle.amqp_value_core.specs.Strings.{IsShort}
 use Rattle.amqp_json.specs.InMemory.{EntriesStored}
 use Rattle.amqp_json.specs.Json as amqp
-use Rattle.amqp_json.specs.Json.{members_json, sole_type}
+use Rattle.amqp_json.specs.Json.{members_json, sole_type, under}
 use Rattle.amqp_json.specs.Reading.{value_of, values_of, with_entry, entries_of}
+use Rattle.serde_json.specs.Find.{of_integer}
+use Rattle.amqp_json.specs.Lexing.{IsLastInteger}
+use Rattle.amqp_json.specs.Names.{type_named}
 use Rattle.amqp_json.specs.Sorted.{by_key, at_key}
 use Rattle.amqp_json.specs.Tokens.{Ends, IsUnread, IsNoEntry, IsNoTable, IsObjectOfMembers, IsTableObject, BecomesTable, MembersLeadTo, next_token}
-use Rattle.amqp_json.specs.Encodes.{IsRefusal, IsNumberWith, EncodesNone, Extends, IsObject, IsMemberPut, IsTableOf, PutsEncodingOf, PutsFirst, PutsPairs, AreEntriesRead, HasNoTypeName}
+use Rattle.amqp_json.specs.Encodes.{IsRefusal, IsNoneUnder, IsNumberWith, EncodesNone, Extends, IsObject, IsMemberPut, IsTableOf, PutsEncodingOf, PutsFirst, PutsPairs, AreEntriesRead, HasNoTypeName}
 use Rattle.amqp_json.specs.declared.encoding.Stop.{Stop}
 use Rattle.amqp_json.specs.declared.encoding.Stop.TheVariants.{OutOfMemory, NotHere, NotAValue}
-use Rattle.amqp_json.proofs.Encodes.{ItemsLeft, PairsLeft}
-use Rattle.amqp_json.proofs.Forms.{no_table}
+use Rattle.amqp_json.proofs.Encodes.{ItemsLeft, PairsLeft, puts_weaker, plain_object, under_object}
+use Rattle.amqp_json.proofs.Refused.{under_is, under_table, plain_unnamed}
+use Rattle.amqp_value_core.specs.declared.types.amqp_type.AMQPType.{AMQPType}
+use Rattle.amqp_value_core.specs.declared.types.amqp_type.AMQPType.TheVariants as amqp_type
+use Rattle.amqp_json.proofs.Forms.{no_table, no_table_forms}
 use Rattle.amqp_json.proofs.Leading.{taken, leads_as, next_is, past_member, over, ends_on, sole_of_table}
 use Rattle.amqp_json.proofs.Merged.{merge, AreKeysOf, AreNoEntries, AreMembersRising, becomes, second_of_table, rest_step, no_keys, some_keys}
 use Rattle.amqp_json.proofs.Passing.{SameEnd, end, ends, end-parse_map}
-use Rattle.amqp_json.proofs.Turns.{item_read, items_over, insert_put}
+use Rattle.amqp_json.proofs.Turns.{number_read, item_read, items_over, insert_put}
 use Rattle.amqp_json.proofs.Walks.{put_stored}
 
 -- ---- why nothing is put
@@ -241,12 +247,12 @@ module _ (p : Parse json.Json) (before : Entries) (first : Option (List ℕ)) (s
 pub first_none : (p : Parse json.Json) (k j : List ℕ) (start u rest : List Token) (old mid new : List ℕ) (Q : Tree → Type 0) → PutsFirst k Q old mid
     → ((v : Tree) → Q v → MembersLeadTo p no_members (key k ∷ start) (member k (amqp.json v) no_members) (key j ∷ u)) → j ≢ k
     → ((before : Entries) → EntriesStored before → HasNoTypeName before (Some j) → IsNoTable p (members_json before) (key j ∷ u) rest × Extends mid new)
-    → EncodesNone (λ d. IsObject d p (key k ∷ start) rest) old new
+    → IsNoTable p no_members (key k ∷ start) rest × Extends old new
 first_none p k j start u rest old mid new Q (short, (w, v, same, encoded, stored, q)) leads other more =
     let all = more (entry k v no_entries) (short, stored, tt) (second_of_table j k (amqp.json v) other) in
     let head = 70 ∷ 0 ∷ 0 ∷ 0 ∷ 0 ∷ [] in
     let put : mid ≡ old ++ (head ++ (short_field k ++ w)) = same ∙ append_assoc (old ++ head) (short_field k) w ∙ append_assoc old head (short_field k ++ w) in
-    no_object p (key k ∷ start) (key k ∷ start) rest old new refl (no_table_on p no_members (member k (amqp.json v) no_members) (key k ∷ start) (key j ∷ u) rest (leads v q) all.0, extends_after (head ++ (short_field k ++ w)) old mid new put all.1)
+    (no_table_on p no_members (member k (amqp.json v) no_members) (key k ∷ start) (key j ∷ u) rest (leads v q) all.0, extends_after (head ++ (short_field k ++ w)) old mid new put all.1)
 
 -- ---- a result that is known
 
@@ -284,3 +290,37 @@ items_passed p start now rest so over n enough =
 pub member_taken : (bad : Option ℕ) (depth : ℕ) (now r : List Token) (k mid new : List ℕ) → IsMemberPut bad (converted of_json (json.value depth now)) r k mid new → length r < length now
 member_taken None depth now r k mid new (short, (w, v, same, encoded, stored, read)) = taken depth now r (amqp.json v) read
 member_taken (Some at) depth now r k mid new (d, read, none, same) = taken depth now r d read
+
+-- nor is it a value if it is under the name of a table's type
+pub no_object_under : (p : Parse json.Json) (ts us rest : List Token) (old new : List ℕ) → ts ≡ us → IsNoTable p no_members us rest × Extends old new → EncodesNone (λ d. IsObject d p ts rest × IsNoneUnder amqp_type.FieldTable d) old new
+no_object_under p ts us rest old new is (none, more) =
+    let found = subst (λ (vs : List Token). IsNoTable p no_members vs rest) (sym is) none in
+    let both = no_table_forms found.0 (sole_of_table found.0 found.2) found.3 in
+    (object found.0, ((found.0, refl, found.1 (length ts) (omega arith)), both.1), (both.0, refl), more)
+
+-- the name of a type as the only key, over what is none of that type
+pub no_sole : (p : Parse json.Json) (type : AMQPType) (d : Data) (ts rest : List Token) (old new : List ℕ) → IsNoneUnder type d → IsObject (under type d) p ts rest → Extends old new → EncodesNone (λ e. IsObject e p ts rest) old new
+no_sole p type d ts rest old new none is more = (under type d, is, (under_is type d ∙ none, refl), more)
+
+-- over the JSON of no value
+pub no_sole_under : (p : Parse json.Json) (type : AMQPType) (d : Data) (ts rest : List Token) (old new : List ℕ) → IsNoneUnder type d → value_of d ≡ None → IsObject (under type d) p ts rest → Extends old new
+    → EncodesNone (λ e. IsObject e p ts rest × IsNoneUnder amqp_type.FieldTable e) old new
+no_sole_under p type d ts rest old new none unread is more = (under type d, (is, sym (under_is amqp_type.FieldTable (under type d)) ∙ under_table type d unread), (under_is type d ∙ none, refl), more)
+
+-- a table of which the first value isn't that of an entry
+pub bad_first : (p : Parse json.Json) (k : List ℕ) (d : Data) (ts us rest : List Token) (old new : List ℕ) → MembersLeadTo p no_members ts (member k d no_members) us
+    → PutsEncodingOf (λ v. (es : Entries) × (v ≡ values.table es) × IsTableOf es p (member k d no_members) us rest) old new → PutsEncodingOf (λ v. IsObject (amqp.json v) p ts rest × IsNoneUnder amqp_type.FieldTable (amqp.json v)) old new
+bad_first p k d ts us rest old new leads put =
+    puts_weaker (λ v. (es : Entries) × (v ≡ values.table es) × IsTableOf es p (member k d no_members) us rest) (λ v. IsObject (amqp.json v) p ts rest × IsNoneUnder amqp_type.FieldTable (amqp.json v)) old new
+    (λ v h.
+    let sole = sole_of_table (members_json h.0) h.2.1 in
+    ((members_json h.0, plain_object v h.0 h.1 sole, ends_on p no_members ts (member k d no_members) us (members_json h.0) rest leads h.2.0 (length ts) (omega arith)), plain_unnamed v h.0 h.1 sole)) put
+
+-- an integer as the last number of an object, under the name of a type
+pub last_integer_object : (depth : ℕ) (k : List ℕ) (type : AMQPType) (z : ℤ) (s end : List Token) → type_named k ≡ Some type → IsLastInteger z s end → IsObject (under type (number (of_integer z))) (json.value depth) (key k ∷ s) end
+last_integer_object depth k type z s end typed last =
+    let p = json.value depth in
+    let d = number (of_integer z) in
+    let read : converted of_json (p s) ≡ Some (d, end_object ∷ end) =
+    ap (λ (ts : List Token). converted of_json (p ts)) last.first ∙ number_read depth last.digits (end_object ∷ end) d (ap (option_map number) last.denoted) in
+    under_object p k type (key k ∷ s) s (end_object ∷ end) end d typed refl read refl (omega (arith, ap length last.first))

@@ -25,7 +25,7 @@ use Rattle.amqp_json.specs.declared.encoding.object.Object.{Object}
 use Rattle.amqp_json.specs.declared.encoding.object.Kind.{Kind}
 use Rattle.amqp_json.specs.declared.encoding.object.Kind.TheVariants.{Table, Named}
 use Rattle.amqp_json.specs.declared.encoding.last.Last.{Last}
-use Rattle.amqp_json.specs.declared.encoding.last.Last.TheVariants.{Leaf as OfLeaf, Object as OfObject}
+use Rattle.amqp_json.specs.declared.encoding.last.Last.TheVariants.{Leaf as OfLeaf, Object as OfObject, NoValue}
 
 -- what stops means no more than that nothing is put, unless it is the JSON of no value: `none`
 abbrev pub IsRefusal : Stop → Type 0 → Type 0
@@ -110,6 +110,7 @@ IsPending o d old new = (e : Data) × (d ≡ wrapped o.wraps e) × IsKind o.kind
 abbrev pub IsLast : Last → AMQPType → List ℕ → Option (Data × List Token) → List Token → List ℕ → List ℕ → Type 0
 IsLast (OfLeaf leaf) type k read rest old new = IsLeaf leaf type k read rest old new
 IsLast (OfObject o) type k read rest old new = (d : Data) × (read ≡ Some (d, rest)) × IsPending o d old new
+IsLast NoValue type k read rest old new = (d : Data) × (read ≡ Some (d, rest)) × (value_of d ≡ None) × IsNoneUnder type d × Extends old new
 
 -- no name of a type is the only key of the entries, also not with the next key
 abbrev pub HasNoTypeName : Entries → Option (List ℕ) → Type 0

@@ -27,9 +27,8 @@ const UNLIMITED: Limits = Limits {
 
 /// Converts a JSON text to the canonical encoding of its value, which it reads as `from_json` does.
 /// The value is allocated only if the text is JSON that isn't judged as its tokens come: if it has
-/// under the name of a type, as the first key of an object, what is no value, or is none of that type;
-/// or under `DecimalValue` an object that begins with a scale and has not just a number after it, or
-/// the number first and more than 512 bytes as a table.
+/// under `DecimalValue` an object that is no decimal's and begins with a scale, is no value, or has no
+/// other key beside; or one with the number first and more than 512 bytes as a table.
 pub fn encoding_of_json(alloc: Global, json: &str) -> Result<Vec<u8>, EncodeError>
     ensures encoding { IfOk result (λ bytes. IsEncodingOf json.now bytes.items) }
     ensures only { IfOk result (λ bytes. (v : Tree) → IsStored v → JsonTextMeans json.now v

@@ -1,15 +1,15 @@
 //! From the tokens of a text to an encoding of its value, without the value in memory: the pairs of
 //! a table are in the order of the text, and keys may occur again.
 
-ghost use Rattle.std.specs.Prelude.{ℕ, ◌≡◌, ◌<◌, ◌≤◌, ◌∷◌, [], length, List, Some, None, true, codes, IfOk, OnOk, IfErr, IfSome, option_map};
+ghost use Rattle.std.specs.Prelude.{ℕ, ◌≡◌, ◌≢◌, ◌<◌, ◌≤◌, ◌∷◌, [], length, List, Some, None, true, codes, IfOk, OnOk, IfErr, IfSome, option_map};
 ghost use Rattle.json.specs.Token.{Token as SpecToken};
 ghost use Rattle.json.specs.Token as token;
 ghost use Rattle.json.specs.Reads.{token_of};
 ghost use Rattle.json.specs.Json.{value, items, parse_map, read_key};
-ghost use Rattle.serde_json.specs.Data.{Data, array, number, no_members, put};
+ghost use Rattle.serde_json.specs.Data.{Data, array, number, member, no_members, put};
 ghost use Rattle.serde_json.specs.Read.{of_json, of_items, converted, number_of};
 ghost use Rattle.amqp_value_core.specs.declared.types.amqp_type.AMQPType.TheVariants as amqp;
-ghost use Rattle.amqp_value_core.specs.Values.{Entries};
+ghost use Rattle.amqp_value_core.specs.Values.{Entries, table};
 ghost use Rattle.amqp_json.specs.InMemory.{EntriesStored};
 ghost use Rattle.amqp_json.specs.Encodes.{IsObject, IsEncodedMeaning, PutsEncodingOf, PutsValues, PutsPairs, AreEntriesRead, HasNoTypeName, IsLast, IsPending, IsNamedRead, IsNaturalRead, IsRefusal, IsNoneUnder, IsNumberWith, EncodesNone, Extends, IsMemberPut, IsTableOf};
 ghost use Rattle.amqp_json.specs.Tokens.{Ends, IsUnread, IsNoTable, IsNoEntry, BecomesTable, next_token};
@@ -36,7 +36,7 @@ use crate::reading::long_long_int;
 use amqp_value_core::types::{AMQPType, DecimalValue};
 use fields::last_of_table;
 use json::{Scratch, Token};
-use last::{Last, is_same, object_of, put_first, put_sole, take_back};
+use last::{Last, has_place, is_same, object_of, put_first, put_sole, take_back};
 use leaf::Leaf;
 use lexer::Lexer;
 use named::put_narrow;
@@ -420,6 +420,8 @@ fn object_under_table<'a>(
     ensures ok { IfOk result (λ object. (d : Data) × IsObject d (value depth) reader.old reader.new
         × IsPending object d out.old.items out.new.items) }
     ensures shorter { IfOk result (λ object. length reader.new < length reader.old) }
+    ensures refused { IfErr result (λ e. IsRefusal e (EncodesNone (λ d. IsObject d (value depth) reader.old reader.new
+        × IsNoneUnder amqp.FieldTable d) out.old.items out.new.items)) }
 {
     let first = reader.next_key()?;
     if let Some(name) = first
@@ -602,14 +604,16 @@ fn put_typed<'a>(
         → PutsEncodingOf (λ v. IsObject (json v) (value depth) (token.key name.now ∷ reader.old) reader.new)
         out.old.items out.new.items) }
     ensures shorter { OnOk result (length reader.new < length reader.old) }
-    ensures refused { IfErr result (λ e. IsRefusal e (EncodesNone
+    ensures refused { IfErr result (λ e. IsRefusal e (type_named name.now ≡ Some amqp_type → EncodesNone
         (λ d. IsObject d (value depth) (token.key name.now ∷ reader.old) reader.new) out.old.items out.new.items)) }
 {
+    let at = reader.offset();
     if let Some(n) = reader.last_integer() {
-        return match put_narrow(out, amqp_type, n) {
-            Ok(()) => Ok(()),
-            Err(e) => Err(unjudged(e)),
-        };
+        let put = put_narrow(out, amqp_type, n);
+        if let Err(Stop::NotAValue) = put {
+            reader.set_fault(at);
+        }
+        return put;
     }
     put_named(alloc, reader, out, name, amqp_type, depth)
 }
@@ -629,16 +633,13 @@ fn put_named<'a>(
         → PutsEncodingOf (λ v. IsObject (json v) (value depth) (token.key name.now ∷ reader.old) reader.new)
         out.old.items out.new.items) }
     ensures shorter { OnOk result (length reader.new < length reader.old) }
-    ensures refused { IfErr result (λ e. IsRefusal e (EncodesNone
+    ensures refused { IfErr result (λ e. IsRefusal e (type_named name.now ≡ Some amqp_type → EncodesNone
         (λ d. IsObject d (value depth) (token.key name.now ∷ reader.old) reader.new) out.old.items out.new.items)) }
 {
     let start = out.len();
     match put_turns(alloc, reader, out, name, amqp_type, depth)? {
         None => Ok(()),
-        Some(last) => match put_sole(alloc, out, start, amqp_type, last) {
-            Ok(()) => Ok(()),
-            Err(e) => Err(unjudged(e)),
-        },
+        Some(last) => put_sole(alloc, out, start, amqp_type, last),
     }
 }
 
@@ -657,12 +658,14 @@ fn put_turns<'a>(
     ensures ok { IfOk result (λ found. IsNamedRead found amqp_type (value depth) name.now reader.old reader.new
         out.old.items out.new.items) }
     ensures shorter { IfOk result (λ found. length reader.new < length reader.old) }
-    ensures refused { IfErr result (λ e. IsRefusal e (EncodesNone
-        (λ d. IsObject d (value depth) (token.key name.now ∷ reader.old) reader.new) out.old.items out.new.items)) }
+    ensures refused { IfErr result (λ e. IsRefusal e (IsNoTable (value depth) no_members
+        (token.key name.now ∷ reader.old) reader.new × Extends out.old.items out.new.items)) }
 {
     let start = out.len();
     'turns: loop {
+        let at = reader.offset();
         let last = put_last(alloc, reader, out, name, amqp_type, depth)?;
+        note_place(reader, last, at);
         let next = reader.next_key()?;
         match next {
             None => return Ok(Some(last)),
@@ -670,6 +673,12 @@ fn put_turns<'a>(
             Some(key) => {
                 match put_first(alloc, out, start, name, last) {
                     Ok(()) => {}
+                    // The name of a type isn't longer.
+                    Err(Stop::NotAValue) if name.len() <= 255 => {
+                        let first = (name, reader.fault());
+                        put_bad_first(alloc, reader, out, start, first, key, depth)?;
+                        return Ok(None);
+                    }
                     Err(e) => return Err(unjudged(e)),
                 }
                 put_members(alloc, reader, out, Some(key), depth)?;
@@ -678,6 +687,46 @@ fn put_turns<'a>(
             }
         }
     }
+}
+
+// Notes where it begins, in case that it is no value.
+#[inline(always)]
+fn note_place(reader: &mut Lexer<'_>, last: Last<'_>, at: usize)
+    ensures { reader.new ≡ reader.old }
+{
+    if has_place(last) {
+        reader.set_fault(at);
+    }
+}
+
+// A table whose first key is the name of a type, of which the value is none, and another follows.
+#[cycle(encode)]
+#[cold]
+#[inline(never)]
+fn put_bad_first<'a>(
+    alloc: Global,
+    reader: &mut Lexer<'a>,
+    out: &mut Vec<u8>,
+    start: usize,
+    first: (&'a str, usize),
+    key: &'a str,
+    depth: usize,
+) -> Result<(), Stop>
+    ensures ok { OnOk result ((old : List ℕ) (d : Data) → length old ≡ start → Extends old out.old.items
+        → IsNoEntry first.entry.0.now d → key.now ≢ first.entry.0.now
+        → PutsEncodingOf (λ v. (es : Entries) × (v ≡ table es) × IsTableOf es (value depth)
+        (member first.entry.0.now d no_members) (token.key key.now ∷ reader.old) reader.new) old out.new.items) }
+    ensures shorter { OnOk result (length reader.new ≤ length reader.old) }
+    ensures refused { IfErr result (λ e. IsRefusal e ((old : List ℕ) (d : Data) → length old ≡ start
+        → Extends old out.old.items → IsNoEntry first.entry.0.now d → key.now ≢ first.entry.0.now
+        → IsNoTable (value depth) (member first.entry.0.now d no_members) (token.key key.now ∷ reader.old)
+        reader.new × Extends old out.new.items)) }
+{
+    out.truncate(start);
+    let at = out.len() + 1;
+    put_head(out, b'F')?;
+    put_rest(alloc, reader, out, first, Some(key), depth)?;
+    fill_length(out, at)
 }
 
 // A refusal that isn't judged here.
@@ -727,7 +776,8 @@ fn put_last<'a>(
             }
             match object_under_table(alloc, reader, out, depth - 1) {
                 Ok(object) => Ok(Last::Object(object)),
-                Err(e) => Err(unjudged(e)),
+                Err(Stop::NotAValue) => Ok(Last::NoValue),
+                Err(e) => Err(e),
             }
         }
         (_, token) => {
@@ -737,7 +787,8 @@ fn put_last<'a>(
             }
             match put_token(alloc, reader, token, at, out, depth) {
                 Ok(()) => Ok(Last::Leaf(Leaf::Put)),
-                Err(e) => Err(unjudged(e)),
+                Err(Stop::NotAValue) => Ok(Last::NoValue),
+                Err(e) => Err(e),
             }
         }
     }

@@ -21,6 +21,8 @@ pub(crate) enum Last<'a> {
     Leaf(Leaf<'a>),
     /// Under the name of a table's type.
     Object(Object<'a>),
+    /// The JSON of no value, also not of one of the type.
+    NoValue,
 }
 
 /// The value of a type whose name is the only key.
@@ -46,6 +48,7 @@ pub(crate) fn put_sole(
             let outer = under_table(amqp_type, object)?;
             put_object_of(alloc, out, start, outer)
         }
+        Last::NoValue => Err(Stop::NotAValue),
     }
 }
 
@@ -73,7 +76,9 @@ pub(crate) fn object_of(amqp_type: AMQPType, last: Last<'_>) -> Result<Object<'_
     ensures ok { IfOk result (λ o. (read : Option (Data × List SpecToken)) (rest : List SpecToken) (old new : List ℕ)
         → IsLast last.entry amqp_type (name_of amqp_type) read rest old new
         → (d : Data) × (read ≡ Some (d, rest)) × IsPending o (under amqp_type d) old new) }
-    ensures refused { IfErr result (λ e. IsRefusal e ⊥) }
+    ensures refused { IfErr result (λ e. IsRefusal e ((read : Option (Data × List SpecToken)) (rest : List SpecToken) (old new : List ℕ)
+        → IsLast last.entry amqp_type (name_of amqp_type) read rest old new
+        → (d : Data) × (read ≡ Some (d, rest)) × (value_of d ≡ None) × IsNoneUnder amqp_type d)) }
 {
     match last {
         Last::Leaf(leaf) => {
@@ -86,6 +91,7 @@ pub(crate) fn object_of(amqp_type: AMQPType, last: Last<'_>) -> Result<Object<'_
             })
         }
         Last::Object(object) => under_table(amqp_type, object),
+        Last::NoValue => Err(Stop::NotAValue),
     }
 }
 
@@ -112,6 +118,7 @@ pub(crate) fn put_first(
             put_object_of(alloc, out, start, object)?;
             put_before(out, start, name)
         }
+        Last::NoValue => Err(Stop::NotAValue),
     }
 }
 
@@ -138,7 +145,7 @@ fn is_last_json(last: Last<'_>) -> bool
 {
     match last {
         Last::Leaf(leaf) => is_json(leaf),
-        Last::Object(_) => true,
+        Last::Object(_) | Last::NoValue => true,
     }
 }
 
@@ -149,4 +156,13 @@ pub(crate) fn is_same(key: &str, name: &str) -> bool
     ensures no { result ≡ false → key.now ≢ name.now }
 {
     key == name
+}
+
+/// Whether it begins where that does which is no value, if it is none.
+pub(crate) fn has_place(last: Last<'_>) -> bool {
+    match last {
+        Last::Leaf(_) => true,
+        Last::Object(object) => object.is_table(),
+        Last::NoValue => false,
+    }
 }

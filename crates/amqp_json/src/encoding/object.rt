@@ -35,6 +35,13 @@ pub(crate) enum Kind<'a> {
     Named(AMQPType, Leaf<'a>),
 }
 
+impl Object<'_> {
+    /// Whether it is a table, which is put.
+    pub(crate) fn is_table(self) -> bool {
+        self.wraps == 0 && matches!(self.kind, Kind::Table)
+    }
+}
+
 /// A table, which is put.
 pub(crate) const TABLE: Object<'static> = Object {
     wraps: 0,

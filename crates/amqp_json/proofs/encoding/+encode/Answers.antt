@@ -25,15 +25,15 @@ use Rattle.amqp_json.proofs.Refused.{IsPutToken, put_unnamed, plain_unnamed}
 use Rattle.amqp_json.specs.Names.{type_named}
 use Rattle.amqp_json.specs.declared.encoding.last.Last.{Last}
 use Rattle.amqp_json.proofs.Only.{is_name}
-use Rattle.amqp_json.specs.Tokens.{IsObjectOfMembers, IsNoTable, next_token}
+use Rattle.amqp_json.specs.Tokens.{IsObjectOfMembers, IsNoEntry, IsNoTable, next_token}
 use Rattle.amqp_json.proofs.Refused.{refusal_weaker, refused_weaker}
-use Rattle.amqp_json.proofs.Unread.{none_weaker, same_extends, extends_after, no_array, no_object, RestLeft, rest_first, rest_next, rest_done, rest_refused, bad_table, rest_pairs, rest_none, first_none, when_ok, on_ok, when_err, item_passed, items_passed, member_taken}
+use Rattle.amqp_json.proofs.Unread.{last_integer_object, no_table_on, both, no_sole, no_sole_under, no_object_under, bad_first, none_weaker, same_extends, extends_after, no_array, no_object, RestLeft, rest_first, rest_next, rest_done, rest_refused, bad_table, rest_pairs, rest_none, first_none, when_ok, on_ok, when_err, item_passed, items_passed, member_taken}
 use Rattle.amqp_json.specs.Json.{json, items_json, members_json, sole_type, under, decimal_json}
 use Rattle.amqp_json.specs.Encodes.{IsObject}
 use Rattle.amqp_json.proofs.Turns.{weaker, closed, number_read, number_is, converted-array, converted-object}
 use Rattle.amqp_json.proofs.Leading.{leads, leads_as, next_is, taken, was_put, was_bad}
-use Rattle.amqp_json.proofs.Merged.{put_over}
-use Rattle.amqp_json.proofs.Named.{past_turn, sole_object, sole_under, first_pairs, put_pending}
+use Rattle.amqp_json.proofs.Merged.{put_over, second_of_table, no_value_entry}
+use Rattle.amqp_json.proofs.Named.{back_to, last_after, past_turn, sole_object, sole_under, first_pairs, put_pending}
 use Rattle.amqp_json.proofs.Encodes.{PairsLeft, under_object, items_first, items_next, items_done, pairs_first, pairs_next, pairs_done, array_put, table_put, puts_weaker, text_put, scalar_put, plain_first, plain_object}
 use Rattle.amqp_json.proofs.encoding.+encode.Goals as goal
 
@@ -108,8 +108,8 @@ put_inner_object-returns-clause-ok t c =
     on_ok_weaker c.put_object.result (puts_weaker (λ v. IsObject (json v) (value (c.args.depth - 1)) r u) (λ v. converted of_json (value c.args.depth (Token.begin_object ∷ r)) ≡ Some (json v, u)) _ _
     (λ v h. opened ∙ ap (parse_map object) h.2 ∙ ap (λ d. Some (d, u)) (sym h.1))) c.put_object.ensures.ok
 
-pub put_typed-returns-in-Ok-clause-ok : goal.put_typed-returns-in-Ok-clause-ok
-put_typed-returns-in-Ok-clause-ok t c =
+pub put_typed-returns-in-Some-2-clause-ok : goal.put_typed-returns-in-Some-2-clause-ok
+put_typed-returns-in-Some-2-clause-ok t c =
     let p = value c.args.depth in
     let type = c.args.amqp_type in
     let k = c.args.name.now in
@@ -118,13 +118,29 @@ put_typed-returns-in-Ok-clause-ok t c =
     let last = c.in-Some.ensures in
     let end = c.last_integer.new.self in
     let d = number (of_integer z) in
-    let put = subst (λ x. OnOk c.put_narrow.result (PutsEncodingOf (λ v. json v ≡ under type (number (of_integer x))) c.args.out.now.items c.put_narrow.new.out.items)) (to_z-of_z w64 z last.fits) c.put_narrow.ensures.ok in
-    let read : converted of_json (p s) ≡ Some (d, Token.end_object ∷ end) =
-    ap (λ ts. converted of_json (p ts)) last.first ∙ number_read c.args.depth last.digits (Token.end_object ∷ end) d (ap (option_map number) last.denoted) in
-    let result : c.put_narrow.result ≡ Ok tt = search rules in
-    let done = on_ok c.put_narrow.result tt _ result put in
-    λ named. puts_weaker (λ v. json v ≡ under type d) (λ v. IsObject (json v) p (key k ∷ s) end) _ _
-    (λ v is. subst (λ e. IsObject e p (key k ∷ s) end) (sym is) (under_object p k type (key k ∷ s) s (Token.end_object ∷ end) end d named refl read refl (omega (arith, ap length last.first)))) done
+    let put = subst (λ x. OnOk c.put_narrow-put.result (PutsEncodingOf (λ v. json v ≡ under type (number (of_integer x))) c.args.out.now.items c.put_narrow-put.new.out.items)) (to_z-of_z w64 z last.fits) c.put_narrow-put.ensures.ok in
+    on_ok_weaker c.put_narrow-put.result (λ done named. puts_weaker (λ v. json v ≡ under type d) (λ v. IsObject (json v) p (key k ∷ s) end) _ _
+    (λ v is. subst (λ e. IsObject e p (key k ∷ s) end) (sym is) (last_integer_object c.args.depth k type z s end named last)) done)
+    put
+
+pub put_typed-returns-in-Err-NotAValue-clause-refused : goal.put_typed-returns-in-Err-NotAValue-clause-refused
+put_typed-returns-in-Err-NotAValue-clause-refused t c =
+    let p = value c.args.depth in
+    let type = c.args.amqp_type in
+    let k = c.args.name.now in
+    let s = c.args.reader.now in
+    let z = c.in-Some.n in
+    let last = c.in-Some.ensures in
+    let end = c.last_integer.new.self in
+    let rest = c.set_fault.new.self in
+    let old = c.args.out.now.items in
+    let new = c.put_narrow-put.new.out.items in
+    let d = number (of_integer z) in
+    let r = c.put_narrow-put.result in
+    let refused = subst (λ x. IfErr r (λ e. IsRefusal e (IsNoneUnder type (number (of_integer x))))) (to_z-of_z w64 z last.fits) c.put_narrow-put.ensures.refused in
+    refused_weaker r (IsNoneUnder type d × (new ≡ old)) (type_named k ≡ Some type → EncodesNone (λ e. IsObject e p (key k ∷ s) rest) old new)
+    (λ (none, same) typed. no_sole p type d (key k ∷ s) rest old new none (subst (λ (ts : List Token). IsObject (under type d) p (key k ∷ s) ts) (sym c.set_fault.ensures) (last_integer_object c.args.depth k type z s end typed last)) (same_extends old new same))
+    (both r _ _ refused c.put_narrow-put.ensures.kept)
 
 pub put_items-items-init : goal.put_items-items-init
 put_items-items-init t c = (items_first (value c.args.depth) c.args.reader.now c.args.out.now.items, omega arith)
@@ -467,12 +483,13 @@ put_turns-turns-preserved t c =
     let s = c.args.reader.now in
     let r = c.put_last.new.reader in
     let u = c.next_key.new.self in
+    let after_last = ap read_key (sym c.note_place.ensures) ∙ c.in_ok-next.ensures.ok in
     let last = c.in_ok-last.ensures in
     let len : length l.out.items ≡ c.len-start.result = grind (arith, l.invariant.4) in
     let back = c.in_ok-take_back-in-Some.ensures.ok c.args.amqp_type k (converted of_json (p l.reader)) r l.out.items len last.ok in
     let d = back.1.0 in
     let same : c.in-Some.key.now ≡ k = search rules in
-    let next : read_key r ≡ Some (Some k, u) = c.in_ok-next.ensures.ok ∙ ap (λ (o : Option (Bor (List ℕ))). Some (option_map (λ b. b.now) o, u)) c.in-Some.is ∙ ap (λ (j : List ℕ). Some (Some j, u)) same in
+    let next : read_key r ≡ Some (Some k, u) = after_last ∙ ap (λ (o : Option (Bor (List ℕ))). Some (option_map (λ b. b.now) o, u)) c.in-Some.is ∙ ap (λ (j : List ℕ). Some (Some j, u)) same in
     let less = read_key-shorter r (Some k) u next in
     let past = past_turn p k s l.invariant.0 l.reader r d l.invariant.1 l.invariant.2 back.1.1 last.shorter in (
       member k d no_members,
@@ -490,6 +507,7 @@ put_turns-returns-in-None-clause-ok t c =
     let s = c.args.reader.now in
     let r = c.put_last.new.reader in
     let u = c.next_key.new.self in
+    let after_last = ap read_key (sym c.note_place.ensures) ∙ c.in_ok-next.ensures.ok in
     let last = c.in_ok-last.ensures in
     let read = converted of_json (p l.reader) in
     let here = subst (λ (b : List ℕ). IsLast c.in_ok-last.last c.args.amqp_type k read r b c.put_last.new.out.items) l.invariant.4 last.ok in (
@@ -498,7 +516,7 @@ put_turns-returns-in-None-clause-ok t c =
       here,
       λ d is.
           let past = past_turn p k s l.invariant.0 l.reader r d l.invariant.1 l.invariant.2 is last.shorter in
-          let end = next_is r None u (closed c.in_ok-next.next r u c.in_ok-next.ensures.ok c.in-None.is) in
+          let end = next_is r None u (closed c.in_ok-next.next r u after_last c.in-None.is) in
           sole_object p k s d u (leads_as p no_members (key k ∷ s) (member k d no_members) r (Token.end_object ∷ u) past end),
     )
 
@@ -511,6 +529,7 @@ put_turns-returns-in-Some-2-clause-ok t c =
     let s = c.args.reader.now in
     let r = c.put_last.new.reader in
     let u = c.next_key.new.self in
+    let after_last = ap read_key (sym c.note_place.ensures) ∙ c.in_ok-next.ensures.ok in
     let rest = c.put_members.new.reader in
     let last = c.in_ok-last.ensures in
     let read = converted of_json (p l.reader) in
@@ -521,7 +540,7 @@ put_turns-returns-in-Some-2-clause-ok t c =
     let place : c.len-start.result + 1 ≡ length old + 1 = grind arith in
     let len : length old ≡ c.len-start.result = grind arith in
     let other : j ≢ k = search rules in
-    let next : read_key r ≡ Some (Some j, u) = c.in_ok-next.ensures.ok ∙ ap (λ (o : Option (Bor (List ℕ))). Some (option_map (λ b. b.now) o, u)) c.in-Some-2.is in
+    let next : read_key r ≡ Some (Some j, u) = after_last ∙ ap (λ (o : Option (Bor (List ℕ))). Some (option_map (λ b. b.now) o, u)) c.in-Some-2.is in
     let here = subst (λ (b : List ℕ). IsLast c.in_ok-last.last c.args.amqp_type k read r b c.put_last.new.out.items) l.invariant.4 last.ok in
     let first : PutsFirst k (λ v. read ≡ Some (json v, r)) old mid = on_ok c.put_first.result tt _ (search rules) c.put_first.ensures.ok c.args.amqp_type read r old len here in
     let pairs = first_pairs p k s j u rest old mid end (λ v. read ≡ Some (json v, r)) first (
@@ -542,6 +561,7 @@ put_turns-returns-in_err-put_members-in-Some-2-clause-refused t c =
     let s = c.args.reader.now in
     let r = c.put_last.new.reader in
     let u = c.next_key.new.self in
+    let after_last = ap read_key (sym c.note_place.ensures) ∙ c.in_ok-next.ensures.ok in
     let rest = c.put_members.new.reader in
     let last = c.in_ok-last.ensures in
     let read = converted of_json (p l.reader) in
@@ -550,10 +570,10 @@ put_turns-returns-in_err-put_members-in-Some-2-clause-refused t c =
     let end = c.put_members.new.out.items in
     let len : length old ≡ c.len-start.result = grind arith in
     let other : j ≢ k = search rules in
-    let next : read_key r ≡ Some (Some j, u) = c.in_ok-next.ensures.ok ∙ ap (λ (o : Option (Bor (List ℕ))). Some (option_map (λ b. b.now) o, u)) c.in-Some-2.is in
+    let next : read_key r ≡ Some (Some j, u) = after_last ∙ ap (λ (o : Option (Bor (List ℕ))). Some (option_map (λ b. b.now) o, u)) c.in-Some-2.is in
     let here = subst (λ (b : List ℕ). IsLast c.in_ok-last.last c.args.amqp_type k read r b c.put_last.new.out.items) l.invariant.4 last.ok in
     let first : PutsFirst k (λ v. read ≡ Some (json v, r)) old mid = on_ok c.put_first.result tt _ (search rules) c.put_first.ensures.ok c.args.amqp_type read r old len here in
-    let refused = refusal_weaker c.in_err-put_members-in-Some-2.field-0.0 _ (EncodesNone (λ d. IsObject d p (key k ∷ s) rest) old end)
+    let refused = refusal_weaker c.in_err-put_members-in-Some-2.field-0.0 _ (IsNoTable p no_members (key k ∷ s) rest × Extends old end)
     (first_none p k j s u rest old mid end (λ v. read ≡ Some (json v, r)) first (
     λ v h. leads_as p no_members (key k ∷ s) (member k (json v) no_members) r (key j ∷ u) (past_turn p k s l.invariant.0 l.reader r (json v) l.invariant.1 l.invariant.2 h last.shorter) (next_is r (Some j) u next)
     ) other) c.in_err-put_members-in-Some-2.ensures.refused in
@@ -617,8 +637,8 @@ object_under_table-returns-clause-ok t c =
     (d, subst (λ (ts : List Token). IsObject d p ts r) (sym next) (sole_under p k a type at.0 d r typed refl (is.3 at.0 at.1)), at.2))
     c.object_of.ensures.ok
 
-pub put_named-returns-in-Ok-clause-ok : goal.put_named-returns-in-Ok-clause-ok
-put_named-returns-in-Ok-clause-ok t c =
+pub put_named-returns-in-Some-clause-ok : goal.put_named-returns-in-Some-clause-ok
+put_named-returns-in-Some-clause-ok t c =
     let p = value c.args.depth in
     let s = c.args.reader.now in
     let k = c.args.name.now in
@@ -629,11 +649,39 @@ put_named-returns-in-Ok-clause-ok t c =
     let new = c.put_sole.new.out.items in
     let is = subst (λ (f : Option Last). IsNamedRead f type p k s r old mid) c.in-Some.is c.in_ok-put_turns.ensures.ok in
     let len : length old ≡ c.len-start.result = grind arith in
-    let result : c.put_sole.result ≡ Ok tt = search rules in
-    let done = on_ok c.put_sole.result tt _ result c.put_sole.ensures.ok in
-    λ typed.
+    on_ok_weaker c.put_sole.result (λ done typed.
     puts_weaker (λ v. (d : Data) × (json v ≡ under type d) × (is.0 ≡ Some (d, is.1))) (λ v. IsObject (json v) p (key k ∷ s) r) old new
-    (λ v h. sole_under p k s type h.0 (json v) r typed h.1 (is.3 h.0 h.2)) (done k is.0 is.1 old len is.2)
+    (λ v h. sole_under p k s type h.0 (json v) r typed h.1 (is.3 h.0 h.2)) (done k is.0 is.1 old len is.2))
+    c.put_sole.ensures.ok
+
+pub put_named-returns-in-Some-clause-refused : goal.put_named-returns-in-Some-clause-refused
+put_named-returns-in-Some-clause-refused t c =
+    let p = value c.args.depth in
+    let s = c.args.reader.now in
+    let k = c.args.name.now in
+    let r = c.put_turns.new.reader in
+    let type = c.args.amqp_type in
+    let old = c.args.out.now.items in
+    let mid = c.put_turns.new.out.items in
+    let new = c.put_sole.new.out.items in
+    let is = subst (λ (f : Option Last). IsNamedRead f type p k s r old mid) c.in-Some.is c.in_ok-put_turns.ensures.ok in
+    let len : length old ≡ c.len-start.result = grind arith in
+    refused_weaker c.put_sole.result _ _ (λ (done, more) typed.
+    let none = done k is.0 is.1 old len is.2 in
+    let was = last_after c.in-Some.last type k is.0 is.1 old mid is.2 in
+    no_sole p type none.0 (key k ∷ s) r old new none.2 (sole_under p k s type none.0 (under type none.0) r typed refl (is.3 none.0 none.1)) (extends_after was.0 old mid new was.1 more))
+    (both c.put_sole.result _ _ c.put_sole.ensures.refused c.put_sole.ensures.kept)
+
+pub put_named-returns-in_err-put_turns-clause-refused : goal.put_named-returns-in_err-put_turns-clause-refused
+put_named-returns-in_err-put_turns-clause-refused t c =
+    let p = value c.args.depth in
+    let ts = key c.args.name.now ∷ c.args.reader.now in
+    let r = c.put_turns.new.reader in
+    let old = c.args.out.now.items in
+    let new = c.put_turns.new.out.items in
+    let refused = refusal_weaker c.in_err-put_turns.field-0.0 _ (type_named c.args.name.now ≡ Some c.args.amqp_type → EncodesNone (λ d. IsObject d p ts r) old new)
+    (λ done typed. no_object p ts ts r old new refl done) c.in_err-put_turns.ensures.refused in
+    search (rules, refused)
 
 pub last_fields-returns-then-is_scale-clause-ok : goal.last_fields-returns-then-is_scale-clause-ok
 last_fields-returns-then-is_scale-clause-ok t c =
@@ -709,3 +757,199 @@ put_named-returns-in-None-clause-ok t c typed =
     let none : c.in_ok-put_turns.field-0 ≡ None = search rules in
     let put = subst (λ (f : Option Last). IsNamedRead f type p k s r old new) none c.in_ok-put_turns.ensures.ok in
     puts_weaker (λ v. IsObject (json v) p (key k ∷ s) r × IsNoneUnder amqp.FieldTable (json v)) (λ v. IsObject (json v) p (key k ∷ s) r) old new (λ v h. h.0) put
+
+pub object_under_table-returns-in_err-put_table-clause-refused : goal.object_under_table-returns-in_err-put_table-clause-refused
+object_under_table-returns-in_err-put_table-clause-refused t c =
+    let p = value c.args.depth in
+    let s = c.args.reader.now in
+    let r = c.put_table.new.reader in
+    let a = c.next_key.new.self in
+    let o = option_map (λ (b : Bor (List ℕ)). b.now) c.in_ok-first.first in
+    let old = c.args.out.now.items in
+    let new = c.put_table.new.out.items in
+    let plain : IfSome c.in_ok-first.first (λ k. type_named k.now ≡ None) = search rules in
+    let refused = refusal_weaker c.in_err-put_table.field-0.0 _ (EncodesNone (λ d. IsObject d p s r × IsNoneUnder amqp.FieldTable d) old new)
+    (λ done. no_object_under p s (next_token o ∷ a) r old new (next_is s o a c.in_ok-first.ensures.ok) (done plain)) c.in_err-put_table.ensures.refused in
+    search (rules, refused)
+
+pub object_under_table-returns-in_err-found-clause-refused : goal.object_under_table-returns-in_err-found-clause-refused
+object_under_table-returns-in_err-found-clause-refused t c =
+    let p = value c.args.depth in
+    let s = c.args.reader.now in
+    let k = c.in-Some.name.now in
+    let a = c.next_key.new.self in
+    let r = c.put_turns.new.reader in
+    let old = c.args.out.now.items in
+    let new = c.put_turns.new.out.items in
+    let first : read_key s ≡ Some (Some k, a) = c.in_ok-first.ensures.ok ∙ ap (λ (o : Option (Bor (List ℕ))). Some (option_map (λ b. b.now) o, a)) c.in-Some.is in
+    let refused = refusal_weaker c.in_err-found.field-0.0 _ (EncodesNone (λ d. IsObject d p s r × IsNoneUnder amqp.FieldTable d) old new)
+    (no_object_under p s (key k ∷ a) r old new (next_is s (Some k) a first)) c.in_err-found.ensures.refused in
+    search (rules, refused)
+
+pub object_under_table-returns-clause-refused : goal.object_under_table-returns-clause-refused
+object_under_table-returns-clause-refused t c =
+    let p = value c.args.depth in
+    let s = c.args.reader.now in
+    let k = c.in-Some.name.now in
+    let a = c.next_key.new.self in
+    let r = c.put_turns.new.reader in
+    let old = c.args.out.now.items in
+    let new = c.put_turns.new.out.items in
+    let type = c.in-Some-type_of_name.amqp_type in
+    let last = c.in-Some-found.last in
+    let first : read_key s ≡ Some (Some k, a) = c.in_ok-first.ensures.ok ∙ ap (λ (o : Option (Bor (List ℕ))). Some (option_map (λ b. b.now) o, a)) c.in-Some.is in
+    let next = next_is s (Some k) a first in
+    let typed : type_named k ≡ Some type = search rules in
+    let is = subst (λ (f : Option Last). IsNamedRead f type p k a r old new) c.in-Some-found.is c.in_ok-found.ensures.ok in
+    let under_name = subst (λ (j : List ℕ). IsLast last type j is.0 is.1 old new) (is_name k type typed) is.2 in
+    refused_weaker c.object_of.result _ _ (λ done.
+    let none = done is.0 is.1 old new under_name in
+    let is_object = subst (λ (ts : List Token). IsObject (under type none.0) p ts r) (sym next) (sole_under p k a type none.0 (under type none.0) r typed refl (is.3 none.0 none.1)) in
+    no_sole_under p type none.0 s r old new none.3 none.2 is_object (last_after last type k is.0 is.1 old new is.2))
+    c.object_of.ensures.refused
+
+pub put_turns-returns-in-Err-NotAValue-clause-ok : goal.put_turns-returns-in-Err-NotAValue-clause-ok
+put_turns-returns-in-Err-NotAValue-clause-ok t c =
+    let p = value c.args.depth in
+    let l = c.turns in
+    let k = c.args.name.now in
+    let j = c.in-Some-2.key.now in
+    let s = c.args.reader.now in
+    let r = c.put_last.new.reader in
+    let u = c.next_key.new.self in
+    let after_last = ap read_key (sym c.note_place.ensures) ∙ c.in_ok-next.ensures.ok in
+    let rest = c.put_bad_first.new.reader in
+    let last = c.in_ok-last.ensures in
+    let read = converted of_json (p l.reader) in
+    let old = c.args.out.now.items in
+    let now = c.put_last.new.out.items in
+    let mid = c.put_first.new.out.items in
+    let new = c.put_bad_first.new.out.items in
+    let len : length old ≡ c.len-start.result = grind arith in
+    let other : j ≢ k = search rules in
+    let short : length k ≤ 255 = search rules in
+    let next : read_key r ≡ Some (Some j, u) = after_last ∙ ap (λ (o : Option (Bor (List ℕ))). Some (option_map (λ b. b.now) o, u)) c.in-Some-2.is in
+    let here = subst (λ (b : List ℕ). IsLast c.in_ok-last.last c.args.amqp_type k read r b now) l.invariant.4 last.ok in
+    let result : c.put_first.result ≡ Err NotAValue = search rules in
+    let none = when_err c.put_first.result NotAValue _ result c.put_first.ensures.refused c.args.amqp_type read r old len short here in
+    let kept = when_err c.put_first.result NotAValue _ result c.put_first.ensures.kept short in
+    let was = last_after c.in_ok-last.last c.args.amqp_type k read r old now here in
+    let leads = leads_as p no_members (key k ∷ s) (member k none.0 no_members) r (key j ∷ u) (past_turn p k s l.invariant.0 l.reader r none.0 l.invariant.1 l.invariant.2 none.1 last.shorter) (next_is r (Some j) u next) in
+    bad_first p k none.0 (key k ∷ s) (key j ∷ u) rest old new leads (c.in_ok-put_bad_first-in-Err-NotAValue.ensures.ok old none.0 len (extends_after was.0 old now mid was.1 kept) (no_value_entry k none.0 none.2) other)
+
+pub put_turns-returns-in_err-put_bad_first-in-Err-NotAValue-clause-refused : goal.put_turns-returns-in_err-put_bad_first-in-Err-NotAValue-clause-refused
+put_turns-returns-in_err-put_bad_first-in-Err-NotAValue-clause-refused t c =
+    let p = value c.args.depth in
+    let l = c.turns in
+    let k = c.args.name.now in
+    let j = c.in-Some-2.key.now in
+    let s = c.args.reader.now in
+    let r = c.put_last.new.reader in
+    let u = c.next_key.new.self in
+    let after_last = ap read_key (sym c.note_place.ensures) ∙ c.in_ok-next.ensures.ok in
+    let rest = c.put_bad_first.new.reader in
+    let last = c.in_ok-last.ensures in
+    let read = converted of_json (p l.reader) in
+    let old = c.args.out.now.items in
+    let now = c.put_last.new.out.items in
+    let mid = c.put_first.new.out.items in
+    let new = c.put_bad_first.new.out.items in
+    let len : length old ≡ c.len-start.result = grind arith in
+    let other : j ≢ k = search rules in
+    let short : length k ≤ 255 = search rules in
+    let next : read_key r ≡ Some (Some j, u) = after_last ∙ ap (λ (o : Option (Bor (List ℕ))). Some (option_map (λ b. b.now) o, u)) c.in-Some-2.is in
+    let here = subst (λ (b : List ℕ). IsLast c.in_ok-last.last c.args.amqp_type k read r b now) l.invariant.4 last.ok in
+    let result : c.put_first.result ≡ Err NotAValue = search rules in
+    let none = when_err c.put_first.result NotAValue _ result c.put_first.ensures.refused c.args.amqp_type read r old len short here in
+    let kept = when_err c.put_first.result NotAValue _ result c.put_first.ensures.kept short in
+    let was = last_after c.in_ok-last.last c.args.amqp_type k read r old now here in
+    let leads = leads_as p no_members (key k ∷ s) (member k none.0 no_members) r (key j ∷ u) (past_turn p k s l.invariant.0 l.reader r none.0 l.invariant.1 l.invariant.2 none.1 last.shorter) (next_is r (Some j) u next) in
+    let refused = refusal_weaker c.in_err-put_bad_first-in-Err-NotAValue.field-0.0 _ (IsNoTable p no_members (key k ∷ s) rest × Extends old new)
+    (λ done. let at = done old none.0 len (extends_after was.0 old now mid was.1 kept) (no_value_entry k none.0 none.2) other in (no_table_on p no_members (member k none.0 no_members) (key k ∷ s) (key j ∷ u) rest leads at.0, at.1))
+    c.in_err-put_bad_first-in-Err-NotAValue.ensures.refused in
+    search (rules, refused)
+
+pub put_bad_first-returns-clause-ok : goal.put_bad_first-returns-clause-ok
+put_bad_first-returns-clause-ok t c =
+    let p = value c.args.depth in
+    let k = c.args.first.0.now in
+    let j = c.args.key.now in
+    let rest = c.put_rest.new.reader in
+    let mid = c.put_head.new.out.items in
+    let end = c.put_rest.new.out.items in
+    let new = c.fill_length.new.out.items in
+    on_ok_weaker c.fill_length.result (λ done old d size more none other.
+    let cut = c.truncate.ensures.items ∙ back_to c.args.start old c.args.out.now.items size more in
+    let headed = c.in_ok-put_head.ensures.ok ∙ ap (λ b. b ++ 70 ∷ 0 ∷ 0 ∷ 0 ∷ 0 ∷ []) cut in
+    let place : c.len-at.result + 1 ≡ length old + 1 = grind (arith, cut) in
+    table_put (c.len-at.result + 1) old mid end new place done.0 done.1 (λ es. IsTableOf es p (member k d no_members) (key j ∷ c.args.reader.now) rest) headed (c.in_ok-put_rest.ensures.ok no_entries d tt none (second_of_table j k d other)))
+    c.fill_length.ensures.ok
+
+pub put_bad_first-returns-in_err-put_rest-clause-refused : goal.put_bad_first-returns-in_err-put_rest-clause-refused
+put_bad_first-returns-in_err-put_rest-clause-refused t c =
+    let p = value c.args.depth in
+    let k = c.args.first.0.now in
+    let j = c.args.key.now in
+    let rest = c.put_rest.new.reader in
+    let mid = c.put_head.new.out.items in
+    let new = c.put_rest.new.out.items in
+    let refused = refusal_weaker c.in_err-put_rest.field-0.0 _ ((old : List ℕ) (d : Data) → length old ≡ c.args.start → Extends old c.args.out.now.items → IsNoEntry k d → j ≢ k
+    → IsNoTable p (member k d no_members) (key j ∷ c.args.reader.now) rest × Extends old new)
+    (λ done old d size more none other.
+    let cut = c.truncate.ensures.items ∙ back_to c.args.start old c.args.out.now.items size more in
+    let headed = c.in_ok-put_head.ensures.ok ∙ ap (λ b. b ++ 70 ∷ 0 ∷ 0 ∷ 0 ∷ 0 ∷ []) cut in
+    let at = done no_entries d tt none (second_of_table j k d other) in
+    (at.0, extends_after (70 ∷ 0 ∷ 0 ∷ 0 ∷ 0 ∷ []) old mid new headed at.1))
+    c.in_err-put_rest.ensures.refused in
+    search (rules, refused)
+
+pub put_last-returns-in-Err-NotAValue-clause-ok : goal.put_last-returns-in-Err-NotAValue-clause-ok
+put_last-returns-in-Err-NotAValue-clause-ok t c =
+    let depth = c.args.depth in
+    let r = c.next.new.self in
+    let u = c.object_under_table.new.reader in
+    let is : c.args.reader.now ≡ Token.begin_object ∷ r = grind arith in
+    let opened = ap (λ ts. converted of_json (value depth ts)) is ∙ ap (converted of_json) (value-begin_object depth r (omega arith)) ∙ converted-object (members (value (depth - 1)) (length r) r) in
+    let result : c.object_under_table.result ≡ Err NotAValue = search rules in
+    let none = when_err c.object_under_table.result NotAValue _ result c.object_under_table.ensures.refused in
+    let type : amqp.FieldTable ≡ c.args.amqp_type = search rules in
+    (none.0, opened ∙ ap (parse_map object) none.1.0.2 ∙ ap (λ d. Some (d, u)) (sym none.1.0.1), none.2.0, subst (λ t. IsNoneUnder t none.0) type none.1.1, none.3)
+
+pub put_last-returns-in-Err-NotAValue-clause-shorter : goal.put_last-returns-in-Err-NotAValue-clause-shorter
+put_last-returns-in-Err-NotAValue-clause-shorter t c =
+    let depth = c.args.depth in
+    let r = c.next.new.self in
+    let u = c.object_under_table.new.reader in
+    let is : c.args.reader.now ≡ Token.begin_object ∷ r = grind arith in
+    let opened = ap (λ ts. converted of_json (value depth ts)) is ∙ ap (converted of_json) (value-begin_object depth r (omega arith)) ∙ converted-object (members (value (depth - 1)) (length r) r) in
+    let result : c.object_under_table.result ≡ Err NotAValue = search rules in
+    let none = when_err c.object_under_table.result NotAValue _ result c.object_under_table.ensures.refused in
+    taken depth c.args.reader.now u none.0 (opened ∙ ap (parse_map object) none.1.0.2 ∙ ap (λ d. Some (d, u)) (sym none.1.0.1))
+
+pub put_last-returns-in-Err-NotAValue-put_token-clause-ok : goal.put_last-returns-in-Err-NotAValue-put_token-clause-ok
+put_last-returns-in-Err-NotAValue-put_token-clause-ok t c =
+    let depth = c.args.depth in
+    let type = c.args.amqp_type in
+    let k = c.in_ok-token.token in
+    let s = c.next.new.self in
+    let r = c.put_token.new.reader in
+    let old = c.args.out.now.items in
+    let first : c.args.reader.now ≡ token_of k ∷ s = grind arith in
+    let is_put : IsPutToken type (token_of k) = search rules in
+    let head = (old ++ 70 ∷ 0 ∷ 0 ∷ 0 ∷ 0 ∷ []) ++ short_field c.args.name.now in
+    let keyed : c.put_key.result ≡ Ok tt = search rules in
+    let result : c.put_token.result ≡ Err NotAValue = search rules in
+    let at : c.put_key.new.out.items ≡ head = on_ok c.put_key.result tt _ keyed c.put_key.ensures.ok ∙ ap (λ b. b ++ short_field c.args.name.now) c.in_ok-put_head-in_default.ensures.ok in
+    let none = when_err c.put_token.result NotAValue _ result c.put_token.ensures.refused in
+    let more = extends_after (short_field c.args.name.now) (old ++ 70 ∷ 0 ∷ 0 ∷ 0 ∷ 0 ∷ []) c.put_key.new.out.items c.put_token.new.out.items at none.3 in
+    (none.0, ap (λ ts. converted of_json (value depth ts)) first ∙ none.1, none.2.0, put_unnamed type depth (token_of k) s r none.0 is_put none.1, extends_after (70 ∷ 0 ∷ 0 ∷ 0 ∷ 0 ∷ []) old (old ++ 70 ∷ 0 ∷ 0 ∷ 0 ∷ 0 ∷ []) c.put_token.new.out.items refl more)
+
+pub put_last-returns-in-Err-NotAValue-put_token-clause-shorter : goal.put_last-returns-in-Err-NotAValue-put_token-clause-shorter
+put_last-returns-in-Err-NotAValue-put_token-clause-shorter t c =
+    let depth = c.args.depth in
+    let k = c.in_ok-token.token in
+    let s = c.next.new.self in
+    let first : c.args.reader.now ≡ token_of k ∷ s = grind arith in
+    let result : c.put_token.result ≡ Err NotAValue = search rules in
+    let none = when_err c.put_token.result NotAValue _ result c.put_token.ensures.refused in
+    taken depth c.args.reader.now c.put_token.new.reader none.0 (ap (λ ts. converted of_json (value depth ts)) first ∙ none.1)

@@ -41,6 +41,9 @@ decreases-put_array l = 16 * l.depth + 4
 abbrev pub decreases-put_rest : goal.decreases-put_rest
 decreases-put_rest l = 16 * l.depth + 5
 
+abbrev pub decreases-put_bad_first : goal.decreases-put_bad_first
+decreases-put_bad_first l = 16 * l.depth + 6
+
 abbrev pub decreases-put_members : goal.decreases-put_members
 decreases-put_members l = 16 * l.depth + 6
 
