@@ -367,16 +367,26 @@ fn token_at<'a>(text: &'a str, next: &mut Next) -> Option<Token<'a>>
     }
 }
 
-// The reader of the text from a string on.
+// Whether the tokens are those of a text that begins here.
+#[inline(always)]
+fn begins_text(text: &str, from: Next) -> bool
+    ensures { result ≡ true → tokens_left from.place (drop from.at text.now) ≡ tokens (drop from.at text.now) }
+{
+    match from.place {
+        Place::Fresh => true,
+        Place::AfterValue => false,
+        // A string or a number.
+        Place::AfterComma => matches!(byte_at(text.as_bytes(), from.at), b'"' | b'-'..=b'9'),
+    }
+}
+
+// The reader of the text from here on.
 #[inline(always)]
 fn reader_from<'a>(text: &'a str, from: Next, scratch: &'a mut Scratch) -> Result<Reader<'a>, Stop>
     ensures ok { IfOk result (λ reader. reader ≡ tokens_left from.place (drop from.at text.now)) }
     ensures refused { IfErr result (λ e. IsRefusal e ⊥) }
 {
-    if let Place::AfterValue = from.place {
-        return Err(Stop::NotHere);
-    }
-    if byte_at(text.as_bytes(), from.at) != b'"' {
+    if !begins_text(text, from) {
         return Err(Stop::NotHere);
     }
     let left = text.get(from.at..text.len()).ok_or(Stop::NotHere)?;
