@@ -12,7 +12,7 @@ use Rattle.json.specs.Token.{Token}
 use Rattle.json.specs.Json as json
 use Rattle.json.specs.Json.{Parse, parse_map, after_end_array, read_key, items, members}
 use Rattle.json.proofs.Grammar.{read_key-shorter}
-use Rattle.serde_json.specs.Data.{Num, Data, Members, number, string, object, item, member, no_members}
+use Rattle.serde_json.specs.Data.{Num, Data, Items, Members, number, string, object, item, member, no_members}
 use Rattle.serde_json.specs.Find.{of_integer}
 use Rattle.serde_json.specs.Read.{of_json, of_items, of_members, converted, number_of}
 use Rattle.amqp_value_core.specs.declared.types.amqp_type.AMQPType.{AMQPType}
@@ -28,7 +28,8 @@ use Rattle.amqp_json.specs.InMemory.{IsStored, AreStoredTrees, EntriesStored}
 use Rattle.amqp_json.specs.Json as amqp
 use Rattle.amqp_json.specs.Json.{items_json, members_json, sole_type, under, natural, decimal_json}
 use Rattle.amqp_json.specs.Names.{type_named}
-use Rattle.amqp_json.specs.Reading.{bytes_in, sized_in}
+use Rattle.amqp_json.specs.Reading.{bytes_in, sized_in, value_of, values_of}
+use Rattle.amqp_json.proofs.ReadWalks.{nothing_after}
 use Rattle.amqp_json.proofs.Bytes.{long_is_read}
 use Rattle.amqp_json.proofs.Only.{is_name, is_under}
 use Rattle.amqp_json.proofs.Turns.{one_member, item_read, items_over, member_read, members_over, insert_put}
@@ -46,6 +47,8 @@ pub record ItemsLeft (p : Parse json.Json) (first now : List Token) (old new : L
   pub put : new ≡ old ++ body
   pub rest : (tail : List ℕ) (vs : Trees) (r : List Token) → ArrayBody tail vs → AreStoredTrees vs → converted of_items (items p count now) ≡ Some (items_json vs, r)
       → (ws : Trees) × ArrayBody (body ++ tail) ws × AreStoredTrees ws × (converted of_items (items p (length first) first) ≡ Some (items_json ws, r))
+  pub left : (ds : Items) (r : List Token) → converted of_items (items p count now) ≡ Some (ds, r) → values_of ds ≡ None
+      → (es : Items) × (converted of_items (items p (length first) first) ≡ Some (es, r)) × (values_of es ≡ None)
 
 module _ (p : Parse json.Json) (first : List Token) (old : List ℕ) where
   pub items_first : ItemsLeft p first first old old
@@ -55,6 +58,7 @@ module _ (p : Parse json.Json) (first : List Token) (old : List ℕ) where
     body = [];
     put = sym (append-nil old);
     rest = λ tail vs r all stored e. (vs, all, stored, e);
+    left = λ ds r e none. (ds, e, none);
   }
 
   pub items_next : (now r : List Token) (mid new : List ℕ) → ItemsLeft p first now old mid → after_end_array now ≡ None → length r < length now
@@ -69,6 +73,7 @@ module _ (p : Parse json.Json) (first : List Token) (old : List ℕ) where
         rest = λ tail vs s all kept e.
             let at = l.rest (w ++ tail) (tree v vs) s (value w tail v vs is all) (stored, kept) (item_read p l.count now r (amqp.json v) some going read ∙ ap (parse_map (item (amqp.json v))) e) in
             (at.0, subst (λ (b : List ℕ). ArrayBody b at.0) (sym (append_assoc l.body w tail)) at.1, at.2, at.3);
+        left = λ ds s e none. l.left (item (amqp.json v) ds) s (item_read p l.count now r (amqp.json v) some going read ∙ ap (parse_map (item (amqp.json v))) e) (nothing_after (value_of (amqp.json v)) (values_of ds) none);
       }
 
   pub items_done : (now r : List Token) (new : List ℕ) → ItemsLeft p first now old new → after_end_array now ≡ Some r

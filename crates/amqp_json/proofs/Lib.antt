@@ -31,6 +31,7 @@ mod Forms
 mod Digits
 mod Encodes
 mod Named
+mod Unread
 mod Refused
 mod CanonicalSteps
 pub mod Lanes

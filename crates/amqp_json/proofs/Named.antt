@@ -25,7 +25,7 @@ use Rattle.amqp_json.specs.declared.encoding.leaf.Leaf.TheVariants.{Number, Text
 use Rattle.amqp_json.specs.declared.encoding.object.Kind.{Kind}
 use Rattle.amqp_json.specs.declared.encoding.object.Kind.TheVariants.{Table, Named}
 use Rattle.amqp_json.specs.declared.encoding.last.Last.{Last}
-use Rattle.amqp_json.specs.declared.encoding.last.Last.TheVariants.{Leaf as OfLeaf, Object as OfObject}
+use Rattle.amqp_json.specs.declared.encoding.last.Last.TheVariants.{Leaf as OfLeaf, Object as OfObject, NoValue}
 use Rattle.amqp_json.proofs.Back.{named}
 use Rattle.amqp_json.proofs.Encodes.{puts_weaker, table_put}
 use Rattle.amqp_json.proofs.Only.{is_name}
@@ -174,6 +174,7 @@ kind_after (Named type leaf) d old new h = leaf_after leaf type (name_of type) (
 pub last_after : (last : Last) (type : AMQPType) (k : List ℕ) (read : Option (Data × List Token)) (rest : List Token) (old new : List ℕ) → IsLast last type k read rest old new → (w : List ℕ) × (new ≡ old ++ w)
 last_after (OfLeaf leaf) type k read rest old new h = leaf_after leaf type k read rest old new h
 last_after (OfObject o) type k read rest old new h = kind_after o.kind h.2.0 old new h.2.2
+last_after NoValue type k read rest old new h = h.4
 
 -- what was put is taken back
 pub back_to : (len : ℕ) (old now : List ℕ) → length old ≡ len → (w : List ℕ) × (now ≡ old ++ w) → take len now ≡ old

@@ -1,5 +1,5 @@
 -- For private clauses: encodings that are put after other bytes.
-use Rattle.std.specs.Prelude.{ℕ, zero, suc, ◌≡◌, ◌≤◌, IsTrue, List, [], ◌∷◌, ◌++◌, length, Option, Some, None, option_map}
+use Rattle.std.specs.Prelude.{ℕ, zero, suc, ◌≡◌, ◌≤◌, IsTrue, List, [], ◌∷◌, ◌++◌, length, Option, Some, None, option_map, MatchOption}
 use Rattle.json.specs.Token.{Token, key}
 use Rattle.json.specs.Json.{Json, Parse, members, read_key, value}
 use Rattle.serde_json.specs.Data.{Num, Data, Members, number, string, object, member, no_members}
@@ -15,8 +15,8 @@ use Rattle.amqp_value_core.specs.Strings.{IsShort}
 use Rattle.amqp_json.specs.InMemory.{IsStored, AreStoredTrees, EntriesStored}
 use Rattle.amqp_json.specs.Converts.{IsStoredMeaning}
 use Rattle.amqp_json.specs.Json.{json, members_json, decimal_json, under, sole_type}
-use Rattle.amqp_json.specs.Reading.{value_named, ambiguous_table}
-use Rattle.amqp_json.specs.Tokens.{BecomesTable}
+use Rattle.amqp_json.specs.Reading.{value_of, value_named, ambiguous_table}
+use Rattle.amqp_json.specs.Tokens.{BecomesTable, IsUnread, IsNoEntry, IsObjectOfMembers, IsTableObject}
 use Rattle.amqp_json.specs.declared.encoding.Stop.{Stop}
 use Rattle.amqp_json.specs.declared.encoding.Stop.TheVariants.{NotAValue}
 use Rattle.amqp_json.specs.declared.encoding.leaf.Leaf.{Leaf}
@@ -25,7 +25,7 @@ use Rattle.amqp_json.specs.declared.encoding.object.Object.{Object}
 use Rattle.amqp_json.specs.declared.encoding.object.Kind.{Kind}
 use Rattle.amqp_json.specs.declared.encoding.object.Kind.TheVariants.{Table, Named}
 use Rattle.amqp_json.specs.declared.encoding.last.Last.{Last}
-use Rattle.amqp_json.specs.declared.encoding.last.Last.TheVariants.{Leaf as OfLeaf, Object as OfObject}
+use Rattle.amqp_json.specs.declared.encoding.last.Last.TheVariants.{Leaf as OfLeaf, Object as OfObject, NoValue}
 
 -- what stops means no more than that nothing is put, unless it is the JSON of no value: `none`
 abbrev pub IsRefusal : Stop → Type 0 → Type 0
@@ -54,6 +54,14 @@ pub record IsTextPut (v : Tree) (old new : List ℕ) : Type 0 where
 -- an encoding of a value is put after the bytes that were there, and P is so of the value
 abbrev pub PutsEncodingOf : (Tree → Type 0) → List ℕ → List ℕ → Type 0
 PutsEncodingOf P old new = (w : List ℕ) × (v : Tree) × (new ≡ old ++ w) × Wire w v × IsStored v × P v
+
+-- bytes may be after those that were there
+abbrev pub Extends : List ℕ → List ℕ → Type 0
+Extends old new = (w : List ℕ) × (new ≡ old ++ w)
+
+-- P is so of the JSON of no value, of which bytes may be put after those that were there
+abbrev pub EncodesNone : (Data → Type 0) → List ℕ → List ℕ → Type 0
+EncodesNone P old new = (d : Data) × P d × IsUnread d × Extends old new
 
 -- the values of an array's body are, and P is so of these
 abbrev pub PutsValues : (Trees → Type 0) → List ℕ → List ℕ → Type 0
@@ -94,6 +102,7 @@ IsPending o d old new = (e : Data) × (d ≡ wrapped o.wraps e) × IsKind o.kind
 abbrev pub IsLast : Last → AMQPType → List ℕ → Option (Data × List Token) → List Token → List ℕ → List ℕ → Type 0
 IsLast (OfLeaf leaf) type k read rest old new = IsLeaf leaf type k read rest old new
 IsLast (OfObject o) type k read rest old new = (d : Data) × (read ≡ Some (d, rest)) × IsPending o d old new
+IsLast NoValue type k read rest old new = (d : Data) × (read ≡ Some (d, rest)) × (value_of d ≡ None) × IsNoneUnder type d × Extends old new
 
 -- no name of a type is the only key of the entries, also not with the next key
 abbrev pub HasNoTypeName : Entries → Option (List ℕ) → Type 0
@@ -107,6 +116,17 @@ AreEntriesRead before es value first after rest =
     ((ts : List Token) (n : ℕ) → read_key ts ≡ Some (first, after) → length ts ≤ n
     → converted (λ ms. of_members ms (members_json before)) (members value n ts) ≡ Some (members_json es, rest))
     × (sole_type (members_json es) ≡ None)
+
+-- the entry of a table's body is put that has the key k and what is read; or what is read isn't that of an
+-- entry, and nothing is put
+abbrev pub IsMemberPut : Option ℕ → Option (Data × List Token) → List Token → List ℕ → List ℕ → List ℕ → Type 0
+IsMemberPut bad read rest k old new = MatchOption bad
+    (IsShort k × PutsEncodingOf (λ v. read ≡ Some (json v, rest)) (old ++ short_field k) new)
+    (λ _. (d : Data) × (read ≡ Some (d, rest)) × IsNoEntry k d × (new ≡ old))
+
+-- an object has the members of the table of these entries with the members at the start of ts after `old`
+abbrev pub IsTableOf : Entries → Parse Json → Members → List Token → List Token → Type 0
+IsTableOf es value old ts rest = IsObjectOfMembers value old ts (members_json es) rest × IsTableObject (members_json es)
 
 -- d is the object of the members at the start of ts, each of them read by `value`, and `rest` follows
 abbrev pub IsObject : Data → Parse Json → List Token → List Token → Type 0

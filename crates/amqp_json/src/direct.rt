@@ -18,7 +18,7 @@ ghost use Rattle.amqp_json.specs.declared.error.JsonError.TheVariants as json_er
 ghost use Rattle.amqp_json.specs.InMemory.{IsStored, AreStoredTrees, EntriesStored};
 
 mod entry;
-mod faults;
+pub(crate) mod faults;
 mod forms;
 
 use crate::error::{JsonError, ValueError};

@@ -13,7 +13,7 @@ ghost use Rattle.amqp_json.specs.Json.{json, decimal_json};
 ghost use Rattle.amqp_json.specs.Reading.{decimal_in};
 ghost use Rattle.amqp_json.specs.Decimals.{have_field_keys, natural_at};
 
-use super::Stop;
+use super::{Stop, unjudged};
 use super::last::Last;
 use super::leaf::Leaf;
 use super::object::put_before;
@@ -93,9 +93,10 @@ pub(crate) fn last_of_table(
     start: usize,
     name: &str,
 ) -> Result<Last<'static>, Stop>
-    ensures { IfOk result (λ last. (d : Data) (rest : List SpecToken) (old : List ℕ) → length old ≡ start
+    ensures last { IfOk result (λ last. (d : Data) (rest : List SpecToken) (old : List ℕ) → length old ≡ start
         → PutsEncodingOf (λ v. json v ≡ d) old out.old.items
         → IsLast last amqp.DecimalValue name.now (Some (d, rest)) rest old out.new.items) }
+    ensures refused { IfErr result (λ e. IsRefusal e ⊥) }
 {
     if out.len() < start {
         return Err(Stop::NotHere);
@@ -104,6 +105,6 @@ pub(crate) fn last_of_table(
         out.truncate(start);
         return Ok(Last::Leaf(Leaf::Decimal(d)));
     }
-    put_before(out, start, name)?;
+    put_before(out, start, name).map_err(unjudged)?;
     Ok(Last::Leaf(Leaf::Put))
 }

@@ -5,7 +5,7 @@ ghost use Rattle.std.specs.Prelude.{ℕ, ◌≡◌, ◌≢◌, ◌≤◌, List, 
 ghost use Rattle.json.specs.Token.{Token as SpecToken};
 ghost use Rattle.serde_json.specs.Data.{Data};
 ghost use Rattle.amqp_value_core.specs.Names.{name_of};
-ghost use Rattle.amqp_json.specs.Encodes.{PutsEncodingOf, PutsFirst, IsLast, IsPending, IsRefusal, IsNoneUnder};
+ghost use Rattle.amqp_json.specs.Encodes.{PutsEncodingOf, PutsFirst, IsLast, IsPending, Extends, IsRefusal, IsNoneUnder};
 ghost use Rattle.amqp_json.specs.Json.{json, under};
 ghost use Rattle.amqp_json.specs.Reading.{value_of};
 
@@ -21,6 +21,8 @@ pub(crate) enum Last<'a> {
     Leaf(Leaf<'a>),
     /// Under the name of a table's type.
     Object(Object<'a>),
+    /// The JSON of no value, also not of one of the type.
+    NoValue,
 }
 
 /// The value of a type whose name is the only key.
@@ -38,6 +40,7 @@ pub(crate) fn put_sole(
     ensures refused { IfErr result (λ e. IsRefusal e ((k : List ℕ) (read : Option (Data × List SpecToken)) (rest : List SpecToken) (old : List ℕ)
         → length old ≡ start → IsLast last.entry amqp_type k read rest old out.old.items
         → (d : Data) × (read ≡ Some (d, rest)) × IsNoneUnder amqp_type d)) }
+    ensures kept { IfErr result (λ e. IsRefusal e (Extends out.old.items out.new.items)) }
 {
     match last {
         Last::Leaf(leaf) => put_leaf(alloc, out, amqp_type, leaf),
@@ -45,6 +48,7 @@ pub(crate) fn put_sole(
             let outer = under_table(amqp_type, object)?;
             put_object_of(alloc, out, start, outer)
         }
+        Last::NoValue => Err(Stop::NotAValue),
     }
 }
 
@@ -72,7 +76,9 @@ pub(crate) fn object_of(amqp_type: AMQPType, last: Last<'_>) -> Result<Object<'_
     ensures ok { IfOk result (λ o. (read : Option (Data × List SpecToken)) (rest : List SpecToken) (old new : List ℕ)
         → IsLast last.entry amqp_type (name_of amqp_type) read rest old new
         → (d : Data) × (read ≡ Some (d, rest)) × IsPending o (under amqp_type d) old new) }
-    ensures refused { IfErr result (λ e. IsRefusal e ⊥) }
+    ensures refused { IfErr result (λ e. IsRefusal e ((read : Option (Data × List SpecToken)) (rest : List SpecToken) (old new : List ℕ)
+        → IsLast last.entry amqp_type (name_of amqp_type) read rest old new
+        → (d : Data) × (read ≡ Some (d, rest)) × (value_of d ≡ None) × IsNoneUnder amqp_type d)) }
 {
     match last {
         Last::Leaf(leaf) => {
@@ -85,6 +91,7 @@ pub(crate) fn object_of(amqp_type: AMQPType, last: Last<'_>) -> Result<Object<'_
             })
         }
         Last::Object(object) => under_table(amqp_type, object),
+        Last::NoValue => Err(Stop::NotAValue),
     }
 }
 
@@ -103,6 +110,7 @@ pub(crate) fn put_first(
     ensures refused { IfErr result (λ e. IsRefusal e ((type : AMQPType) (read : Option (Data × List SpecToken)) (rest : List SpecToken) (old : List ℕ)
         → length old ≡ start → length name.now ≤ 255 → IsLast last.entry type name.now read rest old out.old.items
         → (d : Data) × (read ≡ Some (d, rest)) × (value_of d ≡ None))) }
+    ensures kept { IfErr result (λ e. IsRefusal e (length name.now ≤ 255 → Extends out.old.items out.new.items)) }
 {
     match last {
         Last::Leaf(leaf) => put_first_leaf(out, name, leaf),
@@ -110,6 +118,7 @@ pub(crate) fn put_first(
             put_object_of(alloc, out, start, object)?;
             put_before(out, start, name)
         }
+        Last::NoValue => Err(Stop::NotAValue),
     }
 }
 
@@ -136,7 +145,7 @@ fn is_last_json(last: Last<'_>) -> bool
 {
     match last {
         Last::Leaf(leaf) => is_json(leaf),
-        Last::Object(_) => true,
+        Last::Object(_) | Last::NoValue => true,
     }
 }
 
@@ -147,4 +156,13 @@ pub(crate) fn is_same(key: &str, name: &str) -> bool
     ensures no { result ≡ false → key.now ≢ name.now }
 {
     key == name
+}
+
+/// Whether it begins where that does which is no value, if it is none.
+pub(crate) fn has_place(last: Last<'_>) -> bool {
+    match last {
+        Last::Leaf(_) => true,
+        Last::Object(object) => object.is_table(),
+        Last::NoValue => false,
+    }
 }

@@ -1,7 +1,7 @@
 //! The tokens of a text: from its bytes up to the first string with an escape, and from there by
 //! `json::Reader`. What isn't JSON, or no integer, is left to those who read the text again.
 
-ghost use Rattle.std.specs.Prelude.{◌≡◌, ◌≢◌, cond, pos, neg_ℤ, FitsSigned, ◌≤◌, ◌<◌, ◌+◌, ◌-◌, ◌||◌, ◌∷◌, [], length, take, drop, true, false, Some, None, IfOk, OnOk, IfSome, MatchOption, option_map};
+ghost use Rattle.std.specs.Prelude.{◌≡◌, ◌≢◌, cond, pos, neg_ℤ, FitsSigned, ◌≤◌, ◌<◌, ◌+◌, ◌-◌, ◌||◌, ◌∷◌, [], length, take, drop, true, false, Some, None, IfOk, IfErr, OnOk, IfSome, MatchOption, option_map};
 ghost use Rattle.std.specs.Bool.{OnTrue};
 ghost use Rattle.std.specs.List.{prefix_len};
 ghost use Rattle.std.specs.Char.{is_ascii_digit};
@@ -12,6 +12,7 @@ ghost use Rattle.json.specs.Token.{Token as SpecToken, string, key, begin_object
 ghost use Rattle.json.specs.Lex.{token, between, lex, after_value, punctuate, tokens};
 ghost use Rattle.json.specs.Json.{read_key, after_end_array};
 ghost use Rattle.json.specs.Reads.{token_of};
+ghost use Rattle.amqp_json.specs.Encodes.{IsRefusal};
 ghost use Rattle.amqp_json.specs.Lexing.{tokens_left, IsVisible, BeginsWith, IsClosing, IsOpening, IsNamed, BeginsWithInteger, IsLastInteger, IsIntegerNext, AreDecimalFields};
 
 use super::Stop;
@@ -47,6 +48,7 @@ pub(crate) struct Lexer<'a> {
     reader: Option<Reader<'a>>,
     // What that needs, until it is there.
     scratch: Option<&'a mut Scratch>,
+    fault: usize,
 }
 
 impl<'a> Model for Lexer<'a> {
@@ -396,15 +398,26 @@ fn token_at<'a>(text: &'a str, next: &mut Next) -> Option<Token<'a>>
     }
 }
 
-// The reader of the text from a string on.
+// Whether the tokens are those of a text that begins here.
+#[inline(always)]
+fn begins_text(text: &str, from: Next) -> bool
+    ensures { result ≡ true → tokens_left from.place (drop from.at text.now) ≡ tokens (drop from.at text.now) }
+{
+    match from.place {
+        Place::Fresh => true,
+        Place::AfterValue => false,
+        // A string or a number.
+        Place::AfterComma => matches!(byte_at(text.as_bytes(), from.at), b'"' | b'-'..=b'9'),
+    }
+}
+
+// The reader of the text from here on.
 #[inline(always)]
 fn reader_from<'a>(text: &'a str, from: Next, scratch: &'a mut Scratch) -> Result<Reader<'a>, Stop>
-    ensures { IfOk result (λ reader. reader ≡ tokens_left from.place (drop from.at text.now)) }
+    ensures ok { IfOk result (λ reader. reader ≡ tokens_left from.place (drop from.at text.now)) }
+    ensures refused { IfErr result (λ e. IsRefusal e ⊥) }
 {
-    if let Place::AfterValue = from.place {
-        return Err(Stop::NotHere);
-    }
-    if byte_at(text.as_bytes(), from.at) != b'"' {
+    if !begins_text(text, from) {
         return Err(Stop::NotHere);
     }
     let left = text.get(from.at..text.len()).ok_or(Stop::NotHere)?;
@@ -435,13 +448,39 @@ impl<'a> Lexer<'a> {
             },
             reader: None,
             scratch: Some(scratch),
+            fault: 0,
         }
+    }
+
+    /// The byte at which the next token begins.
+    #[inline(always)]
+    pub(crate) fn offset(&self) -> usize {
+        match &self.reader {
+            None => self.next.at,
+            // The text goes on by the reader from there.
+            Some(reader) => self.next.at.saturating_add(reader.offset()),
+        }
+    }
+
+    /// The byte at which that begins which is no value.
+    #[inline(always)]
+    pub(crate) fn fault(&self) -> usize {
+        self.fault
+    }
+
+    /// Notes the byte at which that begins which is no value.
+    #[inline(always)]
+    pub(crate) fn set_fault(&mut self, at: usize)
+        ensures { self.new ≡ self.old }
+    {
+        self.fault = at;
     }
 
     /// The next token.
     #[inline(always)]
     pub(crate) fn next(&mut self) -> Result<Token<'a>, Stop>
-        ensures { IfOk result (λ t. self.old ≡ token_of t ∷ self.new) }
+        ensures ok { IfOk result (λ t. self.old ≡ token_of t ∷ self.new) }
+        ensures refused { IfErr result (λ e. IsRefusal e ⊥) }
     {
         if self.reader.is_none()
             && let Some(token) = token_at(self.text, &mut self.next)
@@ -454,7 +493,8 @@ impl<'a> Lexer<'a> {
     // The next token by the reader, which goes on from here if it is a string.
     #[inline(never)]
     fn next_by_reader(&mut self) -> Result<Token<'a>, Stop>
-        ensures { IfOk result (λ t. self.old ≡ token_of t ∷ self.new) }
+        ensures ok { IfOk result (λ t. self.old ≡ token_of t ∷ self.new) }
+        ensures refused { IfErr result (λ e. IsRefusal e ⊥) }
     {
         if self.reader.is_none() {
             let scratch = self.scratch.take().ok_or(Stop::NotHere)?;
@@ -469,9 +509,10 @@ impl<'a> Lexer<'a> {
     /// The next token of an array's items, or none at its end.
     #[inline(always)]
     pub(crate) fn next_item(&mut self) -> Result<Option<Token<'a>>, Stop>
-        ensures { IfOk result (λ item. MatchOption item
+        ensures ok { IfOk result (λ item. MatchOption item
             (after_end_array self.old ≡ Some self.new)
             (λ t. (self.old ≡ token_of t ∷ self.new) × (after_end_array self.old ≡ None))) }
+        ensures refused { IfErr result (λ e. IsRefusal e ⊥) }
     {
         let token = self.next()?;
         match token {
@@ -483,7 +524,8 @@ impl<'a> Lexer<'a> {
     /// The next key, or none at the object's end.
     #[inline(always)]
     pub(crate) fn next_key(&mut self) -> Result<Option<&'a str>, Stop>
-        ensures { IfOk result (λ k. read_key self.old ≡ Some (option_map (λ s. s.now) k, self.new)) }
+        ensures ok { IfOk result (λ k. read_key self.old ≡ Some (option_map (λ s. s.now) k, self.new)) }
+        ensures refused { IfErr result (λ e. IsRefusal e ⊥) }
     {
         if self.reader.is_none()
             && let Some(key) = key(self.text, &mut self.next)
@@ -496,7 +538,8 @@ impl<'a> Lexer<'a> {
     // The key that a token is, or none if it is the object's end.
     #[inline(never)]
     fn key_of_token(&mut self) -> Result<Option<&'a str>, Stop>
-        ensures { IfOk result (λ k. read_key self.old ≡ Some (option_map (λ s. s.now) k, self.new)) }
+        ensures ok { IfOk result (λ k. read_key self.old ≡ Some (option_map (λ s. s.now) k, self.new)) }
+        ensures refused { IfErr result (λ e. IsRefusal e ⊥) }
     {
         match self.next()? {
             Token::Key(key) => Ok(Some(key)),
@@ -565,7 +608,8 @@ impl<'a> Lexer<'a> {
     /// Whether no token is left.
     #[inline(never)]
     pub(crate) fn end(&mut self) -> Result<(), Stop>
-        ensures { OnOk result (self.old ≡ []) }
+        ensures ok { OnOk result (self.old ≡ []) }
+        ensures refused { IfErr result (λ e. IsRefusal e ⊥) }
     {
         let is_at_end = match &mut self.reader {
             Some(reader) => reader.next().is_none(),

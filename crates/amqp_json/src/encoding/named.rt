@@ -34,6 +34,7 @@ pub(crate) fn put_named_number(
     ensures ok { OnOk result (PutsEncodingOf (λ v. option_map (under amqp_type)
         (option_map number (number_of text.now)) ≡ Some (json v)) out.old.items out.new.items) }
     ensures refused { IfErr result (λ e. IsRefusal e (IsNumberWith (IsNoneUnder amqp_type) text.now)) }
+    ensures kept { IfErr result (λ e. IsRefusal e (out.new.items ≡ out.old.items)) }
 {
     if let AMQPType::Timestamp = amqp_type {
         return put_time(alloc, out, text);
@@ -50,6 +51,7 @@ fn put_time(alloc: Global, out: &mut Vec<u8>, text: &str) -> Result<(), Stop>
     ensures ok { OnOk result (PutsEncodingOf (λ v. option_map (under amqp.Timestamp)
         (option_map number (number_of text.now)) ≡ Some (json v)) out.old.items out.new.items) }
     ensures refused { IfErr result (λ e. IsRefusal e (IsNumberWith (IsNoneUnder amqp.Timestamp) text.now)) }
+    ensures kept { IfErr result (λ e. IsRefusal e (out.new.items ≡ out.old.items)) }
 {
     let Some(n) = natural_number(text) else {
         return Err(number_refusal(alloc, AMQPType::Timestamp, text));
@@ -77,6 +79,7 @@ pub(crate) fn put_narrow(out: &mut Vec<u8>, amqp_type: AMQPType, n: i64) -> Resu
     ensures ok { OnOk result (PutsEncodingOf (λ v. json v ≡ under amqp_type (number (of_integer n)))
         out.old.items out.new.items) }
     ensures refused { IfErr result (λ e. IsRefusal e (IsNoneUnder amqp_type (number (of_integer n)))) }
+    ensures kept { IfErr result (λ e. IsRefusal e (out.new.items ≡ out.old.items)) }
 {
     match amqp_type {
         AMQPType::ShortShortInt => match i8::try_from(n) {
@@ -121,6 +124,7 @@ pub(crate) fn put_named_text(
     ensures ok { OnOk result (PutsEncodingOf (λ v. json v ≡ under amqp_type (string text.now))
         out.old.items out.new.items) }
     ensures refused { IfErr result (λ e. IsRefusal e (IsNoneUnder amqp_type (string text.now))) }
+    ensures kept { IfErr result (λ e. IsRefusal e (out.new.items ≡ out.old.items)) }
 {
     match amqp_type {
         AMQPType::Float => put_float_of(out, text),
@@ -137,6 +141,7 @@ fn put_float_of(out: &mut Vec<u8>, text: &str) -> Result<(), Stop>
     ensures ok { OnOk result (PutsEncodingOf (λ v. json v ≡ under amqp.Float (string text.now))
         out.old.items out.new.items) }
     ensures refused { IfErr result (λ e. IsRefusal e (IsNoneUnder amqp.Float (string text.now))) }
+    ensures kept { IfErr result (λ e. IsRefusal e (out.new.items ≡ out.old.items)) }
 {
     let Some(bytes) = sized_of::<4>(text) else {
         return Err(Stop::NotAValue);
@@ -148,6 +153,7 @@ fn put_double_of(out: &mut Vec<u8>, text: &str) -> Result<(), Stop>
     ensures ok { OnOk result (PutsEncodingOf (λ v. json v ≡ under amqp.Double (string text.now))
         out.old.items out.new.items) }
     ensures refused { IfErr result (λ e. IsRefusal e (IsNoneUnder amqp.Double (string text.now))) }
+    ensures kept { IfErr result (λ e. IsRefusal e (out.new.items ≡ out.old.items)) }
 {
     let Some(bytes) = sized_of::<8>(text) else {
         return Err(Stop::NotAValue);
@@ -161,6 +167,7 @@ fn put_string_of(alloc: Global, out: &mut Vec<u8>, text: &str) -> Result<(), Sto
     ensures ok { OnOk result (PutsEncodingOf (λ v. json v ≡ under amqp.LongString (string text.now))
         out.old.items out.new.items) }
     ensures refused { IfErr result (λ e. IsRefusal e (IsNoneUnder amqp.LongString (string text.now))) }
+    ensures kept { IfErr result (λ e. IsRefusal e (out.new.items ≡ out.old.items)) }
 {
     let bytes = bytes_of(alloc, text)?;
     match from_utf8(&bytes) {
@@ -173,6 +180,7 @@ fn put_array_of(alloc: Global, out: &mut Vec<u8>, text: &str) -> Result<(), Stop
     ensures ok { OnOk result (PutsEncodingOf (λ v. json v ≡ under amqp.ByteArray (string text.now))
         out.old.items out.new.items) }
     ensures refused { IfErr result (λ e. IsRefusal e (IsNoneUnder amqp.ByteArray (string text.now))) }
+    ensures kept { IfErr result (λ e. IsRefusal e (out.new.items ≡ out.old.items)) }
 {
     let bytes = bytes_of(alloc, text)?;
     put_byte_array(out, &bytes)

@@ -8,7 +8,7 @@ ghost use Rattle.amqp_value_core.specs.declared.types.amqp_type.AMQPType.TheVari
 ghost use Rattle.amqp_value_core.specs.Grammar.{short_field};
 ghost use Rattle.amqp_value_core.specs.Strings.{IsShort};
 ghost use Rattle.amqp_value_core.specs.Names.{name_of};
-ghost use Rattle.amqp_json.specs.Encodes.{PutsEncodingOf, IsLeaf, IsKind, IsPending, IsRefusal};
+ghost use Rattle.amqp_json.specs.Encodes.{PutsEncodingOf, IsLeaf, IsKind, IsPending, Extends, IsRefusal};
 ghost use Rattle.amqp_json.specs.Json.{json, under};
 ghost use Rattle.amqp_json.specs.Reading.{value_of};
 
@@ -35,6 +35,13 @@ pub(crate) enum Kind<'a> {
     Named(AMQPType, Leaf<'a>),
 }
 
+impl Object<'_> {
+    /// Whether it is a table, which is put.
+    pub(crate) fn is_table(self) -> bool {
+        self.wraps == 0 && matches!(self.kind, Kind::Table)
+    }
+}
+
 /// A table, which is put.
 pub(crate) const TABLE: Object<'static> = Object {
     wraps: 0,
@@ -54,6 +61,7 @@ pub(crate) fn put_object_of(
         → PutsEncodingOf (λ v. json v ≡ d) old out.new.items) }
     ensures refused { IfErr result (λ e. IsRefusal e ((d : Data) (old : List ℕ) → length old ≡ start
         → IsPending object.entry d old out.old.items → value_of d ≡ None)) }
+    ensures kept { IfErr result (λ e. IsRefusal e (Extends out.old.items out.new.items)) }
 {
     put_kind(alloc, out, start, object.kind, is_odd(object.wraps))?;
     let mut left = object.wraps / 2;
@@ -84,6 +92,7 @@ fn put_kind(
     ensures refused { IfErr result (λ e. IsRefusal e ((d : Data) (old : List ℕ) → length old ≡ start
         → IsKind kind.entry d old out.old.items
         → value_of (if is_table then under amqp.FieldTable d else d) ≡ None)) }
+    ensures kept { IfErr result (λ e. IsRefusal e (Extends out.old.items out.new.items)) }
 {
     match (kind, is_table) {
         (Kind::Table, false) => Ok(()),
@@ -106,6 +115,7 @@ fn put_sole_leaf(
     ensures refused { IfErr result (λ e. IsRefusal e ((d : Data) (old : List ℕ)
         → IsLeaf leaf.entry amqp_type (name_of amqp_type) (Some (d, [])) [] old out.old.items
         → value_of (under amqp.FieldTable (under amqp_type d)) ≡ None)) }
+    ensures kept { IfErr result (λ e. IsRefusal e (Extends out.old.items out.new.items)) }
 {
     put_first_leaf(out, name_of(amqp_type), leaf)?;
     fill_table(out, start)

@@ -7,8 +7,8 @@ use Rattle.amqp_json.specs.Json.{json}
 use Rattle.amqp_json.proofs.Decimals.{is_decimal_json}
 use Rattle.amqp_json.proofs.encoding.fields.last_of_table.Goals as goal
 
-pub returns-in-Some : goal.returns-in-Some
-returns-in-Some c d rest old len put =
+pub returns-in-Some-clause-last : goal.returns-in-Some-clause-last
+returns-in-Some-clause-last c d rest old len put =
     let w = put.0 in
     let all = c.args.out.now.items in
     let at = c.args.start in
