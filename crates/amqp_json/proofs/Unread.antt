@@ -6,21 +6,20 @@ use Rattle.std.specs.Map.{remove_entry}
 use Rattle.json.specs.Token.{Token, key, end_object}
 use Rattle.json.specs.Json as json
 use Rattle.json.specs.Json.{Parse, parse_map, after_end_array, read_key, items, members}
-use Rattle.serde_json.specs.Data.{Num, Data, Items, Members, number, array, object, item, member, no_members, put}
+use Rattle.serde_json.specs.Data.{Data, Members, number, array, object, item, member, no_members, put}
 use Rattle.serde_json.specs.Read.{of_json, of_items, of_members, converted, number_of}
 use Rattle.amqp_value_core.specs.Values as values
 use Rattle.amqp_value_core.specs.Values.{Tree, Entries, no_entries, entry, insert, insert_all}
 use Rattle.amqp_value_core.specs.Grammar.{TableBody, no_pairs, pair, short_field}
-use Rattle.amqp_value_core.specs.Strings.{IsShort}
 use Rattle.amqp_json.specs.InMemory.{EntriesStored}
 use Rattle.amqp_json.specs.Json as amqp
 use Rattle.amqp_json.specs.Json.{members_json, sole_type, under}
-use Rattle.amqp_json.specs.Reading.{value_of, values_of, with_entry, entries_of}
+use Rattle.amqp_json.specs.Reading.{value_of, values_of}
 use Rattle.serde_json.specs.Find.{of_integer}
 use Rattle.amqp_json.specs.Lexing.{IsLastInteger}
 use Rattle.amqp_json.specs.Names.{type_named}
 use Rattle.amqp_json.specs.Sorted.{by_key, at_key}
-use Rattle.amqp_json.specs.Tokens.{Ends, IsUnread, IsNoEntry, IsNoTable, IsObjectOfMembers, IsTableObject, BecomesTable, MembersLeadTo, next_token}
+use Rattle.amqp_json.specs.Tokens.{Ends, IsNoEntry, IsNoTable, IsTableObject, BecomesTable, MembersLeadTo, next_token}
 use Rattle.amqp_json.specs.Encodes.{IsRefusal, IsNoneUnder, IsNumberWith, EncodesNone, Extends, IsObject, IsMemberPut, IsTableOf, PutsEncodingOf, PutsFirst, PutsPairs, AreEntriesRead, HasNoTypeName}
 use Rattle.amqp_json.specs.declared.encoding.Stop.{Stop}
 use Rattle.amqp_json.specs.declared.encoding.Stop.TheVariants.{OutOfMemory, NotHere, NotAValue}

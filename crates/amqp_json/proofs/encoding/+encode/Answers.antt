@@ -1,4 +1,4 @@
-use Rattle.std.proofs.Common.{◌≡◌, ◌≢◌, ◌+◌, ◌-◌, ◌<◌, ◌≤◌, [], ◌∷◌, ◌++◌, List, ℕ, Some, None, true, codes, OnOk, IfOk, IfErr, IfSome, Result, Ok, Err, Option, option_map, length, refl, sym, ap, ◌∙◌, subst, arith, rules}
+use Rattle.std.proofs.Common.{◌≡◌, ◌≢◌, ◌+◌, ◌-◌, ◌<◌, ◌≤◌, [], ◌∷◌, ◌++◌, List, ℕ, Some, None, true, codes, OnOk, IfErr, IfSome, Ok, Err, Option, option_map, length, refl, sym, ap, ◌∙◌, subst, arith, rules}
 use Rattle.std.specs.Borrow.{Bor}
 use Rattle.std.specs.Str.{IsUtf8}
 use Rattle.amqp_json.proofs.Bytes.{text_is_plain}
@@ -13,14 +13,13 @@ use Rattle.std.specs.BTreeMap.{insert_entry}
 use Rattle.serde_json.specs.Data.{Data, number, array, object, no_members, member, put}
 use Rattle.amqp_value_core.specs.Grammar.{short_field}
 use Rattle.amqp_json.specs.Sorted.{by_key}
-use Rattle.amqp_json.specs.declared.encoding.Stop.{Stop}
 use Rattle.amqp_json.specs.declared.encoding.Stop.TheVariants.{NotAValue}
 use Rattle.serde_json.specs.Find.{of_integer}
 use Rattle.serde_json.specs.Read.{of_json, of_items, converted, number_of}
 use Rattle.amqp_value_core.specs.declared.types.amqp_type.AMQPType.TheVariants as amqp
 use Rattle.amqp_value_core.specs.Values as values
 use Rattle.amqp_value_core.specs.Values.{Tree, Trees, Entries, no_entries, scalar, boolean, void, long}
-use Rattle.amqp_json.specs.Encodes.{AreEntriesRead, IsLast, IsNamedRead, IsNoneUnder, IsPending, PutsEncodingOf, PutsFirst, PutsPairs, EncodesNone, Extends, IsRefusal, IsMemberPut, IsTableOf}
+use Rattle.amqp_json.specs.Encodes.{AreEntriesRead, IsLast, IsNamedRead, IsNoneUnder, IsPending, PutsEncodingOf, PutsFirst, PutsPairs, EncodesNone, Extends, IsRefusal, IsTableOf}
 use Rattle.amqp_json.proofs.Refused.{IsPutToken, put_unnamed, plain_unnamed}
 use Rattle.amqp_json.specs.Names.{type_named}
 use Rattle.amqp_json.specs.declared.encoding.last.Last.{Last}
@@ -30,11 +29,11 @@ use Rattle.amqp_json.proofs.Refused.{refusal_weaker, refused_weaker}
 use Rattle.amqp_json.proofs.Unread.{last_integer_object, no_table_on, both, no_sole, no_sole_under, no_object_under, bad_first, none_weaker, same_extends, extends_after, no_array, no_object, RestLeft, rest_first, rest_next, rest_done, rest_refused, bad_table, rest_pairs, rest_none, first_none, when_ok, on_ok, when_err, item_passed, items_passed, member_taken}
 use Rattle.amqp_json.specs.Json.{json, items_json, members_json, sole_type, under, decimal_json}
 use Rattle.amqp_json.specs.Encodes.{IsObject}
-use Rattle.amqp_json.proofs.Turns.{weaker, closed, number_read, number_is, converted-array, converted-object}
+use Rattle.amqp_json.proofs.Turns.{weaker, closed, number_is, converted-array, converted-object}
 use Rattle.amqp_json.proofs.Leading.{leads, leads_as, next_is, taken, was_put, was_bad}
 use Rattle.amqp_json.proofs.Merged.{put_over, second_of_table, no_value_entry}
 use Rattle.amqp_json.proofs.Named.{back_to, last_after, past_turn, sole_object, sole_under, first_pairs, put_pending}
-use Rattle.amqp_json.proofs.Encodes.{PairsLeft, under_object, items_first, items_next, items_done, pairs_first, pairs_next, pairs_done, array_put, table_put, puts_weaker, text_put, scalar_put, plain_first, plain_object}
+use Rattle.amqp_json.proofs.Encodes.{PairsLeft, items_first, items_next, items_done, pairs_first, pairs_next, pairs_done, array_put, table_put, puts_weaker, text_put, scalar_put, plain_first, plain_object}
 use Rattle.amqp_json.proofs.Decimals.{decimal_read}
 use Rattle.amqp_json.proofs.encoding.+encode.Goals as goal
 use Rattle.amqp_json.proofs.encoding.+encode.Goals.{last_fields-else-is_scale-via-else-is_scale, last_fields-else-is_scale-via-then-is_scale+in-None-1}

@@ -1,4 +1,4 @@
-use Rattle.std.proofs.Common.{ℕ, ◌≡◌, ◌+◌, ◌*◌, ◌≤◌, ◌∷◌, length, option_map}
+use Rattle.std.proofs.Common.{◌≡◌, ◌+◌, ◌*◌, ◌≤◌, ◌∷◌, length, option_map}
 use Rattle.json.specs.Token.{key}
 use Rattle.json.specs.Json.{value}
 use Rattle.serde_json.specs.Data.{Data, Members, member, no_members, put}

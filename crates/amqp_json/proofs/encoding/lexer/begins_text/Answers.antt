@@ -1,4 +1,4 @@
-use Rattle.std.proofs.Common.{◌≡◌, ◌≤◌, ◌⊎◌, inl, inr, drop, ap, ◌∙◌, arith, rules}
+use Rattle.std.proofs.Common.{◌≡◌, ◌≤◌, inl, inr, drop, ap, ◌∙◌, arith, rules}
 use Rattle.json.specs.Word.{head}
 use Rattle.amqp_json.specs.Lexing.{tokens_left}
 use Rattle.amqp_json.specs.declared.encoding.lexer.Place.TheVariants.{AfterComma}
