@@ -11,13 +11,12 @@ ghost use Rattle.serde_json.specs.Read.{of_json, of_items, converted, number_of}
 ghost use Rattle.amqp_value_core.specs.declared.types.amqp_type.AMQPType.TheVariants as amqp;
 ghost use Rattle.amqp_value_core.specs.Values.{Entries, table};
 ghost use Rattle.amqp_json.specs.InMemory.{EntriesStored};
-ghost use Rattle.amqp_json.specs.Encodes.{IsObject, IsEncodedMeaning, PutsEncodingOf, PutsValues, PutsPairs, AreEntriesRead, HasNoTypeName, IsLast, IsPending, IsNamedRead, IsRefusal, IsNoneUnder, IsNumberWith, EncodesNone, Extends, IsMemberPut, IsTableOf};
+ghost use Rattle.amqp_json.specs.Encodes.{IsObject, IsEncodedMeaning, PutsEncodingOf, PutsValues, PutsPairs, AreEntriesRead, HasNoTypeName, IsLast, IsPending, IsNamedRead, IsRefusal, IsNoneUnder, EncodesNone, Extends, IsMemberPut, IsTableOf};
 ghost use Rattle.amqp_json.specs.Tokens.{Ends, IsUnread, IsNoTable, IsNoEntry, BecomesTable, next_token};
 ghost use Rattle.amqp_json.specs.Refusals.{IsErrorWithin};
 ghost use Rattle.amqp_json.specs.Converts.{IsRefused};
 ghost use Rattle.amqp_json.specs.Json.{json, items_json, members_json, under};
 ghost use Rattle.amqp_json.specs.Names.{type_named};
-ghost use Rattle.amqp_json.specs.Reading.{value_of};
 
 mod fields;
 mod last;
@@ -25,14 +24,13 @@ mod leaf;
 mod lexer;
 mod named;
 mod object;
+mod plain;
 pub(crate) mod put;
 
 use crate::conversion_error::EncodeError;
 use crate::direct::faults::{least, mark, note};
 use crate::error::{JsonError, ValueError};
 use crate::names::type_of_name;
-use crate::numerals::{integer, number};
-use crate::reading::long_long_int;
 use amqp_value_core::types::AMQPType;
 use fields::last_of_table;
 use json::{Scratch, Token};
@@ -41,7 +39,8 @@ use leaf::Leaf;
 use lexer::Lexer;
 use named::put_narrow;
 use object::{Object, TABLE};
-use put::{fill_length, put_boolean, put_head, put_key, put_long_long_int, put_text, put_void};
+use plain::put_integer;
+use put::{fill_length, put_boolean, put_head, put_key, put_text, put_void};
 use std::alloc::{AllocError, Global};
 use std::collections::BTreeMap;
 
@@ -224,34 +223,6 @@ fn put_number(reader: &mut Lexer<'_>, out: &mut Vec<u8>, text: &str, at: usize) 
         reader.set_fault(at);
     }
     put
-}
-
-// A number without a type's name.
-#[inline(always)]
-fn put_integer(out: &mut Vec<u8>, text: &str) -> Result<(), Stop>
-    ensures ok { OnOk result (PutsEncodingOf (λ v. option_map number (number_of text.now) ≡ Some (json v))
-        out.old.items out.new.items) }
-    ensures refused { IfErr result (λ e. IsRefusal e (IsNumberWith (λ d. value_of d ≡ None) text.now)) }
-    ensures kept { IfErr result (λ e. IsRefusal e (out.new.items ≡ out.old.items)) }
-{
-    let Some(n) = integer(text) else {
-        return Err(number_refusal(text));
-    };
-    put_long_long_int(out, n)
-}
-
-// Why a number without a type's name isn't put.
-#[inline(never)]
-fn number_refusal(text: &str) -> Stop
-    ensures { IsRefusal result (IsNumberWith (λ d. value_of d ≡ None) text.now) }
-{
-    let Some(n) = number(text) else {
-        return Stop::NotHere;
-    };
-    match long_long_int(&n) {
-        Some(_) => Stop::NotHere,
-        None => Stop::NotAValue,
-    }
 }
 
 #[cycle(encode)]

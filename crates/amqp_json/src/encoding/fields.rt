@@ -13,11 +13,11 @@ ghost use Rattle.amqp_json.specs.Json.{json, decimal_json};
 ghost use Rattle.amqp_json.specs.Reading.{decimal_in};
 ghost use Rattle.amqp_json.specs.Decimals.{have_field_keys, natural_at};
 
-use super::{Stop, unjudged};
 use super::last::Last;
 use super::leaf::Leaf;
 use super::object::put_before;
 use super::put::{fill_length, put_head, put_key, put_long_long_int};
+use super::{Stop, unjudged};
 use amqp_in_place::{TableRef, ValueRef, read_in_place_unlimited};
 use amqp_value_core::types::DecimalValue;
 

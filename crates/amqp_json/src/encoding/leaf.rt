@@ -8,10 +8,11 @@ ghost use Rattle.amqp_json.specs.Encodes.{PutsEncodingOf, PutsFirst, IsLeaf, Ext
 ghost use Rattle.amqp_json.specs.Json.{json, under};
 ghost use Rattle.amqp_json.specs.Reading.{value_of};
 
+use super::Stop;
 use super::fields::put_fields;
 use super::named::{put_named_number, put_named_text};
+use super::plain::put_integer;
 use super::put::{put_decimal, put_head, put_key, put_text};
-use super::{Stop, put_integer};
 use crate::numerals::{integer, number};
 use amqp_value_core::types::{AMQPType, DecimalValue};
 use std::alloc::Global;

@@ -5,7 +5,7 @@ use Rattle.amqp_value_core.specs.Texts.{text}
 use Rattle.amqp_value_core.specs.Values.{scalar, number}
 use Rattle.amqp_value_core.specs.declared.types.amqp_type.AMQPType.TheVariants as types
 use Rattle.amqp_json.proofs.Encodes.{integer_put}
-use Rattle.amqp_json.proofs.encoding.put_integer.Goals as goal
+use Rattle.amqp_json.proofs.encoding.plain.put_integer.Goals as goal
 
 pub returns-clause-ok : goal.returns-clause-ok
 returns-clause-ok c =
