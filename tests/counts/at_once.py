@@ -43,7 +43,7 @@ class Most(NamedTuple):
 
 
 FOR_EACH = r"(\d+) for each (byte|value|level)"
-OF_TREE = r" of the text, and (\d+) of one of which they make a tree"
+OF_TREE = r" of the text, and (\d+) of one with a ShortString"
 STATED = re.compile(rf"(amqpv_\w+(?: and amqpv_\w+)*) {FOR_EACH}((?:(?:, or | and ){FOR_EACH})*)(?:{OF_TREE})?")
 
 
@@ -113,6 +113,8 @@ FIRST: dict[str, str] = {
 }  # fmt: skip
 # The JSON of no value.
 NO_VALUE = '{"Void":0}'
+# The JSON of a value that has no encoding.
+SHORT_STRING = '{"ShortString":""}'
 # A decimal with a key twice.
 TWICE = '{"DecimalValue":{"scale":0,"scale":0,"value":0}}'
 
@@ -179,8 +181,10 @@ def texts(n: int) -> Iterator[tuple[str, str]]:
         yield f"JSON of no value, {name}", f"[{','.join(items)},{NO_VALUE}]"
         yield f"JSON, {name}, after no value", f'[{{"":{NO_VALUE},"":0}},{",".join(items)}]'
         yield f"JSON, {name}, after the name of a type", f'[{{"LongInt":0,"":0}},{",".join(items)}]'
-        # (of which a tree is made, as after no value)
         yield f"JSON, {name}, after a scale that comes twice", f'[{TWICE},{",".join(items)}]'
+        # (of which a tree is made)
+        yield f"JSON of no value that is encoded, {name}", f"[{','.join(items)},{SHORT_STRING}]"
+        yield f"JSON, {name}, after a ShortString", f'[{{"":{SHORT_STRING},"":0}},{",".join(items)}]'
     # (of which a tree takes most)
     objects = ",".join(['{"":0}'] * (n // 7))
     for name, first in FIRST.items():

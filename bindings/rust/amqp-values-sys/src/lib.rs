@@ -607,9 +607,9 @@ extern "C" {
     /// The most bytes of memory that they hold at once, also while realloc has its old block and the new one, by what
     /// amqpv_measure_value counts: amqpv_canonical 145 for each byte, or 4 for each byte and 860 for each value;
     /// amqpv_to_json 28 for each byte, and none if the keys of each table ascend; amqpv_from_json and
-    /// amqpv_from_json_or_problem 14 for each byte of the text, and 173 of one of which they make a tree;
-    /// amqpv_first_warnings and amqpv_first_warnings_in_table 50 for each byte, or 39 for each value and 248 for each
-    /// level. What isn't read takes no more than these for each byte. An allocator adds some for each block.
+    /// amqpv_from_json_or_problem 14 for each byte of the text, and 173 of one with a ShortString, of which they make a
+    /// tree; amqpv_first_warnings and amqpv_first_warnings_in_table 50 for each byte, or 39 for each value and 248 for
+    /// each level. What isn't read takes no more than these for each byte. An allocator adds some for each block.
     ///
     /// They never return AMQPV_INVALID. The buffer after the bytes that are written stays unchanged.
     ///
@@ -662,8 +662,8 @@ extern "C" {
     /// `count` becomes how many bytes were written (AMQPV_OK), or which capacity is needed (AMQPV_NO_ROOM), else 0.
     /// Also returns AMQPV_NOT_JSON, AMQPV_NO_MEMORY, or AMQPV_NO_ENCODING if the value contains a ShortString, which
     /// has no type tag, or if a length is too large for its field. It allocates the encoding, and where a table's keys
-    /// don't ascend another and 8 bytes for each of its pairs. It allocates a tree too of JSON that is rejected, and
-    /// of a text in which a key comes twice and the value that doesn't count is none.
+    /// don't ascend another and 8 bytes for each of its pairs. Of JSON with a ShortString, and if the encoding would
+    /// have 2^32 bytes or more, it allocates a tree.
     pub fn amqpv_from_json(
         text: *const u8,
         length: usize,
