@@ -51,9 +51,9 @@ impl<'a> TableRef<'a> {
         TablePairs { pairs: self.body() }
     }
 
-    /// Iterates over the pairs from an offset of its bytes on, at which a pair begins, without
-    /// reading those before it: an offset that `iter` has come to is `as_bytes().len()` less that of
-    /// what `iter` has left.
+    /// Iterates over the pairs from an offset of its bytes on, without reading those before it. A
+    /// pair begins there, or the bytes end: `as_bytes().len()` of the table, less that of an iterator
+    /// that has come to the pair.
     #[inline(always)]
     pub fn iter_from(self, offset: usize) -> TablePairs<'a>
         requires { ∥ HasPairs (drop offset (table_body self)) ∥₁ }

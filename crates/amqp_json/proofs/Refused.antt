@@ -15,7 +15,7 @@ use Rattle.amqp_json.specs.Json.{json, members_json, sole_type, under}
 use Rattle.amqp_json.specs.Reading.{value_of, value_named, ambiguous_table, ambiguous_in, with_entry}
 use Rattle.amqp_json.specs.declared.encoding.Stop.{Stop}
 use Rattle.amqp_json.specs.declared.encoding.Stop.TheVariants.{OutOfMemory, NotHere, NotAValue}
-use Rattle.amqp_json.specs.Encodes.{IsRefusal, IsNoneUnder, wrapped}
+use Rattle.amqp_json.specs.Encodes.{OnNotAValue, IsNoneUnder, wrapped}
 use Rattle.amqp_json.specs.Tokens.{IsOtherThanTable}
 use Rattle.amqp_json.proofs.Back.{named}
 use Rattle.amqp_json.proofs.Forms.{never, same_data, named_object, no_ambiguous}
@@ -23,12 +23,12 @@ use Rattle.amqp_json.proofs.Encodes.{plain_object}
 use Rattle.amqp_json.proofs.Named.{wrapped_less, wrapped_half}
 use Rattle.amqp_json.proofs.Turns.{converted-array, converted-object}
 
-pub refusal_weaker : (e : Stop) (P Q : Type 0) → (P → Q) → IsRefusal e P → IsRefusal e Q
+pub refusal_weaker : (e : Stop) (P Q : Type 0) → (P → Q) → OnNotAValue e P → OnNotAValue e Q
 refusal_weaker OutOfMemory P Q f h = tt
 refusal_weaker NotHere P Q f h = tt
 refusal_weaker NotAValue P Q f h = f h
 
-pub refused_weaker : {A : Type 0} (r : Result A Stop) (P Q : Type 0) → (P → Q) → IfErr r (λ e. IsRefusal e P) → IfErr r (λ e. IsRefusal e Q)
+pub refused_weaker : {A : Type 0} (r : Result A Stop) (P Q : Type 0) → (P → Q) → IfErr r (λ e. OnNotAValue e P) → IfErr r (λ e. OnNotAValue e Q)
 refused_weaker (Ok a) P Q f h = tt
 refused_weaker (Err e) P Q f h = refusal_weaker e P Q f h
 

@@ -20,7 +20,7 @@ use Rattle.amqp_json.specs.Lexing.{IsLastInteger}
 use Rattle.amqp_json.specs.Names.{type_named}
 use Rattle.amqp_json.specs.Sorted.{by_key, at_key}
 use Rattle.amqp_json.specs.Tokens.{Ends, IsNoEntry, IsNoTable, IsTableObject, BecomesTable, MembersLeadTo, next_token}
-use Rattle.amqp_json.specs.Encodes.{IsRefusal, IsNoneUnder, IsNumberWith, EncodesNone, Extends, IsObject, IsMemberPut, IsTableOf, PutsEncodingOf, PutsFirst, PutsPairs, AreEntriesRead, HasNoTypeName}
+use Rattle.amqp_json.specs.Encodes.{OnNotAValue, IsNoneUnder, IsNumberWith, EncodesNone, Extends, IsObject, IsMemberPut, IsTableOf, PutsEncodingOf, PutsFirst, PutsPairs, AreEntriesRead, HasNoTypeName}
 use Rattle.amqp_json.specs.declared.encoding.Stop.{Stop}
 use Rattle.amqp_json.specs.declared.encoding.Stop.TheVariants.{OutOfMemory, NotHere, NotAValue}
 use Rattle.amqp_json.proofs.Encodes.{ItemsLeft, PairsLeft, puts_weaker, plain_object, under_object}
@@ -39,12 +39,12 @@ use Rattle.amqp_json.proofs.Walks.{put_stored}
 pub none_weaker : (P Q : Data → Type 0) (old new : List ℕ) → ((d : Data) → P d → Q d) → EncodesNone P old new → EncodesNone Q old new
 none_weaker P Q old new f (d, h, none, more) = (d, f d h, none, more)
 
-pub if_so : (e : Stop) (P : Type 0) → P → IsRefusal e P
+pub if_so : (e : Stop) (P : Type 0) → P → OnNotAValue e P
 if_so OutOfMemory P h = tt
 if_so NotHere P h = tt
 if_so NotAValue P h = h
 
-pub both : {A : Type 0} (r : Result A Stop) (P Q : Type 0) → IfErr r (λ e. IsRefusal e P) → IfErr r (λ e. IsRefusal e Q) → IfErr r (λ e. IsRefusal e (P × Q))
+pub both : {A : Type 0} (r : Result A Stop) (P Q : Type 0) → IfErr r (λ e. OnNotAValue e P) → IfErr r (λ e. OnNotAValue e Q) → IfErr r (λ e. OnNotAValue e (P × Q))
 both (Ok a) P Q h i = tt
 both (Err OutOfMemory) P Q h i = tt
 both (Err NotHere) P Q h i = tt

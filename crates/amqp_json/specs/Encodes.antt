@@ -27,10 +27,10 @@ use Rattle.amqp_json.specs.declared.encoding.object.Kind.TheVariants.{Table, Nam
 use Rattle.amqp_json.specs.declared.encoding.last.Last.{Last}
 use Rattle.amqp_json.specs.declared.encoding.last.Last.TheVariants.{Leaf as OfLeaf, Object as OfObject, NoValue}
 
--- what stops means no more than that nothing is put, unless it is the JSON of no value: `none`
-abbrev pub IsRefusal : Stop → Type 0 → Type 0
-IsRefusal NotAValue none = none
-IsRefusal e none = Unit {0}
+-- if no encoding is put since it is the JSON of no value, `none` is so; any other reason says nothing
+abbrev pub OnNotAValue : Stop → Type 0 → Type 0
+OnNotAValue NotAValue none = none
+OnNotAValue e none = Unit {0}
 
 -- under the name of a type it is the JSON of no value
 abbrev pub IsNoneUnder : AMQPType → Data → Type 0

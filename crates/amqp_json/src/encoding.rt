@@ -11,7 +11,7 @@ ghost use Rattle.serde_json.specs.Read.{of_json, of_items, converted, number_of}
 ghost use Rattle.amqp_value_core.specs.declared.types.amqp_type.AMQPType.TheVariants as amqp;
 ghost use Rattle.amqp_value_core.specs.Values.{Entries, table};
 ghost use Rattle.amqp_json.specs.InMemory.{EntriesStored};
-ghost use Rattle.amqp_json.specs.Encodes.{IsObject, IsEncodedMeaning, PutsEncodingOf, PutsValues, PutsPairs, AreEntriesRead, HasNoTypeName, IsLast, IsPending, IsNamedRead, IsRefusal, IsNoneUnder, EncodesNone, Extends, IsMemberPut, IsTableOf};
+ghost use Rattle.amqp_json.specs.Encodes.{IsObject, IsEncodedMeaning, PutsEncodingOf, PutsValues, PutsPairs, AreEntriesRead, HasNoTypeName, IsLast, IsPending, IsNamedRead, OnNotAValue, IsNoneUnder, EncodesNone, Extends, IsMemberPut, IsTableOf};
 ghost use Rattle.amqp_json.specs.Tokens.{Ends, IsUnread, IsNoTable, IsNoEntry, BecomesTable, next_token};
 ghost use Rattle.amqp_json.specs.Refusals.{IsErrorWithin};
 ghost use Rattle.amqp_json.specs.Converts.{IsRefused};
@@ -28,13 +28,13 @@ mod plain;
 pub(crate) mod put;
 
 use crate::conversion_error::EncodeError;
-use crate::direct::faults::{least, mark, note};
 use crate::error::{JsonError, ValueError};
+use crate::faults::{least, mark, note};
 use crate::names::type_of_name;
 use amqp_value_core::types::AMQPType;
 use fields::last_of_table;
 use json::{Scratch, Token};
-use last::{Last, has_place, is_same, object_of, put_first, put_sole, take_back};
+use last::{Last, fails_at_start, is_same, object_of, put_first, put_sole, take_back};
 use leaf::Leaf;
 use lexer::Lexer;
 use named::put_narrow;
@@ -48,7 +48,7 @@ use std::collections::BTreeMap;
 #[derive(Clone, Copy)]
 pub(crate) enum Stop {
     OutOfMemory,
-    /// The text isn't encoded here.
+    /// It is no JSON, or has a ShortString, or its encoding would have 2^32 bytes or more.
     NotHere,
     /// It is the JSON of no value.
     NotAValue,
@@ -68,9 +68,9 @@ impl From<AllocError> for Stop {
 impl From<ValueError> for Stop {
     ghost use Rattle.std.specs.Prelude.{◌≡◌};
     ghost use Rattle.amqp_json.specs.declared.error.ValueError.TheVariants as value_error;
-    ghost use Rattle.amqp_json.specs.Encodes.{IsRefusal};
+    ghost use Rattle.amqp_json.specs.Encodes.{OnNotAValue};
 
-    ghost from_gives = { λ error e. IsRefusal e (error ≡ value_error.NotAValue) };
+    ghost from_gives = { λ error e. OnNotAValue e (error ≡ value_error.NotAValue) };
 
     fn from(error: ValueError) -> Stop {
         match error {
@@ -105,7 +105,7 @@ pub(crate) fn encoding_of_text(alloc: Global, text: &str) -> Result<Option<Vec<u
     }
 }
 
-// An encoding of the value whose tokens are those of a text, in memory for that many bytes at first.
+// An encoding of the value whose tokens are those of a text, in a vector of that capacity at first.
 #[inline(always)]
 fn encoding_of_tokens(
     alloc: Global,
@@ -114,7 +114,7 @@ fn encoding_of_tokens(
 ) -> Result<Vec<u8>, Stop>
     ensures ok { IfOk result (λ bytes. PutsEncodingOf
         (λ v. converted of_json (value 127 reader.old) ≡ Some (json v, [])) [] bytes.items) }
-    ensures refused { IfErr result (λ e. IsRefusal e
+    ensures refused { IfErr result (λ e. OnNotAValue e
         ((d : Data) × (converted of_json (value 127 reader.old) ≡ Some (d, [])) × IsUnread d)) }
 {
     let mut out = Vec::with_capacity(alloc, capacity)?;
@@ -142,7 +142,7 @@ fn put_value(
     ensures ok { OnOk result (PutsEncodingOf (λ v. converted of_json (value depth reader.old)
         ≡ Some (json v, reader.new)) out.old.items out.new.items) }
     ensures shorter { OnOk result (length reader.new < length reader.old) }
-    ensures refused { IfErr result (λ e. IsRefusal e (EncodesNone (λ d. converted of_json
+    ensures refused { IfErr result (λ e. OnNotAValue e (EncodesNone (λ d. converted of_json
         (value depth reader.old) ≡ Some (d, reader.new)) out.old.items out.new.items)) }
 {
     if reader.opens_object() {
@@ -166,7 +166,7 @@ fn put_inner_object(
         (value depth (token.begin_object ∷ reader.old)) ≡ Some (json v, reader.new))
         out.old.items out.new.items) }
     ensures shorter { OnOk result (length reader.new < length reader.old) }
-    ensures refused { IfErr result (λ e. IsRefusal e (EncodesNone (λ d. converted of_json
+    ensures refused { IfErr result (λ e. OnNotAValue e (EncodesNone (λ d. converted of_json
         (value depth (token.begin_object ∷ reader.old)) ≡ Some (d, reader.new)) out.old.items out.new.items)) }
 {
     if depth == 0 {
@@ -190,7 +190,7 @@ fn put_token<'a>(
         (value depth (token_of token.entry ∷ reader.old)) ≡ Some (json v, reader.new))
         out.old.items out.new.items) }
     ensures shorter { OnOk result (length reader.new ≤ length reader.old) }
-    ensures refused { IfErr result (λ e. IsRefusal e (EncodesNone (λ d. converted of_json
+    ensures refused { IfErr result (λ e. OnNotAValue e (EncodesNone (λ d. converted of_json
         (value depth (token_of token.entry ∷ reader.old)) ≡ Some (d, reader.new)) out.old.items out.new.items)) }
 {
     match token {
@@ -215,7 +215,7 @@ fn put_number(reader: &mut Lexer<'_>, out: &mut Vec<u8>, text: &str, at: usize) 
     ensures ok { OnOk result (PutsEncodingOf (λ v. option_map number (number_of text.now) ≡ Some (json v))
         out.old.items out.new.items) }
     ensures same { reader.new ≡ reader.old }
-    ensures refused { IfErr result (λ e. IsRefusal e (EncodesNone
+    ensures refused { IfErr result (λ e. OnNotAValue e (EncodesNone
         (λ d. option_map number (number_of text.now) ≡ Some d) out.old.items out.new.items)) }
 {
     let put = put_integer(out, text);
@@ -237,7 +237,7 @@ fn put_array(
         (converted of_items (items (value depth) (length reader.old) reader.old))
         ≡ Some (json v, reader.new)) out.old.items out.new.items) }
     ensures shorter { OnOk result (length reader.new < length reader.old) }
-    ensures refused { IfErr result (λ e. IsRefusal e (EncodesNone (λ d. parse_map array
+    ensures refused { IfErr result (λ e. OnNotAValue e (EncodesNone (λ d. parse_map array
         (converted of_items (items (value depth) (length reader.old) reader.old))
         ≡ Some (d, reader.new)) out.old.items out.new.items)) }
 {
@@ -259,7 +259,7 @@ fn put_items(
         converted of_items (items (value depth) (length reader.old) reader.old)
         ≡ Some (items_json vs, reader.new)) out.old.items out.new.items) }
     ensures shorter { OnOk result (length reader.new < length reader.old) }
-    ensures refused { IfErr result (λ e. IsRefusal e (EncodesNone (λ d. parse_map array
+    ensures refused { IfErr result (λ e. OnNotAValue e (EncodesNone (λ d. parse_map array
         (converted of_items (items (value depth) (length reader.old) reader.old))
         ≡ Some (d, reader.new)) out.old.items out.new.items)) }
 {
@@ -283,12 +283,12 @@ fn put_items(
     }
 }
 
-// Passes the items that are left after one that is no value.
+// Reads the items that are left after one that is no value. What is put of them is cut off with that.
 #[cycle(encode)]
 #[cold]
 #[inline(never)]
 fn after_item(alloc: Global, reader: &mut Lexer<'_>, out: &mut Vec<u8>, depth: usize) -> Stop
-    ensures { IsRefusal result (((n : ℕ) → length reader.old ≤ n
+    ensures { OnNotAValue result (((n : ℕ) → length reader.old ≤ n
         → Ends (converted of_items (items (value depth) n reader.old)) reader.new)
         × Extends out.old.items out.new.items) }
 {
@@ -321,7 +321,7 @@ fn put_object(
     ensures ok { OnOk result (PutsEncodingOf (λ v. IsObject (json v) (value depth) reader.old reader.new)
         out.old.items out.new.items) }
     ensures shorter { OnOk result (length reader.new < length reader.old) }
-    ensures refused { IfErr result (λ e. IsRefusal e (EncodesNone
+    ensures refused { IfErr result (λ e. OnNotAValue e (EncodesNone
         (λ d. IsObject d (value depth) reader.old reader.new) out.old.items out.new.items)) }
 {
     let first = reader.next_key()?;
@@ -341,7 +341,7 @@ fn put_object_from<'a>(
     ensures ok { OnOk result ((ts : List SpecToken) → read_key ts ≡ Some (option_map (λ s. s.now) first.entry, reader.old)
         → PutsEncodingOf (λ v. IsObject (json v) (value depth) ts reader.new) out.old.items out.new.items) }
     ensures shorter { OnOk result (length reader.new ≤ length reader.old) }
-    ensures refused { IfErr result (λ e. IsRefusal e ((ts : List SpecToken)
+    ensures refused { IfErr result (λ e. OnNotAValue e ((ts : List SpecToken)
         → read_key ts ≡ Some (option_map (λ s. s.now) first.entry, reader.old)
         → EncodesNone (λ d. IsObject d (value depth) ts reader.new) out.old.items out.new.items)) }
 {
@@ -367,7 +367,7 @@ fn last_fields<'a>(
     ensures ok { IfOk result (λ last. (d : Data) × IsObject d (value depth) reader.old reader.new
         × IsLast last amqp.DecimalValue name.now (Some (d, reader.new)) reader.new out.old.items out.new.items) }
     ensures shorter { IfOk result (λ last. length reader.new < length reader.old) }
-    ensures refused { IfErr result (λ e. IsRefusal e (EncodesNone
+    ensures refused { IfErr result (λ e. OnNotAValue e (EncodesNone
         (λ d. IsObject d (value depth) reader.old reader.new) out.old.items out.new.items)) }
 {
     let first = reader.next_key()?;
@@ -394,7 +394,7 @@ fn object_under_table<'a>(
     ensures ok { IfOk result (λ object. (d : Data) × IsObject d (value depth) reader.old reader.new
         × IsPending object d out.old.items out.new.items) }
     ensures shorter { IfOk result (λ object. length reader.new < length reader.old) }
-    ensures refused { IfErr result (λ e. IsRefusal e (EncodesNone (λ d. IsObject d (value depth) reader.old reader.new
+    ensures refused { IfErr result (λ e. OnNotAValue e (EncodesNone (λ d. IsObject d (value depth) reader.old reader.new
         × IsNoneUnder amqp.FieldTable d) out.old.items out.new.items)) }
 {
     let first = reader.next_key()?;
@@ -425,7 +425,7 @@ fn put_table<'a>(
         → PutsEncodingOf (λ v. ((ts : List SpecToken) → read_key ts ≡ Some (option_map (λ s. s.now) first.entry, reader.old)
         → IsObject (json v) (value depth) ts reader.new) × IsNoneUnder amqp.FieldTable (json v)) out.old.items out.new.items) }
     ensures shorter { OnOk result (length reader.new ≤ length reader.old) }
-    ensures refused { IfErr result (λ e. IsRefusal e (IfSome first.entry (λ k. type_named k.now ≡ None)
+    ensures refused { IfErr result (λ e. OnNotAValue e (IfSome first.entry (λ k. type_named k.now ≡ None)
         → IsNoTable (value depth) no_members (next_token (option_map (λ s. s.now) first.entry) ∷ reader.old)
         reader.new × Extends out.old.items out.new.items)) }
 {
@@ -450,7 +450,7 @@ fn put_members<'a>(
         → PutsPairs before (λ es. AreEntriesRead before es (value depth)
         (option_map (λ s. s.now) first.entry) reader.old reader.new) out.old.items out.new.items) }
     ensures shorter { OnOk result (length reader.new ≤ length reader.old) }
-    ensures refused { IfErr result (λ e. IsRefusal e ((before : Entries) → EntriesStored before
+    ensures refused { IfErr result (λ e. OnNotAValue e ((before : Entries) → EntriesStored before
         → HasNoTypeName before (option_map (λ s. s.now) first.entry)
         → IsNoTable (value depth) (members_json before)
         (next_token (option_map (λ s. s.now) first.entry) ∷ reader.old) reader.new
@@ -480,7 +480,7 @@ fn put_member(
 ) -> Result<Option<usize>, Stop>
     ensures ok { IfOk result (λ bad. IsMemberPut bad (converted of_json (value depth reader.old)) reader.new
         key.now out.old.items out.new.items) }
-    ensures refused { IfErr result (λ e. IsRefusal e ⊥) }
+    ensures refused { IfErr result (λ e. OnNotAValue e ⊥) }
 {
     if key.len() > 255 {
         let at = long_member(alloc, reader, out, depth)?;
@@ -498,8 +498,8 @@ fn put_member(
     }
 }
 
-// Passes the value of a key that is longer than that of an entry, and returns where the value begins,
-// or what of it is no value.
+// Reads the value of a key that is longer than that of an entry, and returns where the value begins, or
+// where that in it begins which is no value.
 #[cycle(encode)]
 #[cold]
 #[inline(never)]
@@ -511,7 +511,7 @@ fn long_member(
 ) -> Result<usize, Stop>
     ensures ok { IfOk result (λ at. (out.new.items ≡ out.old.items)
         × ((d : Data) × (converted of_json (value depth reader.old) ≡ Some (d, reader.new)))) }
-    ensures refused { IfErr result (λ e. IsRefusal e ⊥) }
+    ensures refused { IfErr result (λ e. OnNotAValue e ⊥) }
 {
     let start = out.len();
     let begin = reader.offset();
@@ -541,7 +541,7 @@ fn put_rest<'a>(
         → PutsPairs before (λ es. IsTableOf es (value depth) (put first.entry.0.now d (members_json before))
         (next_token (option_map (λ s. s.now) key.entry) ∷ reader.old) reader.new) out.old.items out.new.items) }
     ensures shorter { OnOk result (length reader.new ≤ length reader.old) }
-    ensures refused { IfErr result (λ e. IsRefusal e ((before : Entries) (d : Data) → EntriesStored before
+    ensures refused { IfErr result (λ e. OnNotAValue e ((before : Entries) (d : Data) → EntriesStored before
         → IsNoEntry first.entry.0.now d
         → BecomesTable (option_map (λ s. s.now) key.entry) (put first.entry.0.now d (members_json before))
         → IsNoTable (value depth) (put first.entry.0.now d (members_json before))
@@ -578,7 +578,7 @@ fn put_typed<'a>(
         → PutsEncodingOf (λ v. IsObject (json v) (value depth) (token.key name.now ∷ reader.old) reader.new)
         out.old.items out.new.items) }
     ensures shorter { OnOk result (length reader.new < length reader.old) }
-    ensures refused { IfErr result (λ e. IsRefusal e (type_named name.now ≡ Some amqp_type → EncodesNone
+    ensures refused { IfErr result (λ e. OnNotAValue e (type_named name.now ≡ Some amqp_type → EncodesNone
         (λ d. IsObject d (value depth) (token.key name.now ∷ reader.old) reader.new) out.old.items out.new.items)) }
 {
     let at = reader.offset();
@@ -607,7 +607,7 @@ fn put_named<'a>(
         → PutsEncodingOf (λ v. IsObject (json v) (value depth) (token.key name.now ∷ reader.old) reader.new)
         out.old.items out.new.items) }
     ensures shorter { OnOk result (length reader.new < length reader.old) }
-    ensures refused { IfErr result (λ e. IsRefusal e (type_named name.now ≡ Some amqp_type → EncodesNone
+    ensures refused { IfErr result (λ e. OnNotAValue e (type_named name.now ≡ Some amqp_type → EncodesNone
         (λ d. IsObject d (value depth) (token.key name.now ∷ reader.old) reader.new) out.old.items out.new.items)) }
 {
     let start = out.len();
@@ -632,7 +632,7 @@ fn put_turns<'a>(
     ensures ok { IfOk result (λ found. IsNamedRead found amqp_type (value depth) name.now reader.old reader.new
         out.old.items out.new.items) }
     ensures shorter { IfOk result (λ found. length reader.new < length reader.old) }
-    ensures refused { IfErr result (λ e. IsRefusal e (IsNoTable (value depth) no_members
+    ensures refused { IfErr result (λ e. OnNotAValue e (IsNoTable (value depth) no_members
         (token.key name.now ∷ reader.old) reader.new × Extends out.old.items out.new.items)) }
 {
     let start = out.len();
@@ -647,13 +647,12 @@ fn put_turns<'a>(
             Some(key) => {
                 match put_first(alloc, out, start, name, last) {
                     Ok(()) => {}
-                    // The name of a type isn't longer.
-                    Err(Stop::NotAValue) if name.len() <= 255 => {
+                    Err(Stop::NotAValue) => {
                         let first = (name, reader.fault());
                         put_bad_first(alloc, reader, out, start, first, key, depth)?;
                         return Ok(None);
                     }
-                    Err(e) => return Err(unjudged(e)),
+                    Err(e) => return Err(e),
                 }
                 put_members(alloc, reader, out, Some(key), depth)?;
                 fill_length(out, start + 1)?;
@@ -663,12 +662,12 @@ fn put_turns<'a>(
     }
 }
 
-// Notes where it begins, in case that it is no value.
+// Notes where the value begins, in case that it is none.
 #[inline(always)]
 fn note_place(reader: &mut Lexer<'_>, last: Last<'_>, at: usize)
     ensures { reader.new ≡ reader.old }
 {
-    if has_place(last) {
+    if fails_at_start(last) {
         reader.set_fault(at);
     }
 }
@@ -691,7 +690,7 @@ fn put_bad_first<'a>(
         → PutsEncodingOf (λ v. (es : Entries) × (v ≡ table es) × IsTableOf es (value depth)
         (member first.entry.0.now d no_members) (token.key key.now ∷ reader.old) reader.new) old out.new.items) }
     ensures shorter { OnOk result (length reader.new ≤ length reader.old) }
-    ensures refused { IfErr result (λ e. IsRefusal e ((old : List ℕ) (d : Data) → length old ≡ start
+    ensures refused { IfErr result (λ e. OnNotAValue e ((old : List ℕ) (d : Data) → length old ≡ start
         → Extends old out.old.items → IsNoEntry first.entry.0.now d → key.now ≢ first.entry.0.now
         → IsNoTable (value depth) (member first.entry.0.now d no_members) (token.key key.now ∷ reader.old)
         reader.new × Extends old out.new.items)) }
@@ -703,18 +702,8 @@ fn put_bad_first<'a>(
     fill_length(out, at)
 }
 
-// A refusal that isn't judged here.
-fn unjudged(stop: Stop) -> Stop
-    ensures { IsRefusal result ⊥ }
-{
-    match stop {
-        Stop::NotAValue => Stop::NotHere,
-        stop => stop,
-    }
-}
-
 // What is under the name of a type. Of a number, a string, a decimal, and an object that may be named,
-// nothing is put.
+// nothing is put. Of what is no value something may be, which is to be cut off.
 #[cycle(encode)]
 #[inline(always)]
 fn put_last<'a>(
@@ -728,7 +717,7 @@ fn put_last<'a>(
     ensures ok { IfOk result (λ last. IsLast last amqp_type name.now
         (converted of_json (value depth reader.old)) reader.new out.old.items out.new.items) }
     ensures shorter { IfOk result (λ last. length reader.new < length reader.old) }
-    ensures refused { IfErr result (λ e. IsRefusal e ⊥) }
+    ensures refused { IfErr result (λ e. OnNotAValue e ⊥) }
 {
     let at = reader.offset();
     let token = reader.next()?;
@@ -756,9 +745,7 @@ fn put_last<'a>(
         }
         (_, token) => {
             put_head(out, b'F')?;
-            if let Err(e) = put_key(out, name) {
-                return Err(unjudged(e));
-            }
+            put_key(out, name)?;
             match put_token(alloc, reader, token, at, out, depth) {
                 Ok(()) => Ok(Last::Leaf(Leaf::Put)),
                 Err(Stop::NotAValue) => Ok(Last::NoValue),

@@ -8,23 +8,23 @@ ghost use Rattle.amqp_value_core.specs.Values.{Tree, Entries, scalar, decimal, t
 ghost use Rattle.amqp_value_core.specs.Grammar.{Wire, TableBody};
 ghost use Rattle.amqp_in_place.specs.Bodies.{HasEntries};
 ghost use Rattle.amqp_in_place.specs.Refs.{table_body};
-ghost use Rattle.amqp_json.specs.Encodes.{PutsEncodingOf, IsLast, IsRefusal};
+ghost use Rattle.amqp_json.specs.Encodes.{PutsEncodingOf, IsLast, OnNotAValue};
 ghost use Rattle.amqp_json.specs.Json.{json, decimal_json};
 ghost use Rattle.amqp_json.specs.Reading.{decimal_in};
 ghost use Rattle.amqp_json.specs.Decimals.{have_field_keys, natural_at};
 
+use super::Stop;
 use super::last::Last;
 use super::leaf::Leaf;
 use super::object::put_before;
 use super::put::{fill_length, put_head, put_key, put_long_long_int};
-use super::{Stop, unjudged};
 use amqp_in_place::{TableRef, ValueRef, read_in_place_unlimited};
 use amqp_value_core::types::DecimalValue;
 
 /// The table of a decimal's scale and number.
 pub(crate) fn put_fields(out: &mut Vec<u8>, scale: u8, value: u32) -> Result<(), Stop>
     ensures ok { OnOk result (PutsEncodingOf (λ v. json v ≡ decimal_json scale value) out.old.items out.new.items) }
-    ensures refused { IfErr result (λ e. IsRefusal e ⊥) }
+    ensures refused { IfErr result (λ e. OnNotAValue e ⊥) }
 {
     let at = out.len() + 1;
     put_head(out, b'F')?;
@@ -96,7 +96,7 @@ pub(crate) fn last_of_table(
     ensures last { IfOk result (λ last. (d : Data) (rest : List SpecToken) (old : List ℕ) → length old ≡ start
         → PutsEncodingOf (λ v. json v ≡ d) old out.old.items
         → IsLast last amqp.DecimalValue name.now (Some (d, rest)) rest old out.new.items) }
-    ensures refused { IfErr result (λ e. IsRefusal e ⊥) }
+    ensures refused { IfErr result (λ e. OnNotAValue e ⊥) }
 {
     if out.len() < start {
         return Err(Stop::NotHere);
@@ -105,6 +105,6 @@ pub(crate) fn last_of_table(
         out.truncate(start);
         return Ok(Last::Leaf(Leaf::Decimal(d)));
     }
-    put_before(out, start, name).map_err(unjudged)?;
+    put_before(out, start, name)?;
     Ok(Last::Leaf(Leaf::Put))
 }

@@ -5,7 +5,7 @@ ghost use Rattle.std.specs.Prelude.{ℕ, ◌≡◌, ◌≢◌, ◌≤◌, List, 
 ghost use Rattle.json.specs.Token.{Token as SpecToken};
 ghost use Rattle.serde_json.specs.Data.{Data};
 ghost use Rattle.amqp_value_core.specs.Names.{name_of};
-ghost use Rattle.amqp_json.specs.Encodes.{PutsEncodingOf, PutsFirst, IsLast, IsPending, Extends, IsRefusal, IsNoneUnder};
+ghost use Rattle.amqp_json.specs.Encodes.{PutsEncodingOf, PutsFirst, IsLast, IsPending, Extends, OnNotAValue, IsNoneUnder};
 ghost use Rattle.amqp_json.specs.Json.{json, under};
 ghost use Rattle.amqp_json.specs.Reading.{value_of};
 
@@ -21,7 +21,7 @@ pub(crate) enum Last<'a> {
     Leaf(Leaf<'a>),
     /// Under the name of a table's type.
     Object(Object<'a>),
-    /// The JSON of no value, also not of one of the type.
+    /// No value, plain or of the type. Bytes of it may be put.
     NoValue,
 }
 
@@ -37,10 +37,10 @@ pub(crate) fn put_sole(
     ensures ok { OnOk result ((k : List ℕ) (read : Option (Data × List SpecToken)) (rest : List SpecToken) (old : List ℕ)
         → length old ≡ start → IsLast last.entry amqp_type k read rest old out.old.items
         → PutsEncodingOf (λ v. (d : Data) × (json v ≡ under amqp_type d) × (read ≡ Some (d, rest))) old out.new.items) }
-    ensures refused { IfErr result (λ e. IsRefusal e ((k : List ℕ) (read : Option (Data × List SpecToken)) (rest : List SpecToken) (old : List ℕ)
+    ensures refused { IfErr result (λ e. OnNotAValue e ((k : List ℕ) (read : Option (Data × List SpecToken)) (rest : List SpecToken) (old : List ℕ)
         → length old ≡ start → IsLast last.entry amqp_type k read rest old out.old.items
         → (d : Data) × (read ≡ Some (d, rest)) × IsNoneUnder amqp_type d)) }
-    ensures kept { IfErr result (λ e. IsRefusal e (Extends out.old.items out.new.items)) }
+    ensures kept { IfErr result (λ e. OnNotAValue e (Extends out.old.items out.new.items)) }
 {
     match last {
         Last::Leaf(leaf) => put_leaf(alloc, out, amqp_type, leaf),
@@ -56,7 +56,7 @@ pub(crate) fn put_sole(
 fn under_table(amqp_type: AMQPType, object: Object<'_>) -> Result<Object<'_>, Stop>
     ensures ok { IfOk result (λ o. (d : Data) (old new : List ℕ) → IsPending object.entry d old new
         → IsPending o (under amqp_type d) old new) }
-    ensures refused { IfErr result (λ e. IsRefusal e ⊥) }
+    ensures refused { IfErr result (λ e. OnNotAValue e ⊥) }
 {
     let AMQPType::FieldTable = amqp_type else {
         return Err(Stop::NotHere);
@@ -76,7 +76,7 @@ pub(crate) fn object_of(amqp_type: AMQPType, last: Last<'_>) -> Result<Object<'_
     ensures ok { IfOk result (λ o. (read : Option (Data × List SpecToken)) (rest : List SpecToken) (old new : List ℕ)
         → IsLast last.entry amqp_type (name_of amqp_type) read rest old new
         → (d : Data) × (read ≡ Some (d, rest)) × IsPending o (under amqp_type d) old new) }
-    ensures refused { IfErr result (λ e. IsRefusal e ((read : Option (Data × List SpecToken)) (rest : List SpecToken) (old new : List ℕ)
+    ensures refused { IfErr result (λ e. OnNotAValue e ((read : Option (Data × List SpecToken)) (rest : List SpecToken) (old new : List ℕ)
         → IsLast last.entry amqp_type (name_of amqp_type) read rest old new
         → (d : Data) × (read ≡ Some (d, rest)) × (value_of d ≡ None) × IsNoneUnder amqp_type d)) }
 {
@@ -107,10 +107,10 @@ pub(crate) fn put_first(
     ensures ok { OnOk result ((type : AMQPType) (read : Option (Data × List SpecToken)) (rest : List SpecToken) (old : List ℕ)
         → length old ≡ start → IsLast last.entry type name.now read rest old out.old.items
         → PutsFirst name.now (λ v. read ≡ Some (json v, rest)) old out.new.items) }
-    ensures refused { IfErr result (λ e. IsRefusal e ((type : AMQPType) (read : Option (Data × List SpecToken)) (rest : List SpecToken) (old : List ℕ)
-        → length old ≡ start → length name.now ≤ 255 → IsLast last.entry type name.now read rest old out.old.items
+    ensures refused { IfErr result (λ e. OnNotAValue e ((type : AMQPType) (read : Option (Data × List SpecToken)) (rest : List SpecToken) (old : List ℕ)
+        → length old ≡ start → IsLast last.entry type name.now read rest old out.old.items
         → (d : Data) × (read ≡ Some (d, rest)) × (value_of d ≡ None))) }
-    ensures kept { IfErr result (λ e. IsRefusal e (length name.now ≤ 255 → Extends out.old.items out.new.items)) }
+    ensures kept { IfErr result (λ e. OnNotAValue e (Extends out.old.items out.new.items)) }
 {
     match last {
         Last::Leaf(leaf) => put_first_leaf(out, name, leaf),
@@ -128,7 +128,7 @@ pub(crate) fn take_back(out: &mut Vec<u8>, start: usize, last: Last<'_>) -> Resu
     ensures ok { OnOk result ((type : AMQPType) (k : List ℕ) (read : Option (Data × List SpecToken)) (rest : List SpecToken) (old : List ℕ)
         → length old ≡ start → IsLast last.entry type k read rest old out.old.items
         → (out.new.items ≡ old) × ((d : Data) × (read ≡ Some (d, rest)))) }
-    ensures refused { IfErr result (λ e. IsRefusal e ⊥) }
+    ensures refused { IfErr result (λ e. OnNotAValue e ⊥) }
 {
     if !is_last_json(last) {
         return Err(Stop::NotHere);
@@ -158,8 +158,8 @@ pub(crate) fn is_same(key: &str, name: &str) -> bool
     key == name
 }
 
-/// Whether it begins where that does which is no value, if it is none.
-pub(crate) fn has_place(last: Last<'_>) -> bool {
+/// Whether an error of it is at its first byte. Within what is no value the byte was noted before.
+pub(crate) fn fails_at_start(last: Last<'_>) -> bool {
     match last {
         Last::Leaf(_) => true,
         Last::Object(object) => object.is_table(),

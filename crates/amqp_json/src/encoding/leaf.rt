@@ -4,7 +4,7 @@
 ghost use Rattle.std.specs.Prelude.{ℕ, ◌≡◌, ◌≤◌, List, length, Option, Some, None, true, false, OnOk, IfErr};
 ghost use Rattle.json.specs.Token.{Token as SpecToken};
 ghost use Rattle.serde_json.specs.Data.{Data};
-ghost use Rattle.amqp_json.specs.Encodes.{PutsEncodingOf, PutsFirst, IsLeaf, Extends, IsRefusal, IsNoneUnder};
+ghost use Rattle.amqp_json.specs.Encodes.{PutsEncodingOf, PutsFirst, IsLeaf, Extends, OnNotAValue, IsNoneUnder};
 ghost use Rattle.amqp_json.specs.Json.{json, under};
 ghost use Rattle.amqp_json.specs.Reading.{value_of};
 
@@ -37,10 +37,10 @@ pub(crate) fn put_leaf(
     ensures ok { OnOk result ((k : List ℕ) (read : Option (Data × List SpecToken)) (rest : List SpecToken) (old : List ℕ)
         → IsLeaf leaf.entry amqp_type k read rest old out.old.items
         → PutsEncodingOf (λ v. (d : Data) × (json v ≡ under amqp_type d) × (read ≡ Some (d, rest))) old out.new.items) }
-    ensures refused { IfErr result (λ e. IsRefusal e ((k : List ℕ) (read : Option (Data × List SpecToken)) (rest : List SpecToken) (old : List ℕ)
+    ensures refused { IfErr result (λ e. OnNotAValue e ((k : List ℕ) (read : Option (Data × List SpecToken)) (rest : List SpecToken) (old : List ℕ)
         → IsLeaf leaf.entry amqp_type k read rest old out.old.items
         → (d : Data) × (read ≡ Some (d, rest)) × IsNoneUnder amqp_type d)) }
-    ensures kept { IfErr result (λ e. IsRefusal e (out.new.items ≡ out.old.items)) }
+    ensures kept { IfErr result (λ e. OnNotAValue e (out.new.items ≡ out.old.items)) }
 {
     match (amqp_type, leaf) {
         (_, Leaf::Number(text)) => put_named_number(alloc, out, amqp_type, text),
@@ -56,10 +56,10 @@ pub(crate) fn put_first_leaf(out: &mut Vec<u8>, name: &str, leaf: Leaf<'_>) -> R
     ensures ok { OnOk result ((type : AMQPType) (read : Option (Data × List SpecToken)) (rest : List SpecToken) (old : List ℕ)
         → IsLeaf leaf.entry type name.now read rest old out.old.items
         → PutsFirst name.now (λ v. read ≡ Some (json v, rest)) old out.new.items) }
-    ensures refused { IfErr result (λ e. IsRefusal e ((type : AMQPType) (read : Option (Data × List SpecToken)) (rest : List SpecToken) (old : List ℕ)
-        → length name.now ≤ 255 → IsLeaf leaf.entry type name.now read rest old out.old.items
+    ensures refused { IfErr result (λ e. OnNotAValue e ((type : AMQPType) (read : Option (Data × List SpecToken)) (rest : List SpecToken) (old : List ℕ)
+        → IsLeaf leaf.entry type name.now read rest old out.old.items
         → (d : Data) × (read ≡ Some (d, rest)) × (value_of d ≡ None))) }
-    ensures kept { IfErr result (λ e. IsRefusal e (length name.now ≤ 255 → Extends out.old.items out.new.items)) }
+    ensures kept { IfErr result (λ e. OnNotAValue e (Extends out.old.items out.new.items)) }
 {
     match leaf {
         Leaf::Number(text) => {

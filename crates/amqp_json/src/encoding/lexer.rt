@@ -1,5 +1,5 @@
-//! The tokens of a text: from its bytes up to the first string with an escape, and from there by
-//! `json::Reader`. What isn't JSON, or no integer, is left to those who read the text again.
+//! The tokens of a text: from its bytes up to the first string with an escape, number with a fraction
+//! or an exponent, or what is no JSON, and from there by `json::Reader`.
 
 ghost use Rattle.std.specs.Prelude.{◌≡◌, ◌≢◌, cond, pos, neg_ℤ, FitsSigned, ◌≤◌, ◌<◌, ◌+◌, ◌-◌, ◌||◌, ◌∷◌, [], length, take, drop, true, false, Some, None, IfOk, IfErr, OnOk, IfSome, MatchOption, option_map};
 ghost use Rattle.std.specs.Bool.{OnTrue};
@@ -12,7 +12,7 @@ ghost use Rattle.json.specs.Token.{Token as SpecToken, string, key, begin_object
 ghost use Rattle.json.specs.Lex.{token, between, lex, after_value, punctuate, tokens};
 ghost use Rattle.json.specs.Json.{read_key, after_end_array};
 ghost use Rattle.json.specs.Reads.{token_of};
-ghost use Rattle.amqp_json.specs.Encodes.{IsRefusal};
+ghost use Rattle.amqp_json.specs.Encodes.{OnNotAValue};
 ghost use Rattle.amqp_json.specs.Lexing.{tokens_left, IsVisible, BeginsWith, IsClosing, IsOpening, IsNamed, BeginsWithInteger, IsLastInteger, IsIntegerNext, AreDecimalFields};
 
 use super::Stop;
@@ -44,10 +44,11 @@ struct Next {
 pub(crate) struct Lexer<'a> {
     text: &'a str,
     next: Next,
-    // It goes on from the first string with an escape.
+    // It goes on from the first token that isn't read from the bytes.
     reader: Option<Reader<'a>>,
     // What that needs, until it is there.
     scratch: Option<&'a mut Scratch>,
+    // Not in the errors, so that results are small.
     fault: usize,
 }
 
@@ -398,7 +399,8 @@ fn token_at<'a>(text: &'a str, next: &mut Next) -> Option<Token<'a>>
     }
 }
 
-// Whether the tokens are those of a text that begins here.
+// Whether the tokens are those of a text that begins here. After a comma that is said only of what may
+// be left to the reader.
 #[inline(always)]
 fn begins_text(text: &str, from: Next) -> bool
     ensures { result ≡ true → tokens_left from.place (drop from.at text.now) ≡ tokens (drop from.at text.now) }
@@ -406,7 +408,6 @@ fn begins_text(text: &str, from: Next) -> bool
     match from.place {
         Place::Fresh => true,
         Place::AfterValue => false,
-        // A string or a number.
         Place::AfterComma => matches!(byte_at(text.as_bytes(), from.at), b'"' | b'-'..=b'9'),
     }
 }
@@ -415,7 +416,7 @@ fn begins_text(text: &str, from: Next) -> bool
 #[inline(always)]
 fn reader_from<'a>(text: &'a str, from: Next, scratch: &'a mut Scratch) -> Result<Reader<'a>, Stop>
     ensures ok { IfOk result (λ reader. reader ≡ tokens_left from.place (drop from.at text.now)) }
-    ensures refused { IfErr result (λ e. IsRefusal e ⊥) }
+    ensures refused { IfErr result (λ e. OnNotAValue e ⊥) }
 {
     if !begins_text(text, from) {
         return Err(Stop::NotHere);
@@ -435,7 +436,7 @@ fn is_end(text: &str, from: Next) -> bool
 }
 
 impl<'a> Lexer<'a> {
-    /// The text's tokens. Nothing is put into `scratch` unless a string has an escape.
+    /// The text's tokens. `scratch` is for those that `json::Reader` reads.
     #[inline(always)]
     pub(crate) fn new(text: &'a str, scratch: &'a mut Scratch) -> Lexer<'a>
         ensures { result ≡ tokens text.now }
@@ -480,7 +481,7 @@ impl<'a> Lexer<'a> {
     #[inline(always)]
     pub(crate) fn next(&mut self) -> Result<Token<'a>, Stop>
         ensures ok { IfOk result (λ t. self.old ≡ token_of t ∷ self.new) }
-        ensures refused { IfErr result (λ e. IsRefusal e ⊥) }
+        ensures refused { IfErr result (λ e. OnNotAValue e ⊥) }
     {
         if self.reader.is_none()
             && let Some(token) = token_at(self.text, &mut self.next)
@@ -490,11 +491,11 @@ impl<'a> Lexer<'a> {
         self.next_by_reader()
     }
 
-    // The next token by the reader, which goes on from here if it is a string.
+    // The next token by the reader, which goes on from here.
     #[inline(never)]
     fn next_by_reader(&mut self) -> Result<Token<'a>, Stop>
         ensures ok { IfOk result (λ t. self.old ≡ token_of t ∷ self.new) }
-        ensures refused { IfErr result (λ e. IsRefusal e ⊥) }
+        ensures refused { IfErr result (λ e. OnNotAValue e ⊥) }
     {
         if self.reader.is_none() {
             let scratch = self.scratch.take().ok_or(Stop::NotHere)?;
@@ -512,7 +513,7 @@ impl<'a> Lexer<'a> {
         ensures ok { IfOk result (λ item. MatchOption item
             (after_end_array self.old ≡ Some self.new)
             (λ t. (self.old ≡ token_of t ∷ self.new) × (after_end_array self.old ≡ None))) }
-        ensures refused { IfErr result (λ e. IsRefusal e ⊥) }
+        ensures refused { IfErr result (λ e. OnNotAValue e ⊥) }
     {
         let token = self.next()?;
         match token {
@@ -525,7 +526,7 @@ impl<'a> Lexer<'a> {
     #[inline(always)]
     pub(crate) fn next_key(&mut self) -> Result<Option<&'a str>, Stop>
         ensures ok { IfOk result (λ k. read_key self.old ≡ Some (option_map (λ s. s.now) k, self.new)) }
-        ensures refused { IfErr result (λ e. IsRefusal e ⊥) }
+        ensures refused { IfErr result (λ e. OnNotAValue e ⊥) }
     {
         if self.reader.is_none()
             && let Some(key) = key(self.text, &mut self.next)
@@ -539,7 +540,7 @@ impl<'a> Lexer<'a> {
     #[inline(never)]
     fn key_of_token(&mut self) -> Result<Option<&'a str>, Stop>
         ensures ok { IfOk result (λ k. read_key self.old ≡ Some (option_map (λ s. s.now) k, self.new)) }
-        ensures refused { IfErr result (λ e. IsRefusal e ⊥) }
+        ensures refused { IfErr result (λ e. OnNotAValue e ⊥) }
     {
         match self.next()? {
             Token::Key(key) => Ok(Some(key)),
@@ -609,7 +610,7 @@ impl<'a> Lexer<'a> {
     #[inline(never)]
     pub(crate) fn end(&mut self) -> Result<(), Stop>
         ensures ok { OnOk result (self.old ≡ []) }
-        ensures refused { IfErr result (λ e. IsRefusal e ⊥) }
+        ensures refused { IfErr result (λ e. OnNotAValue e ⊥) }
     {
         let is_at_end = match &mut self.reader {
             Some(reader) => reader.next().is_none(),

@@ -2,13 +2,12 @@
 
 // The tactic at a function names the lemma that bytes are UTF-8 if they are read as a text.
 
-ghost use Rattle.std.specs.Prelude.{◌≡◌, Some, OnOk, IfErr, option_map, FitsSigned};
-ghost use Rattle.std.specs.Int.{w64};
-ghost use Rattle.serde_json.specs.Data.{number, string, unsigned};
+ghost use Rattle.std.specs.Prelude.{◌≡◌, Some, OnOk, IfErr, option_map};
+ghost use Rattle.serde_json.specs.Data.{number, string};
 ghost use Rattle.serde_json.specs.Find.{of_integer};
 ghost use Rattle.serde_json.specs.Read.{number_of};
 ghost use Rattle.amqp_value_core.specs.declared.types.amqp_type.AMQPType.TheVariants as amqp;
-ghost use Rattle.amqp_json.specs.Encodes.{PutsEncodingOf, IsRefusal, IsNoneUnder, IsNumberWith};
+ghost use Rattle.amqp_json.specs.Encodes.{PutsEncodingOf, OnNotAValue, IsNoneUnder, IsNumberWith};
 ghost use Rattle.amqp_json.specs.Json.{json, under};
 
 use super::Stop;
@@ -33,8 +32,8 @@ pub(crate) fn put_named_number(
 ) -> Result<(), Stop>
     ensures ok { OnOk result (PutsEncodingOf (λ v. option_map (under amqp_type)
         (option_map number (number_of text.now)) ≡ Some (json v)) out.old.items out.new.items) }
-    ensures refused { IfErr result (λ e. IsRefusal e (IsNumberWith (IsNoneUnder amqp_type) text.now)) }
-    ensures kept { IfErr result (λ e. IsRefusal e (out.new.items ≡ out.old.items)) }
+    ensures refused { IfErr result (λ e. OnNotAValue e (IsNumberWith (IsNoneUnder amqp_type) text.now)) }
+    ensures kept { IfErr result (λ e. OnNotAValue e (out.new.items ≡ out.old.items)) }
 {
     if let AMQPType::Timestamp = amqp_type {
         return put_time(alloc, out, text);
@@ -50,8 +49,8 @@ pub(crate) fn put_named_number(
 fn put_time(alloc: Global, out: &mut Vec<u8>, text: &str) -> Result<(), Stop>
     ensures ok { OnOk result (PutsEncodingOf (λ v. option_map (under amqp.Timestamp)
         (option_map number (number_of text.now)) ≡ Some (json v)) out.old.items out.new.items) }
-    ensures refused { IfErr result (λ e. IsRefusal e (IsNumberWith (IsNoneUnder amqp.Timestamp) text.now)) }
-    ensures kept { IfErr result (λ e. IsRefusal e (out.new.items ≡ out.old.items)) }
+    ensures refused { IfErr result (λ e. OnNotAValue e (IsNumberWith (IsNoneUnder amqp.Timestamp) text.now)) }
+    ensures kept { IfErr result (λ e. OnNotAValue e (out.new.items ≡ out.old.items)) }
 {
     let Some(n) = natural_number(text) else {
         return Err(number_refusal(alloc, AMQPType::Timestamp, text));
@@ -62,7 +61,7 @@ fn put_time(alloc: Global, out: &mut Vec<u8>, text: &str) -> Result<(), Stop>
 // Why a number under the name of a type isn't put.
 #[inline(never)]
 fn number_refusal(alloc: Global, amqp_type: AMQPType, text: &str) -> Stop
-    ensures { IsRefusal result (IsNumberWith (IsNoneUnder amqp_type) text.now) }
+    ensures { OnNotAValue result (IsNumberWith (IsNoneUnder amqp_type) text.now) }
 {
     let Some(n) = number(text) else {
         return Stop::NotHere;
@@ -78,8 +77,8 @@ fn number_refusal(alloc: Global, amqp_type: AMQPType, text: &str) -> Stop
 pub(crate) fn put_narrow(out: &mut Vec<u8>, amqp_type: AMQPType, n: i64) -> Result<(), Stop>
     ensures ok { OnOk result (PutsEncodingOf (λ v. json v ≡ under amqp_type (number (of_integer n)))
         out.old.items out.new.items) }
-    ensures refused { IfErr result (λ e. IsRefusal e (IsNoneUnder amqp_type (number (of_integer n)))) }
-    ensures kept { IfErr result (λ e. IsRefusal e (out.new.items ≡ out.old.items)) }
+    ensures refused { IfErr result (λ e. OnNotAValue e (IsNoneUnder amqp_type (number (of_integer n)))) }
+    ensures kept { IfErr result (λ e. OnNotAValue e (out.new.items ≡ out.old.items)) }
 {
     match amqp_type {
         AMQPType::ShortShortInt => match i8::try_from(n) {
@@ -123,8 +122,8 @@ pub(crate) fn put_named_text(
 ) -> Result<(), Stop>
     ensures ok { OnOk result (PutsEncodingOf (λ v. json v ≡ under amqp_type (string text.now))
         out.old.items out.new.items) }
-    ensures refused { IfErr result (λ e. IsRefusal e (IsNoneUnder amqp_type (string text.now))) }
-    ensures kept { IfErr result (λ e. IsRefusal e (out.new.items ≡ out.old.items)) }
+    ensures refused { IfErr result (λ e. OnNotAValue e (IsNoneUnder amqp_type (string text.now))) }
+    ensures kept { IfErr result (λ e. OnNotAValue e (out.new.items ≡ out.old.items)) }
 {
     match amqp_type {
         AMQPType::Float => put_float_of(out, text),
@@ -140,8 +139,8 @@ pub(crate) fn put_named_text(
 fn put_float_of(out: &mut Vec<u8>, text: &str) -> Result<(), Stop>
     ensures ok { OnOk result (PutsEncodingOf (λ v. json v ≡ under amqp.Float (string text.now))
         out.old.items out.new.items) }
-    ensures refused { IfErr result (λ e. IsRefusal e (IsNoneUnder amqp.Float (string text.now))) }
-    ensures kept { IfErr result (λ e. IsRefusal e (out.new.items ≡ out.old.items)) }
+    ensures refused { IfErr result (λ e. OnNotAValue e (IsNoneUnder amqp.Float (string text.now))) }
+    ensures kept { IfErr result (λ e. OnNotAValue e (out.new.items ≡ out.old.items)) }
 {
     let Some(bytes) = sized_of::<4>(text) else {
         return Err(Stop::NotAValue);
@@ -152,8 +151,8 @@ fn put_float_of(out: &mut Vec<u8>, text: &str) -> Result<(), Stop>
 fn put_double_of(out: &mut Vec<u8>, text: &str) -> Result<(), Stop>
     ensures ok { OnOk result (PutsEncodingOf (λ v. json v ≡ under amqp.Double (string text.now))
         out.old.items out.new.items) }
-    ensures refused { IfErr result (λ e. IsRefusal e (IsNoneUnder amqp.Double (string text.now))) }
-    ensures kept { IfErr result (λ e. IsRefusal e (out.new.items ≡ out.old.items)) }
+    ensures refused { IfErr result (λ e. OnNotAValue e (IsNoneUnder amqp.Double (string text.now))) }
+    ensures kept { IfErr result (λ e. OnNotAValue e (out.new.items ≡ out.old.items)) }
 {
     let Some(bytes) = sized_of::<8>(text) else {
         return Err(Stop::NotAValue);
@@ -166,8 +165,8 @@ fn put_double_of(out: &mut Vec<u8>, text: &str) -> Result<(), Stop>
 fn put_string_of(alloc: Global, out: &mut Vec<u8>, text: &str) -> Result<(), Stop>
     ensures ok { OnOk result (PutsEncodingOf (λ v. json v ≡ under amqp.LongString (string text.now))
         out.old.items out.new.items) }
-    ensures refused { IfErr result (λ e. IsRefusal e (IsNoneUnder amqp.LongString (string text.now))) }
-    ensures kept { IfErr result (λ e. IsRefusal e (out.new.items ≡ out.old.items)) }
+    ensures refused { IfErr result (λ e. OnNotAValue e (IsNoneUnder amqp.LongString (string text.now))) }
+    ensures kept { IfErr result (λ e. OnNotAValue e (out.new.items ≡ out.old.items)) }
 {
     let bytes = bytes_of(alloc, text)?;
     match from_utf8(&bytes) {
@@ -179,8 +178,8 @@ fn put_string_of(alloc: Global, out: &mut Vec<u8>, text: &str) -> Result<(), Sto
 fn put_array_of(alloc: Global, out: &mut Vec<u8>, text: &str) -> Result<(), Stop>
     ensures ok { OnOk result (PutsEncodingOf (λ v. json v ≡ under amqp.ByteArray (string text.now))
         out.old.items out.new.items) }
-    ensures refused { IfErr result (λ e. IsRefusal e (IsNoneUnder amqp.ByteArray (string text.now))) }
-    ensures kept { IfErr result (λ e. IsRefusal e (out.new.items ≡ out.old.items)) }
+    ensures refused { IfErr result (λ e. OnNotAValue e (IsNoneUnder amqp.ByteArray (string text.now))) }
+    ensures kept { IfErr result (λ e. OnNotAValue e (out.new.items ≡ out.old.items)) }
 {
     let bytes = bytes_of(alloc, text)?;
     put_byte_array(out, &bytes)

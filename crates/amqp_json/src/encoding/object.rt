@@ -8,7 +8,7 @@ ghost use Rattle.amqp_value_core.specs.declared.types.amqp_type.AMQPType.TheVari
 ghost use Rattle.amqp_value_core.specs.Grammar.{short_field};
 ghost use Rattle.amqp_value_core.specs.Strings.{IsShort};
 ghost use Rattle.amqp_value_core.specs.Names.{name_of};
-ghost use Rattle.amqp_json.specs.Encodes.{PutsEncodingOf, IsLeaf, IsKind, IsPending, Extends, IsRefusal};
+ghost use Rattle.amqp_json.specs.Encodes.{PutsEncodingOf, IsLeaf, IsKind, IsPending, Extends, OnNotAValue};
 ghost use Rattle.amqp_json.specs.Json.{json, under};
 ghost use Rattle.amqp_json.specs.Reading.{value_of};
 
@@ -59,9 +59,9 @@ pub(crate) fn put_object_of(
     ensures ok { OnOk result ((d : Data) (old : List ℕ) → length old ≡ start
         → IsPending object.entry d old out.old.items
         → PutsEncodingOf (λ v. json v ≡ d) old out.new.items) }
-    ensures refused { IfErr result (λ e. IsRefusal e ((d : Data) (old : List ℕ) → length old ≡ start
+    ensures refused { IfErr result (λ e. OnNotAValue e ((d : Data) (old : List ℕ) → length old ≡ start
         → IsPending object.entry d old out.old.items → value_of d ≡ None)) }
-    ensures kept { IfErr result (λ e. IsRefusal e (Extends out.old.items out.new.items)) }
+    ensures kept { IfErr result (λ e. OnNotAValue e (Extends out.old.items out.new.items)) }
 {
     put_kind(alloc, out, start, object.kind, is_odd(object.wraps))?;
     let mut left = object.wraps / 2;
@@ -89,10 +89,10 @@ fn put_kind(
 ) -> Result<(), Stop>
     ensures ok { OnOk result ((d : Data) (old : List ℕ) → length old ≡ start → IsKind kind.entry d old out.old.items
         → PutsEncodingOf (λ v. json v ≡ (if is_table then under amqp.FieldTable d else d)) old out.new.items) }
-    ensures refused { IfErr result (λ e. IsRefusal e ((d : Data) (old : List ℕ) → length old ≡ start
+    ensures refused { IfErr result (λ e. OnNotAValue e ((d : Data) (old : List ℕ) → length old ≡ start
         → IsKind kind.entry d old out.old.items
         → value_of (if is_table then under amqp.FieldTable d else d) ≡ None)) }
-    ensures kept { IfErr result (λ e. IsRefusal e (Extends out.old.items out.new.items)) }
+    ensures kept { IfErr result (λ e. OnNotAValue e (Extends out.old.items out.new.items)) }
 {
     match (kind, is_table) {
         (Kind::Table, false) => Ok(()),
@@ -112,10 +112,10 @@ fn put_sole_leaf(
     ensures ok { OnOk result ((d : Data) (old : List ℕ) → length old ≡ start
         → IsLeaf leaf.entry amqp_type (name_of amqp_type) (Some (d, [])) [] old out.old.items
         → PutsEncodingOf (λ v. json v ≡ under amqp.FieldTable (under amqp_type d)) old out.new.items) }
-    ensures refused { IfErr result (λ e. IsRefusal e ((d : Data) (old : List ℕ)
+    ensures refused { IfErr result (λ e. OnNotAValue e ((d : Data) (old : List ℕ)
         → IsLeaf leaf.entry amqp_type (name_of amqp_type) (Some (d, [])) [] old out.old.items
         → value_of (under amqp.FieldTable (under amqp_type d)) ≡ None)) }
-    ensures kept { IfErr result (λ e. IsRefusal e (Extends out.old.items out.new.items)) }
+    ensures kept { IfErr result (λ e. OnNotAValue e (Extends out.old.items out.new.items)) }
 {
     put_first_leaf(out, name_of(amqp_type), leaf)?;
     fill_table(out, start)
@@ -126,7 +126,7 @@ fn put_in_table(out: &mut Vec<u8>, start: usize) -> Result<(), Stop>
     ensures ok { OnOk result ((d : Data) (old : List ℕ) → length old ≡ start
         → PutsEncodingOf (λ v. json v ≡ d) old out.old.items
         → PutsEncodingOf (λ v. json v ≡ under amqp.FieldTable (under amqp.FieldTable d)) old out.new.items) }
-    ensures refused { IfErr result (λ e. IsRefusal e ⊥) }
+    ensures refused { IfErr result (λ e. OnNotAValue e ⊥) }
 {
     put_before(out, start, name_of(AMQPType::FieldTable))?;
     fill_table(out, start)
@@ -137,7 +137,7 @@ fn fill_table(out: &mut Vec<u8>, start: usize) -> Result<(), Stop>
     ensures ok { OnOk result ((out.new.items ≡ take (start + 1) out.old.items
         ++ (to_be_bytes w32 (length out.old.items - (start + 1) - 4) ++ drop (start + 1 + 4) out.old.items))
         × (length out.old.items - (start + 1) - 4 < 2 ^ 32)) }
-    ensures refused { IfErr result (λ e. IsRefusal e ⊥) }
+    ensures refused { IfErr result (λ e. OnNotAValue e ⊥) }
 {
     let Some(at) = start.checked_add(1) else {
         return Err(Stop::NotHere);
@@ -150,7 +150,7 @@ fn fill_table(out: &mut Vec<u8>, start: usize) -> Result<(), Stop>
 pub(crate) fn put_before(out: &mut Vec<u8>, start: usize, name: &str) -> Result<(), Stop>
     ensures ok { OnOk result (IsShort name.now × ((old w : List ℕ) → length old ≡ start → out.old.items ≡ old ++ w
         → out.new.items ≡ ((old ++ 70 ∷ 0 ∷ 0 ∷ 0 ∷ 0 ∷ []) ++ short_field name.now) ++ w)) }
-    ensures refused { IfErr result (λ e. IsRefusal e (255 < length name.now)) }
+    ensures refused { IfErr result (λ e. OnNotAValue e ⊥) }
 {
     let end = out.len();
     if end < start {

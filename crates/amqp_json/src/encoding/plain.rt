@@ -3,7 +3,7 @@
 ghost use Rattle.std.specs.Prelude.{◌≡◌, Some, None, OnOk, IfErr, option_map};
 ghost use Rattle.serde_json.specs.Data.{number};
 ghost use Rattle.serde_json.specs.Read.{number_of};
-ghost use Rattle.amqp_json.specs.Encodes.{PutsEncodingOf, IsRefusal, IsNumberWith};
+ghost use Rattle.amqp_json.specs.Encodes.{PutsEncodingOf, OnNotAValue, IsNumberWith};
 ghost use Rattle.amqp_json.specs.Json.{json};
 ghost use Rattle.amqp_json.specs.Reading.{value_of};
 
@@ -17,8 +17,8 @@ use crate::reading::long_long_int;
 pub(crate) fn put_integer(out: &mut Vec<u8>, text: &str) -> Result<(), Stop>
     ensures ok { OnOk result (PutsEncodingOf (λ v. option_map number (number_of text.now) ≡ Some (json v))
         out.old.items out.new.items) }
-    ensures refused { IfErr result (λ e. IsRefusal e (IsNumberWith (λ d. value_of d ≡ None) text.now)) }
-    ensures kept { IfErr result (λ e. IsRefusal e (out.new.items ≡ out.old.items)) }
+    ensures refused { IfErr result (λ e. OnNotAValue e (IsNumberWith (λ d. value_of d ≡ None) text.now)) }
+    ensures kept { IfErr result (λ e. OnNotAValue e (out.new.items ≡ out.old.items)) }
 {
     let Some(n) = integer(text) else {
         return Err(number_refusal(text));
@@ -29,7 +29,7 @@ pub(crate) fn put_integer(out: &mut Vec<u8>, text: &str) -> Result<(), Stop>
 // Why a number without a type's name isn't put.
 #[inline(never)]
 fn number_refusal(text: &str) -> Stop
-    ensures { IsRefusal result (IsNumberWith (λ d. value_of d ≡ None) text.now) }
+    ensures { OnNotAValue result (IsNumberWith (λ d. value_of d ≡ None) text.now) }
 {
     let Some(n) = number(text) else {
         return Stop::NotHere;

@@ -1,6 +1,6 @@
 //! Bytes of encodings, put after others.
 
-ghost use Rattle.std.specs.Prelude.{◌≡◌, ◌+◌, ◌-◌, ◌<◌, ◌≤◌, ◌^◌, ◌∷◌, [], ◌++◌, length, take, drop, OnOk, IfErr};
+ghost use Rattle.std.specs.Prelude.{◌≡◌, ◌+◌, ◌-◌, ◌<◌, ◌^◌, ◌∷◌, [], ◌++◌, length, take, drop, OnOk, IfErr};
 ghost use Rattle.std.specs.Int.{w8, w16, w32, w64, to_be_bytes, cast_unsigned};
 ghost use Rattle.amqp_value_core.specs.declared.types.amqp_type.AMQPType.TheVariants as amqp;
 ghost use Rattle.amqp_value_core.specs.Grammar.{short_field};
@@ -8,7 +8,7 @@ ghost use Rattle.amqp_value_core.specs.Strings.{IsShort};
 ghost use Rattle.amqp_value_core.specs.Texts.{text};
 ghost use Rattle.amqp_value_core.specs.Values.{Tree, scalar, boolean, number, decimal, void, long, octets};
 ghost use Rattle.amqp_in_place.specs.Refs.{Denotes};
-ghost use Rattle.amqp_json.specs.Encodes.{IsTextPut, IsRefusal};
+ghost use Rattle.amqp_json.specs.Encodes.{IsTextPut, OnNotAValue};
 ghost use Rattle.hex.specs.Hex.{IsBytes};
 
 use super::Stop;
@@ -17,7 +17,7 @@ use amqp_in_place::ValueRef;
 #[inline(always)]
 fn put_byte(out: &mut Vec<u8>, byte: u8) -> Result<(), Stop>
     ensures ok { OnOk result (out.new.items ≡ out.old.items ++ byte ∷ []) }
-    ensures refused { IfErr result (λ e. IsRefusal e ⊥) }
+    ensures refused { IfErr result (λ e. OnNotAValue e ⊥) }
 {
     Ok(out.extend_from_slice(&[byte])?)
 }
@@ -26,7 +26,7 @@ fn put_byte(out: &mut Vec<u8>, byte: u8) -> Result<(), Stop>
 #[inline(always)]
 pub(crate) fn put_void(out: &mut Vec<u8>) -> Result<(), Stop>
     ensures ok { OnOk result (out.new.items ≡ out.old.items ++ text (scalar void)) }
-    ensures refused { IfErr result (λ e. IsRefusal e ⊥) }
+    ensures refused { IfErr result (λ e. OnNotAValue e ⊥) }
 {
     put_byte(out, b'V')
 }
@@ -34,7 +34,7 @@ pub(crate) fn put_void(out: &mut Vec<u8>) -> Result<(), Stop>
 #[inline(always)]
 pub(crate) fn put_boolean(out: &mut Vec<u8>, b: bool) -> Result<(), Stop>
     ensures ok { OnOk result (out.new.items ≡ out.old.items ++ text (scalar (boolean b))) }
-    ensures refused { IfErr result (λ e. IsRefusal e ⊥) }
+    ensures refused { IfErr result (λ e. OnNotAValue e ⊥) }
 {
     Ok(out.extend_from_slice(&[b't', u8::from(b)])?)
 }
@@ -43,7 +43,7 @@ pub(crate) fn put_boolean(out: &mut Vec<u8>, b: bool) -> Result<(), Stop>
 pub(crate) fn put_long_long_int(out: &mut Vec<u8>, n: i64) -> Result<(), Stop>
     ensures ok { OnOk result (out.new.items
         ≡ out.old.items ++ text (scalar (number amqp.LongLongInt (cast_unsigned w64 n)))) }
-    ensures refused { IfErr result (λ e. IsRefusal e ⊥) }
+    ensures refused { IfErr result (λ e. OnNotAValue e ⊥) }
 {
     put_eight(out, b'l', n.to_be_bytes())
 }
@@ -52,7 +52,7 @@ pub(crate) fn put_long_long_int(out: &mut Vec<u8>, n: i64) -> Result<(), Stop>
 #[inline(always)]
 fn put_length(out: &mut Vec<u8>, tag: u8, n: u32) -> Result<(), Stop>
     ensures ok { OnOk result (out.new.items ≡ out.old.items ++ tag ∷ to_be_bytes w32 n) }
-    ensures refused { IfErr result (λ e. IsRefusal e ⊥) }
+    ensures refused { IfErr result (λ e. OnNotAValue e ⊥) }
 {
     put_four(out, tag, n.to_be_bytes())
 }
@@ -62,7 +62,7 @@ fn put_length(out: &mut Vec<u8>, tag: u8, n: u32) -> Result<(), Stop>
 fn put_counted(out: &mut Vec<u8>, tag: u8, bytes: &[u8]) -> Result<(), Stop>
     ensures ok { OnOk result (out.new.items ≡ out.old.items ++ tag ∷ (to_be_bytes w32 (length bytes.now) ++ bytes.now)) }
     ensures fits { OnOk result (length bytes.now < 2 ^ 32) }
-    ensures refused { IfErr result (λ e. IsRefusal e ⊥) }
+    ensures refused { IfErr result (λ e. OnNotAValue e ⊥) }
 {
     let Ok(n) = u32::try_from(bytes.len()) else {
         return Err(Stop::NotHere);
@@ -75,7 +75,7 @@ fn put_counted(out: &mut Vec<u8>, tag: u8, bytes: &[u8]) -> Result<(), Stop>
 #[inline(always)]
 pub(crate) fn put_text(out: &mut Vec<u8>, s: &str) -> Result<(), Stop>
     ensures ok { OnOk result (IsTextPut (long s.now) out.old.items out.new.items × IsBytes s.now) }
-    ensures refused { IfErr result (λ e. IsRefusal e ⊥) }
+    ensures refused { IfErr result (λ e. OnNotAValue e ⊥) }
 {
     put_counted(out, b'S', s.as_bytes())
 }
@@ -84,7 +84,7 @@ pub(crate) fn put_text(out: &mut Vec<u8>, s: &str) -> Result<(), Stop>
 #[inline(always)]
 pub(crate) fn put_long_string(out: &mut Vec<u8>, bytes: &[u8]) -> Result<(), Stop>
     ensures ok { OnOk result (IsTextPut (long bytes.now) out.old.items out.new.items) }
-    ensures refused { IfErr result (λ e. IsRefusal e ⊥) }
+    ensures refused { IfErr result (λ e. OnNotAValue e ⊥) }
 {
     put_counted(out, b'S', bytes)
 }
@@ -93,7 +93,7 @@ pub(crate) fn put_long_string(out: &mut Vec<u8>, bytes: &[u8]) -> Result<(), Sto
 #[inline(always)]
 pub(crate) fn put_byte_array(out: &mut Vec<u8>, bytes: &[u8]) -> Result<(), Stop>
     ensures ok { OnOk result (IsTextPut (octets bytes.now) out.old.items out.new.items) }
-    ensures refused { IfErr result (λ e. IsRefusal e ⊥) }
+    ensures refused { IfErr result (λ e. OnNotAValue e ⊥) }
 {
     put_counted(out, b'x', bytes)
 }
@@ -103,10 +103,10 @@ pub(crate) fn put_byte_array(out: &mut Vec<u8>, bytes: &[u8]) -> Result<(), Stop
 pub(crate) fn put_key(out: &mut Vec<u8>, key: &str) -> Result<(), Stop>
     ensures ok { OnOk result (out.new.items ≡ out.old.items ++ short_field key.now) }
     ensures short { OnOk result (IsShort key.now) }
-    ensures refused { IfErr result (λ e. IsRefusal e (255 < length key.now)) }
+    ensures refused { IfErr result (λ e. OnNotAValue e ⊥) }
 {
     let Ok(n) = u8::try_from(key.len()) else {
-        return Err(Stop::NotAValue);
+        return Err(Stop::NotHere);
     };
     put_byte(out, n)?;
     Ok(out.extend_from_slice(key.as_bytes())?)
@@ -116,7 +116,7 @@ pub(crate) fn put_key(out: &mut Vec<u8>, key: &str) -> Result<(), Stop>
 #[inline(always)]
 pub(crate) fn put_head(out: &mut Vec<u8>, tag: u8) -> Result<(), Stop>
     ensures ok { OnOk result (out.new.items ≡ out.old.items ++ tag ∷ 0 ∷ 0 ∷ 0 ∷ 0 ∷ []) }
-    ensures refused { IfErr result (λ e. IsRefusal e ⊥) }
+    ensures refused { IfErr result (λ e. OnNotAValue e ⊥) }
 {
     Ok(out.extend_from_slice(&[tag, 0, 0, 0, 0])?)
 }
@@ -127,7 +127,7 @@ pub(crate) fn fill_length(out: &mut Vec<u8>, at: usize) -> Result<(), Stop>
     ensures ok { OnOk result ((out.new.items ≡ take at out.old.items
         ++ (to_be_bytes w32 (length out.old.items - at - 4) ++ drop (at + 4) out.old.items))
         × (length out.old.items - at - 4 < 2 ^ 32)) }
-    ensures refused { IfErr result (λ e. IsRefusal e ⊥) }
+    ensures refused { IfErr result (λ e. OnNotAValue e ⊥) }
 {
     if out.len() < 4 || out.len() - 4 < at {
         return Err(Stop::NotHere);
@@ -143,7 +143,7 @@ pub(crate) fn fill_length(out: &mut Vec<u8>, at: usize) -> Result<(), Stop>
 #[inline(always)]
 fn put_one(out: &mut Vec<u8>, tag: u8, payload: [u8; 1]) -> Result<(), Stop>
     ensures ok { OnOk result (out.new.items ≡ out.old.items ++ tag ∷ payload) }
-    ensures refused { IfErr result (λ e. IsRefusal e ⊥) }
+    ensures refused { IfErr result (λ e. OnNotAValue e ⊥) }
 {
     let [a] = payload;
     Ok(out.extend_from_slice(&[tag, a])?)
@@ -153,7 +153,7 @@ fn put_one(out: &mut Vec<u8>, tag: u8, payload: [u8; 1]) -> Result<(), Stop>
 #[inline(always)]
 fn put_two(out: &mut Vec<u8>, tag: u8, payload: [u8; 2]) -> Result<(), Stop>
     ensures ok { OnOk result (out.new.items ≡ out.old.items ++ tag ∷ payload) }
-    ensures refused { IfErr result (λ e. IsRefusal e ⊥) }
+    ensures refused { IfErr result (λ e. OnNotAValue e ⊥) }
 {
     let [a, b] = payload;
     Ok(out.extend_from_slice(&[tag, a, b])?)
@@ -163,7 +163,7 @@ fn put_two(out: &mut Vec<u8>, tag: u8, payload: [u8; 2]) -> Result<(), Stop>
 #[inline(always)]
 fn put_four(out: &mut Vec<u8>, tag: u8, payload: [u8; 4]) -> Result<(), Stop>
     ensures ok { OnOk result (out.new.items ≡ out.old.items ++ tag ∷ payload) }
-    ensures refused { IfErr result (λ e. IsRefusal e ⊥) }
+    ensures refused { IfErr result (λ e. OnNotAValue e ⊥) }
 {
     let [a, b, c, d] = payload;
     Ok(out.extend_from_slice(&[tag, a, b, c, d])?)
@@ -173,7 +173,7 @@ fn put_four(out: &mut Vec<u8>, tag: u8, payload: [u8; 4]) -> Result<(), Stop>
 #[inline(always)]
 fn put_eight(out: &mut Vec<u8>, tag: u8, payload: [u8; 8]) -> Result<(), Stop>
     ensures ok { OnOk result (out.new.items ≡ out.old.items ++ tag ∷ payload) }
-    ensures refused { IfErr result (λ e. IsRefusal e ⊥) }
+    ensures refused { IfErr result (λ e. OnNotAValue e ⊥) }
 {
     let [a, b, c, d, e, f, g, h] = payload;
     Ok(out.extend_from_slice(&[tag, a, b, c, d, e, f, g, h])?)
@@ -182,7 +182,7 @@ fn put_eight(out: &mut Vec<u8>, tag: u8, payload: [u8; 8]) -> Result<(), Stop>
 #[inline(always)]
 pub(crate) fn put_short_short_int(out: &mut Vec<u8>, n: i8) -> Result<(), Stop>
     ensures ok { OnOk result (out.new.items ≡ out.old.items ++ text (scalar (number amqp.ShortShortInt (cast_unsigned w8 n)))) }
-    ensures refused { IfErr result (λ e. IsRefusal e ⊥) }
+    ensures refused { IfErr result (λ e. OnNotAValue e ⊥) }
 {
     put_one(out, b'b', n.to_be_bytes())
 }
@@ -190,7 +190,7 @@ pub(crate) fn put_short_short_int(out: &mut Vec<u8>, n: i8) -> Result<(), Stop>
 #[inline(always)]
 pub(crate) fn put_short_short_uint(out: &mut Vec<u8>, n: u8) -> Result<(), Stop>
     ensures ok { OnOk result (out.new.items ≡ out.old.items ++ text (scalar (number amqp.ShortShortUInt n))) }
-    ensures refused { IfErr result (λ e. IsRefusal e ⊥) }
+    ensures refused { IfErr result (λ e. OnNotAValue e ⊥) }
 {
     put_one(out, b'B', n.to_be_bytes())
 }
@@ -198,7 +198,7 @@ pub(crate) fn put_short_short_uint(out: &mut Vec<u8>, n: u8) -> Result<(), Stop>
 #[inline(always)]
 pub(crate) fn put_short_int(out: &mut Vec<u8>, n: i16) -> Result<(), Stop>
     ensures ok { OnOk result (out.new.items ≡ out.old.items ++ text (scalar (number amqp.ShortInt (cast_unsigned w16 n)))) }
-    ensures refused { IfErr result (λ e. IsRefusal e ⊥) }
+    ensures refused { IfErr result (λ e. OnNotAValue e ⊥) }
 {
     put_two(out, b's', n.to_be_bytes())
 }
@@ -206,7 +206,7 @@ pub(crate) fn put_short_int(out: &mut Vec<u8>, n: i16) -> Result<(), Stop>
 #[inline(always)]
 pub(crate) fn put_short_uint(out: &mut Vec<u8>, n: u16) -> Result<(), Stop>
     ensures ok { OnOk result (out.new.items ≡ out.old.items ++ text (scalar (number amqp.ShortUInt n))) }
-    ensures refused { IfErr result (λ e. IsRefusal e ⊥) }
+    ensures refused { IfErr result (λ e. OnNotAValue e ⊥) }
 {
     put_two(out, b'u', n.to_be_bytes())
 }
@@ -214,7 +214,7 @@ pub(crate) fn put_short_uint(out: &mut Vec<u8>, n: u16) -> Result<(), Stop>
 #[inline(always)]
 pub(crate) fn put_long_int(out: &mut Vec<u8>, n: i32) -> Result<(), Stop>
     ensures ok { OnOk result (out.new.items ≡ out.old.items ++ text (scalar (number amqp.LongInt (cast_unsigned w32 n)))) }
-    ensures refused { IfErr result (λ e. IsRefusal e ⊥) }
+    ensures refused { IfErr result (λ e. OnNotAValue e ⊥) }
 {
     put_four(out, b'I', n.to_be_bytes())
 }
@@ -222,7 +222,7 @@ pub(crate) fn put_long_int(out: &mut Vec<u8>, n: i32) -> Result<(), Stop>
 #[inline(always)]
 pub(crate) fn put_long_uint(out: &mut Vec<u8>, n: u32) -> Result<(), Stop>
     ensures ok { OnOk result (out.new.items ≡ out.old.items ++ text (scalar (number amqp.LongUInt n))) }
-    ensures refused { IfErr result (λ e. IsRefusal e ⊥) }
+    ensures refused { IfErr result (λ e. OnNotAValue e ⊥) }
 {
     put_four(out, b'i', n.to_be_bytes())
 }
@@ -230,7 +230,7 @@ pub(crate) fn put_long_uint(out: &mut Vec<u8>, n: u32) -> Result<(), Stop>
 #[inline(always)]
 pub(crate) fn put_timestamp(out: &mut Vec<u8>, n: u64) -> Result<(), Stop>
     ensures ok { OnOk result (out.new.items ≡ out.old.items ++ text (scalar (number amqp.Timestamp n))) }
-    ensures refused { IfErr result (λ e. IsRefusal e ⊥) }
+    ensures refused { IfErr result (λ e. OnNotAValue e ⊥) }
 {
     put_eight(out, b'T', n.to_be_bytes())
 }
@@ -239,7 +239,7 @@ pub(crate) fn put_timestamp(out: &mut Vec<u8>, n: u64) -> Result<(), Stop>
 #[inline(always)]
 pub(crate) fn put_float(out: &mut Vec<u8>, bits: u32) -> Result<(), Stop>
     ensures ok { OnOk result (out.new.items ≡ out.old.items ++ text (scalar (number amqp.Float bits))) }
-    ensures refused { IfErr result (λ e. IsRefusal e ⊥) }
+    ensures refused { IfErr result (λ e. OnNotAValue e ⊥) }
 {
     put_four(out, b'f', bits.to_be_bytes())
 }
@@ -248,7 +248,7 @@ pub(crate) fn put_float(out: &mut Vec<u8>, bits: u32) -> Result<(), Stop>
 #[inline(always)]
 pub(crate) fn put_double(out: &mut Vec<u8>, bits: u64) -> Result<(), Stop>
     ensures ok { OnOk result (out.new.items ≡ out.old.items ++ text (scalar (number amqp.Double bits))) }
-    ensures refused { IfErr result (λ e. IsRefusal e ⊥) }
+    ensures refused { IfErr result (λ e. OnNotAValue e ⊥) }
 {
     put_eight(out, b'd', bits.to_be_bytes())
 }
@@ -257,7 +257,7 @@ pub(crate) fn put_double(out: &mut Vec<u8>, bits: u64) -> Result<(), Stop>
 #[inline(always)]
 pub(crate) fn put_decimal(out: &mut Vec<u8>, scale: u8, value: u32) -> Result<(), Stop>
     ensures ok { OnOk result (out.new.items ≡ out.old.items ++ text (scalar (decimal scale value))) }
-    ensures refused { IfErr result (λ e. IsRefusal e ⊥) }
+    ensures refused { IfErr result (λ e. OnNotAValue e ⊥) }
 {
     let [a, b, c, d] = value.to_be_bytes();
     Ok(out.extend_from_slice(&[b'D', scale, a, b, c, d])?)

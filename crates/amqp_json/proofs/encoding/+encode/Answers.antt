@@ -19,7 +19,7 @@ use Rattle.serde_json.specs.Read.{of_json, of_items, converted, number_of}
 use Rattle.amqp_value_core.specs.declared.types.amqp_type.AMQPType.TheVariants as amqp
 use Rattle.amqp_value_core.specs.Values as values
 use Rattle.amqp_value_core.specs.Values.{Tree, Trees, Entries, no_entries, scalar, boolean, void, long}
-use Rattle.amqp_json.specs.Encodes.{AreEntriesRead, IsLast, IsNamedRead, IsNoneUnder, IsPending, PutsEncodingOf, PutsFirst, PutsPairs, EncodesNone, Extends, IsRefusal, IsTableOf}
+use Rattle.amqp_json.specs.Encodes.{AreEntriesRead, IsLast, IsNamedRead, IsNoneUnder, IsPending, PutsEncodingOf, PutsFirst, PutsPairs, EncodesNone, Extends, OnNotAValue, IsTableOf}
 use Rattle.amqp_json.proofs.Refused.{IsPutToken, put_unnamed, plain_unnamed}
 use Rattle.amqp_json.specs.Names.{type_named}
 use Rattle.amqp_json.specs.declared.encoding.last.Last.{Last}
@@ -138,7 +138,7 @@ put_typed-returns-in-Err-NotAValue-clause-refused t c =
     let new = c.put_narrow-put.new.out.items in
     let d = number (of_integer z) in
     let r = c.put_narrow-put.result in
-    let refused = subst (λ x. IfErr r (λ e. IsRefusal e (IsNoneUnder type (number (of_integer x))))) (to_z-of_z w64 z last.fits) c.put_narrow-put.ensures.refused in
+    let refused = subst (λ x. IfErr r (λ e. OnNotAValue e (IsNoneUnder type (number (of_integer x))))) (to_z-of_z w64 z last.fits) c.put_narrow-put.ensures.refused in
     refused_weaker r (IsNoneUnder type d × (new ≡ old)) (type_named k ≡ Some type → EncodesNone (λ e. IsObject e p (key k ∷ s) rest) old new)
     (λ (none, same) typed. no_sole p type d (key k ∷ s) rest old new none (subst (λ (ts : List Token). IsObject (under type d) p (key k ∷ s) ts) (sym c.set_fault.ensures) (last_integer_object c.args.depth k type z s end typed last)) (same_extends old new same))
     (both r _ _ refused c.put_narrow-put.ensures.kept)
@@ -184,7 +184,7 @@ put_items-returns-in-Err-NotAValue-clause-refused t c =
     let first : l.reader ≡ Token.begin_object ∷ s = search rules in
     let r = c.put_inner_object.new.reader in
     let result : c.put_inner_object.result ≡ Err NotAValue = search rules in
-    let none = subst (λ ts. EncodesNone (λ d. converted of_json (p ts) ≡ Some (d, r)) l.out.items part) (sym first) (when_err c.put_inner_object.result NotAValue (λ e. IsRefusal e (EncodesNone (λ d. converted of_json (p (Token.begin_object ∷ s)) ≡ Some (d, r)) l.out.items part)) result c.put_inner_object.ensures.refused) in
+    let none = subst (λ ts. EncodesNone (λ d. converted of_json (p ts) ≡ Some (d, r)) l.out.items part) (sym first) (when_err c.put_inner_object.result NotAValue (λ e. OnNotAValue e (EncodesNone (λ d. converted of_json (p (Token.begin_object ∷ s)) ≡ Some (d, r)) l.out.items part)) result c.put_inner_object.ensures.refused) in
     let less = taken c.args.depth l.reader r none.0 none.1 in
     refusal_weaker c.after_item.result _ _ (no_array p c.args.reader.now l.reader r c.after_item.new.reader c.args.out.now.items l.out.items part c.after_item.new.out.items l.invariant.0 (ap after_end_array first) less none) c.after_item.ensures
 
@@ -196,7 +196,7 @@ put_items-returns-in-Err-NotAValue-put_token-clause-refused t c =
     let first : (l.reader ≡ token_of c.in-Some.token ∷ c.next_item.new.self) × (after_end_array l.reader ≡ None) = search rules in
     let r = c.put_token.new.reader in
     let result : c.put_token.result ≡ Err NotAValue = search rules in
-    let none = subst (λ ts. EncodesNone (λ d. converted of_json (p ts) ≡ Some (d, r)) l.out.items part) (sym first.0) (when_err c.put_token.result NotAValue (λ e. IsRefusal e (EncodesNone (λ d. converted of_json (p (token_of c.in-Some.token ∷ c.next_item.new.self)) ≡ Some (d, r)) l.out.items part)) result c.put_token.ensures.refused) in
+    let none = subst (λ ts. EncodesNone (λ d. converted of_json (p ts) ≡ Some (d, r)) l.out.items part) (sym first.0) (when_err c.put_token.result NotAValue (λ e. OnNotAValue e (EncodesNone (λ d. converted of_json (p (token_of c.in-Some.token ∷ c.next_item.new.self)) ≡ Some (d, r)) l.out.items part)) result c.put_token.ensures.refused) in
     let less = taken c.args.depth l.reader r none.0 none.1 in
     refusal_weaker c.after_item-in-Err-NotAValue-put_token.result _ _ (no_array p c.args.reader.now l.reader r c.after_item-in-Err-NotAValue-put_token.new.reader c.args.out.now.items l.out.items part c.after_item-in-Err-NotAValue-put_token.new.out.items l.invariant.0 first.1 less none) c.after_item-in-Err-NotAValue-put_token.ensures
 
@@ -225,7 +225,7 @@ after_item-items-preserved t c =
     let first : (l.reader ≡ token_of k ∷ s) × (after_end_array l.reader ≡ None) = search rules in
     let r = c.put_token.new.reader in
     let result : c.put_token.result ≡ Err NotAValue = search rules in
-    let none = when_err c.put_token.result NotAValue (λ e. IsRefusal e (EncodesNone (λ d. converted of_json (p (token_of k ∷ s)) ≡ Some (d, r)) l.out.items c.put_token.new.out.items)) result c.put_token.ensures.refused in
+    let none = when_err c.put_token.result NotAValue (λ e. OnNotAValue e (EncodesNone (λ d. converted of_json (p (token_of k ∷ s)) ≡ Some (d, r)) l.out.items c.put_token.new.out.items)) result c.put_token.ensures.refused in
     let read : converted of_json (p l.reader) ≡ Some (none.0, r) = ap (λ ts. converted of_json (p ts)) first.0 ∙ none.1 in
     (item_passed p c.args.reader.now l.reader r none.0 l.invariant.0 first.1 read (taken c.args.depth l.reader r none.0 read), extends_after l.invariant.1.0 c.args.out.now.items l.out.items c.put_token.new.out.items l.invariant.1.1 none.3)
 
@@ -239,7 +239,7 @@ after_item-items-smaller t c =
     let first = both.0 in
     let r = c.put_token.new.reader in
     let result : c.put_token.result ≡ Err NotAValue = search rules in
-    let none = when_err c.put_token.result NotAValue (λ e. IsRefusal e (EncodesNone (λ d. converted of_json (p (token_of k ∷ s)) ≡ Some (d, r)) l.out.items c.put_token.new.out.items)) result c.put_token.ensures.refused in
+    let none = when_err c.put_token.result NotAValue (λ e. OnNotAValue e (EncodesNone (λ d. converted of_json (p (token_of k ∷ s)) ≡ Some (d, r)) l.out.items c.put_token.new.out.items)) result c.put_token.ensures.refused in
     taken c.args.depth l.reader r none.0 (ap (λ ts. converted of_json (p ts)) first ∙ none.1)
 
 pub after_item-returns-in-Ok-None : goal.after_item-returns-in-Ok-None
@@ -772,11 +772,10 @@ put_last-returns-in-Ok-put_token-clause-ok t c =
     let opened = ap (λ ts. converted of_json (value depth ts)) first in
     let is_put : IsPutToken type (token_of k) = search rules in
     let head = (old ++ 70 ∷ 0 ∷ 0 ∷ 0 ∷ 0 ∷ []) ++ short_field c.args.name.now in
-    let keyed : c.put_key.result ≡ Ok tt = search rules in
     let result : c.put_token.result ≡ Ok tt = search rules in
-    let at : c.put_key.new.out.items ≡ head = on_ok c.put_key.result tt _ keyed c.put_key.ensures.ok ∙ ap (λ b. b ++ short_field c.args.name.now) c.in_ok-put_head-in_default.ensures.ok in
+    let at : c.put_key.new.out.items ≡ head = c.in_ok-put_key-in_default.ensures.ok ∙ ap (λ b. b ++ short_field c.args.name.now) c.in_ok-put_head-in_default.ensures.ok in
     let put = subst (λ (b : List ℕ). PutsEncodingOf (λ v. converted of_json (value depth (token_of k ∷ s)) ≡ Some (json v, r)) b c.put_token.new.out.items) at (on_ok c.put_token.result tt _ result c.put_token.ensures.ok) in (
-      on_ok c.put_key.result tt _ keyed c.put_key.ensures.short,
+      c.in_ok-put_key-in_default.ensures.short,
       puts_weaker (λ v. converted of_json (value depth (token_of k ∷ s)) ≡ Some (json v, r)) (λ v. (converted of_json (value depth c.args.reader.now) ≡ Some (json v, r)) × IsNoneUnder type (json v)) head c.put_token.new.out.items
           (λ v e. (opened ∙ e, put_unnamed type depth (token_of k) s r (json v) is_put e)) put,
     )
@@ -863,12 +862,11 @@ put_turns-returns-in-Err-NotAValue-clause-ok t c =
     let new = c.put_bad_first.new.out.items in
     let len : length old ≡ c.len-start.result = grind arith in
     let other : j ≢ k = search rules in
-    let short : length k ≤ 255 = search rules in
     let next : read_key r ≡ Some (Some j, u) = after_last ∙ ap (λ (o : Option (Bor (List ℕ))). Some (option_map (λ b. b.now) o, u)) c.in-Some-2.is in
     let here = subst (λ (b : List ℕ). IsLast c.in_ok-last.last c.args.amqp_type k read r b now) l.invariant.4 last.ok in
     let result : c.put_first.result ≡ Err NotAValue = search rules in
-    let none = when_err c.put_first.result NotAValue _ result c.put_first.ensures.refused c.args.amqp_type read r old len short here in
-    let kept = when_err c.put_first.result NotAValue _ result c.put_first.ensures.kept short in
+    let none = when_err c.put_first.result NotAValue _ result c.put_first.ensures.refused c.args.amqp_type read r old len here in
+    let kept = when_err c.put_first.result NotAValue _ result c.put_first.ensures.kept in
     let was = last_after c.in_ok-last.last c.args.amqp_type k read r old now here in
     let leads = leads_as p no_members (key k ∷ s) (member k none.0 no_members) r (key j ∷ u) (past_turn p k s l.invariant.0 l.reader r none.0 l.invariant.1 l.invariant.2 none.1 last.shorter) (next_is r (Some j) u next) in
     bad_first p k none.0 (key k ∷ s) (key j ∷ u) rest old new leads (c.in_ok-put_bad_first-in-Err-NotAValue.ensures.ok old none.0 len (extends_after was.0 old now mid was.1 kept) (no_value_entry k none.0 none.2) other)
@@ -892,12 +890,11 @@ put_turns-returns-in_err-put_bad_first-in-Err-NotAValue-clause-refused t c =
     let new = c.put_bad_first.new.out.items in
     let len : length old ≡ c.len-start.result = grind arith in
     let other : j ≢ k = search rules in
-    let short : length k ≤ 255 = search rules in
     let next : read_key r ≡ Some (Some j, u) = after_last ∙ ap (λ (o : Option (Bor (List ℕ))). Some (option_map (λ b. b.now) o, u)) c.in-Some-2.is in
     let here = subst (λ (b : List ℕ). IsLast c.in_ok-last.last c.args.amqp_type k read r b now) l.invariant.4 last.ok in
     let result : c.put_first.result ≡ Err NotAValue = search rules in
-    let none = when_err c.put_first.result NotAValue _ result c.put_first.ensures.refused c.args.amqp_type read r old len short here in
-    let kept = when_err c.put_first.result NotAValue _ result c.put_first.ensures.kept short in
+    let none = when_err c.put_first.result NotAValue _ result c.put_first.ensures.refused c.args.amqp_type read r old len here in
+    let kept = when_err c.put_first.result NotAValue _ result c.put_first.ensures.kept in
     let was = last_after c.in_ok-last.last c.args.amqp_type k read r old now here in
     let leads = leads_as p no_members (key k ∷ s) (member k none.0 no_members) r (key j ∷ u) (past_turn p k s l.invariant.0 l.reader r none.0 l.invariant.1 l.invariant.2 none.1 last.shorter) (next_is r (Some j) u next) in
     let refused = refusal_weaker c.in_err-put_bad_first-in-Err-NotAValue.field-0.0 _ (IsNoTable p no_members (key k ∷ s) rest × Extends old new)
@@ -973,9 +970,8 @@ put_last-returns-in-Err-NotAValue-put_token-clause-ok t c =
     let first : c.args.reader.now ≡ token_of k ∷ s = grind arith in
     let is_put : IsPutToken type (token_of k) = search rules in
     let head = (old ++ 70 ∷ 0 ∷ 0 ∷ 0 ∷ 0 ∷ []) ++ short_field c.args.name.now in
-    let keyed : c.put_key.result ≡ Ok tt = search rules in
     let result : c.put_token.result ≡ Err NotAValue = search rules in
-    let at : c.put_key.new.out.items ≡ head = on_ok c.put_key.result tt _ keyed c.put_key.ensures.ok ∙ ap (λ b. b ++ short_field c.args.name.now) c.in_ok-put_head-in_default.ensures.ok in
+    let at : c.put_key.new.out.items ≡ head = c.in_ok-put_key-in_default.ensures.ok ∙ ap (λ b. b ++ short_field c.args.name.now) c.in_ok-put_head-in_default.ensures.ok in
     let none = when_err c.put_token.result NotAValue _ result c.put_token.ensures.refused in
     let more = extends_after (short_field c.args.name.now) (old ++ 70 ∷ 0 ∷ 0 ∷ 0 ∷ 0 ∷ []) c.put_key.new.out.items c.put_token.new.out.items at none.3 in
     (none.0, ap (λ ts. converted of_json (value depth ts)) first ∙ none.1, none.2.0, put_unnamed type depth (token_of k) s r none.0 is_put none.1, extends_after (70 ∷ 0 ∷ 0 ∷ 0 ∷ 0 ∷ []) old (old ++ 70 ∷ 0 ∷ 0 ∷ 0 ∷ 0 ∷ []) c.put_token.new.out.items refl more)

@@ -6,7 +6,7 @@ use Rattle.serde_json.specs.Data.{Data}
 use Rattle.serde_json.specs.Read.{converted, of_json}
 use Rattle.amqp_value_core.specs.Grammar.{Wire}
 use Rattle.amqp_json.specs.Json.{json}
-use Rattle.amqp_json.specs.Encodes.{IsRefusal}
+use Rattle.amqp_json.specs.Encodes.{OnNotAValue}
 use Rattle.amqp_json.specs.Tokens.{IsUnread}
 use Rattle.amqp_json.specs.declared.encoding.Stop.TheVariants.{NotAValue}
 use Rattle.amqp_json.proofs.Ones.{of_none}
@@ -24,6 +24,6 @@ returns-in-Ok-clause-ok c =
 pub returns-clause-refused : goal.returns-clause-refused
 returns-clause-refused c =
     let result : c.encoding_of_tokens.result ≡ Err NotAValue = search rules in
-    let none = when_err c.encoding_of_tokens.result NotAValue (λ e. IsRefusal e ((d : Data) × (converted of_json (value 127 c.new-reader.result) ≡ Some (d, [])) × IsUnread d)) result c.encoding_of_tokens.ensures.refused in
+    let none = when_err c.encoding_of_tokens.result NotAValue (λ e. OnNotAValue e ((d : Data) × (converted of_json (value 127 c.new-reader.result) ≡ Some (d, [])) × IsUnread d)) result c.encoding_of_tokens.ensures.refused in
     let read = ap (λ (ts : List Token). converted of_json (value 127 ts)) (sym c.new-reader.ensures) ∙ none.1 in
     (none.0, whole_read (value 127 (tokens c.args.text.now)) none.0 read, of_none none.0 none.2.0)

@@ -2,7 +2,7 @@ use Rattle.std.proofs.Common.{◌≡◌, ◌<◌, List, ℕ, None, length, sym, 
 use Rattle.std.specs.Prelude.{if◌then◌else◌}
 use Rattle.serde_json.specs.Data.{Data}
 use Rattle.amqp_value_core.specs.declared.types.amqp_type.AMQPType.TheVariants as types
-use Rattle.amqp_json.specs.Encodes.{IsPending, IsKind, IsRefusal}
+use Rattle.amqp_json.specs.Encodes.{IsPending, IsKind, OnNotAValue}
 use Rattle.amqp_json.specs.Json.{json, under}
 use Rattle.amqp_json.specs.Reading.{value_of}
 use Rattle.amqp_json.proofs.Encodes.{puts_weaker}
@@ -35,7 +35,7 @@ returns-in_err-put_kind-clause-refused c =
     let o = c.args.object in
     let now = c.args.out.now.items in
     let odd = c.is_odd.result in
-    let none : IsRefusal c.in_err-put_kind.field-0.0 ((d : Data) (old : List ℕ) → length old ≡ c.args.start → IsPending o d old now → value_of d ≡ None) =
+    let none : OnNotAValue c.in_err-put_kind.field-0.0 ((d : Data) (old : List ℕ) → length old ≡ c.args.start → IsPending o d old now → value_of d ≡ None) =
     refusal_weaker c.in_err-put_kind.field-0.0
     ((d : Data) (old : List ℕ) → length old ≡ c.args.start → IsKind o.kind d old now → value_of (if odd then under types.FieldTable d else d) ≡ None)
     ((d : Data) (old : List ℕ) → length old ≡ c.args.start → IsPending o d old now → value_of d ≡ None)
