@@ -96,7 +96,7 @@ TEXTS: dict[str, str] = {
     "arrays": "[]", "arrays of a zero": "[0]", "arrays of five": "[0,0,0,0,0]",
     "arrays in arrays": "[" * 126 + "]" * 126, "objects in objects": '{"":' * 126 + "0" + "}" * 126,
     "objects in objects, of a letter": '{"a":' * 126 + "0" + "}" * 126, "spaces": " " * 99 + "0",
-    "objects in objects, after no value": '{"":-0,"":' * 125 + "0" + "}" * 125,
+    "objects in objects, first of no value": '{"":-0,"":' * 125 + "0" + "}" * 125,
 }  # fmt: skip
 # Values that are encoded as their tokens come, each in a way of its own: no tree is made of them, nor of what follows.
 FIRST: dict[str, str] = {
