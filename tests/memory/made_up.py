@@ -50,7 +50,7 @@ BY_NUMBER = {
     "let mut places = Vec::with_capacity(alloc, table.iter().count())?;": "pairs that are there",
     "let mut bytes = Vec::with_capacity(alloc, chunk.len())?;": "bytes that are there",
     "let mut out = Vec::with_capacity(alloc, bytes.len())?;": "the same",
-    "let mut out = Vec::with_capacity(alloc, text.len() / 8 + text.len() + 2)?;": "a text that is there, and an eighth more",
+    "let mut out = Vec::with_capacity(alloc, capacity)?;": "a text that is there, and an eighth more",
     "bytes.reserve(input.input_len())?;": "bytes that are there",
     "self.bytes.try_reserve(buf.len())?;": "the same",
     "let mut memory = vec![in alloc; 0u8; capacity]?;": "four times an encoding, or a text that fits the buffer",

@@ -606,10 +606,11 @@ extern "C" {
     ///
     /// The most bytes of memory that they hold at once, also while realloc has its old block and the new one, by what
     /// amqpv_measure_value counts: amqpv_canonical 145 for each byte, or 4 for each byte and 860 for each value;
-    /// amqpv_to_json 28 for each byte, and none if the keys of each table ascend; amqpv_from_json and
-    /// amqpv_from_json_or_problem 14 for each byte of the text, and 173 of one with a ShortString, of which they make a
-    /// tree; amqpv_first_warnings and amqpv_first_warnings_in_table 50 for each byte, or 39 for each value and 248 for
-    /// each level. What isn't read takes no more than these for each byte. An allocator adds some for each block.
+    /// amqpv_to_json 12 for each byte, and none if the keys of each table ascend; amqpv_from_json and
+    /// amqpv_from_json_or_problem 12 for each byte of the text and 36,000 more, and 173 for each byte of one with a
+    /// ShortString, of which they make a tree; amqpv_first_warnings and amqpv_first_warnings_in_table 50 for each byte,
+    /// or 39 for each value and 248 for each level. What isn't read takes no more than is stated by bytes alone. An
+    /// allocator adds some for each block.
     ///
     /// They never return AMQPV_INVALID. The buffer after the bytes that are written stays unchanged.
     ///
