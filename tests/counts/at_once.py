@@ -26,10 +26,9 @@ ODD = b"t\7"
 
 
 class Most(NamedTuple):
-    """The most memory of calls: by the bytes alone, and what is added; by bytes, values and levels; by those of a tree."""
+    """The most memory of calls: by the bytes alone; by bytes, values and levels; by the bytes of which a tree is made."""
 
     alone: int
-    added: int = 0
     byte: int = 0
     value: int = 0
     level: int = 0
@@ -39,22 +38,21 @@ class Most(NamedTuple):
         """What may be held of something with that many bytes and, if these are counted, values and levels."""
         if has_tree:
             return self.tree * counts[0]
-        by_bytes, for_each = self.alone * counts[0] + self.added, self[2:5]
-        by_all = sum(most * count for most, count in zip(for_each, counts))
-        return min(by_bytes, by_all) if any(for_each) and len(counts) > 1 else by_bytes
+        by_bytes, by_all = self.alone * counts[0], sum(most * count for most, count in zip(self[1:4], counts))
+        return min(by_bytes, by_all) if any(self[1:4]) and len(counts) > 1 else by_bytes
 
 
 FOR_EACH = r"(\d+) for each (byte|value|level)"
-OF_TREE = r" of the text and ([\d,]+) more, and (\d+) for each byte of one with a ShortString"
+OF_TREE = r" of the text, and (\d+) of one of which they make a tree"
 STATED = re.compile(rf"(amqpv_\w+(?: and amqpv_\w+)*) {FOR_EACH}((?:(?:, or | and ){FOR_EACH})*)(?:{OF_TREE})?")
 
 
 def stated() -> dict[tuple[str, ...], Most]:
     """What the header states, of each call or of several."""
     text, figures = " ".join(HEADER.read_text().replace("\n * ", " ").split()), {}
-    for names, alone, _, others, *_, added, of_tree in STATED.findall(text):
+    for names, alone, _, others, *_, of_tree in STATED.findall(text):
         more = {kind: int(figure) for figure, kind in re.findall(FOR_EACH, others)}
-        more |= {"added": int(added.replace(",", "")), "tree": int(of_tree)} if of_tree else {}
+        more |= {"tree": int(of_tree)} if of_tree else {}
         figures[tuple(names.split(" and "))] = Most(int(alone), **more)
     return figures
 
@@ -96,7 +94,6 @@ TEXTS: dict[str, str] = {
     "arrays": "[]", "arrays of a zero": "[0]", "arrays of five": "[0,0,0,0,0]",
     "arrays in arrays": "[" * 126 + "]" * 126, "objects in objects": '{"":' * 126 + "0" + "}" * 126,
     "objects in objects, of a letter": '{"a":' * 126 + "0" + "}" * 126, "spaces": " " * 99 + "0",
-    "objects in objects, first of no value": '{"":-0,"":' * 125 + "0" + "}" * 125,
 }  # fmt: skip
 # Values that are encoded as their tokens come, each in a way of its own: no tree is made of them, nor of what follows.
 FIRST: dict[str, str] = {
@@ -116,13 +113,6 @@ FIRST: dict[str, str] = {
 }  # fmt: skip
 # The JSON of no value.
 NO_VALUE = '{"Void":0}'
-# The JSON of a value that has no encoding.
-SHORT_STRING = '{"ShortString":""}'
-# What is before the last member of an object, which keeps until its end where others are that are none.
-BEFORE = {
-    "of no value": '{"":-0,"":', "of no value of a type": '{"LongInt":-0,"":',
-    "of sixteen of no value": "{" + "".join(f'"{chr(112 - n)}":-0,' for n in range(16)) + '"":',
-}  # fmt: skip
 # A decimal with a key twice.
 TWICE = '{"DecimalValue":{"scale":0,"scale":0,"value":0}}'
 
@@ -130,12 +120,6 @@ TWICE = '{"DecimalValue":{"scale":0,"scale":0,"value":0}}'
 def keys(n: int) -> list[bytes]:
     """Different keys of few bytes, in order."""
     return sorted(b"%x" % it for it in range(n))
-
-
-def short_keys(n: int) -> list[str]:
-    """Different keys of at most two letters, in order."""
-    letters = [chr(it) for it in range(35, 127) if chr(it) != "\\"]
-    return sorted(["", *letters, *(a + b for a in letters for b in letters)][:n])
 
 
 def tables(n: int) -> Iterator[tuple[str, list[bytes]]]:
@@ -159,8 +143,6 @@ def unordered(levels: int) -> bytes:
 def encodings(n: int) -> Iterator[tuple[str, bytes]]:
     for name, item in ITEMS.items():
         yield name, ODD + item * (n // len(item))
-        # (of which the JSON can't be written as its keys come)
-        yield f"{name}, then keys that fall", item * (n // len(item)) + ITEMS["tables of keys that fall"]
     for name, of_table in tables(n):
         yield f"keys {name}", ODD + field(b"F", b"".join(bytes([len(it)]) + it + b"V" for it in of_table))
     of_nested = min(n, MOST_NESTED)
@@ -189,16 +171,6 @@ def of_tables(n: int) -> Iterator[tuple[str, bytes]]:
     yield "malformed, a table of keys without values", field(b"F", b"".join(bytes([len(it)]) + it for it in few))
 
 
-def before_last(name: str, before: str, after: str) -> Iterator[tuple[str, str]]:
-    """Texts with this before the last member, which is short, or has an encoding for which room is made anew."""
-    yield f"JSON of no value, {name}", f"{before}-0{after}"
-    zeros = "0," * (len(before) // 2 + len(before) // 25 + 10)
-    yield f"JSON of no value, {name}, before zeros", f"{before}[{zeros}-0]{after}"
-    # (for what is after an escape it asks for as many bytes as are left)
-    escape = before.replace('":', '\\n":', 1)
-    yield f"JSON of no value, {name}, before zeros, after an escape", f"{escape}[{zeros}-0]{after}"
-
-
 def texts(n: int) -> Iterator[tuple[str, str]]:
     for name, text in TEXTS.items():
         items = [text] * max(1, n // (len(text) + 1))
@@ -207,15 +179,8 @@ def texts(n: int) -> Iterator[tuple[str, str]]:
         yield f"JSON of no value, {name}", f"[{','.join(items)},{NO_VALUE}]"
         yield f"JSON, {name}, after no value", f'[{{"":{NO_VALUE},"":0}},{",".join(items)}]'
         yield f"JSON, {name}, after the name of a type", f'[{{"LongInt":0,"":0}},{",".join(items)}]'
+        # (of which a tree is made, as after no value)
         yield f"JSON, {name}, after a scale that comes twice", f'[{TWICE},{",".join(items)}]'
-        # (of which a tree is made)
-        yield f"JSON of no value that is encoded, {name}", f"[{','.join(items)},{SHORT_STRING}]"
-        yield f"JSON, {name}, after a ShortString", f'[{{"":{SHORT_STRING},"":0}},{",".join(items)}]'
-    for name, first in BEFORE.items():
-        levels = min(126, n // 2 // (len(first) + 1))
-        yield from before_last(f"objects {name}", first * levels, "}" * levels)
-    without_values = "".join(f'"{it}":-0,' for it in short_keys(n // 16))
-    yield from before_last("keys of no value", f'{{{without_values}"zero":', "}")
     # (of which a tree takes most)
     objects = ",".join(['{"":0}'] * (n // 7))
     for name, first in FIRST.items():

@@ -21,8 +21,7 @@ def held(folder: Path, programs: Path) -> list[Held]:
     given = folder / "at once"
     given.mkdir()
     for name, data in (*inputs(), *at_once.inputs()):
-        with (given / name).open("xb") as file:
-            file.write(data)
+        (given / name).write_bytes(data)
     return [*map(at_once.held, printed([programs / "at_once", given]).splitlines())]
 
 

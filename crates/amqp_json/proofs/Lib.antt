@@ -13,7 +13,6 @@ mod Steps
 mod SortedSteps
 mod PlacedSteps
 mod Latest
-mod Fronts
 mod OwnedSteps
 mod Copies
 mod ReadBack
@@ -31,9 +30,6 @@ mod Forms
 mod Digits
 mod Encodes
 mod Named
-mod Unread
-mod Refused
 mod CanonicalSteps
 pub mod Lanes
 mod Lexing
-mod Decimals

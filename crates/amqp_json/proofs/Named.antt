@@ -19,13 +19,13 @@ use Rattle.amqp_json.specs.Json as amqp
 use Rattle.amqp_json.specs.Json.{members_json, sole_type, under, table_json, decimal_json}
 use Rattle.amqp_json.specs.Names.{type_named}
 use Rattle.amqp_json.specs.Tokens.{MembersLeadTo, IsObjectOfMembers}
-use Rattle.amqp_json.specs.Encodes.{IsObject, PutsEncodingOf, PutsFirst, PutsPairs, HasNoTypeName, AreEntriesRead, IsLeaf, IsKind, IsLast, IsNoneUnder, wrapped}
+use Rattle.amqp_json.specs.Encodes.{IsObject, PutsEncodingOf, PutsFirst, PutsPairs, HasNoTypeName, AreEntriesRead, IsLeaf, IsKind, IsLast, wrapped}
 use Rattle.amqp_json.specs.declared.encoding.leaf.Leaf.{Leaf}
 use Rattle.amqp_json.specs.declared.encoding.leaf.Leaf.TheVariants.{Number, Text, Decimal, Put}
 use Rattle.amqp_json.specs.declared.encoding.object.Kind.{Kind}
 use Rattle.amqp_json.specs.declared.encoding.object.Kind.TheVariants.{Table, Named}
 use Rattle.amqp_json.specs.declared.encoding.last.Last.{Last}
-use Rattle.amqp_json.specs.declared.encoding.last.Last.TheVariants.{Leaf as OfLeaf, Object as OfObject, NoValue}
+use Rattle.amqp_json.specs.declared.encoding.last.Last.TheVariants.{Leaf as OfLeaf, Object as OfObject}
 use Rattle.amqp_json.proofs.Back.{named}
 use Rattle.amqp_json.proofs.Encodes.{puts_weaker, table_put}
 use Rattle.amqp_json.proofs.Only.{is_name}
@@ -141,40 +141,36 @@ again : (rest : List Token) (d : Data) (o : Option Data) → Some (with_rest res
 again rest d None e = absurd (cc e)
 again rest d (Some x) e = let is : d ≡ x = ap (data_of d) e in ap (λ y. Some (with_rest [] y)) is
 
-pub leaf_again : (leaf : Leaf) (type : AMQPType) (k : List ℕ) (rest : List Token) (d : Data) (old new : List ℕ) → IsLeaf leaf type k (Some (d, rest)) rest old new → IsLeaf leaf type k (Some (d, [])) [] old new
-leaf_again (Number s) type k rest d old new h = (h.0, again rest d (option_map number (number_of s.now)) h.1)
-leaf_again (Text s) type k rest d old new h = let is : d ≡ string s.now = ap (data_of d) h.1 in (h.0, ap (λ y. Some (with_rest [] y)) is)
-leaf_again (Decimal x) type k rest d old new h = let is : d ≡ decimal_json x.scale x.value = ap (data_of d) h.1 in (h.0, ap (λ y. Some (with_rest [] y)) is, h.2)
-leaf_again Put type k rest d old new h = (
-  h.0,
-  puts_weaker (λ v. (Some (with_rest rest d) ≡ Some (amqp.json v, rest)) × IsNoneUnder type (amqp.json v)) (λ v. (Some (with_rest [] d) ≡ Some (amqp.json v, [])) × IsNoneUnder type (amqp.json v)) _ new
-      (λ v e. let is : d ≡ amqp.json v = ap (data_of d) e.0 in (ap (λ y. Some (with_rest [] y)) is, e.1)) h.1,
-)
+pub leaf_again : (leaf : Leaf) (k : List ℕ) (rest : List Token) (d : Data) (old new : List ℕ) → IsLeaf leaf k (Some (d, rest)) rest old new → IsLeaf leaf k (Some (d, [])) [] old new
+leaf_again (Number s) k rest d old new h = (h.0, again rest d (option_map number (number_of s.now)) h.1)
+leaf_again (Text s) k rest d old new h = let is : d ≡ string s.now = ap (data_of d) h.1 in (h.0, ap (λ y. Some (with_rest [] y)) is)
+leaf_again (Decimal x) k rest d old new h = let is : d ≡ decimal_json x.scale x.value = ap (data_of d) h.1 in (h.0, ap (λ y. Some (with_rest [] y)) is, h.2)
+leaf_again Put k rest d old new h =
+    (h.0, puts_weaker (λ v. Some (with_rest rest d) ≡ Some (amqp.json v, rest)) (λ v. Some (with_rest [] d) ≡ Some (amqp.json v, [])) _ new (λ v e. let is : d ≡ amqp.json v = ap (data_of d) e in ap (λ y. Some (with_rest [] y)) is) h.1)
 
 -- an object that is put is one that may be under the name of a table's type
-pub put_pending : (p : Parse json.Json) (ts rest : List Token) (old new : List ℕ) → PutsEncodingOf (λ v. IsObject (amqp.json v) p ts rest × IsNoneUnder types.FieldTable (amqp.json v)) old new
-    → (d : Data) × IsObject d p ts rest × ((e : Data) × (d ≡ e) × (PutsEncodingOf (λ v. amqp.json v ≡ e) old new × IsNoneUnder types.FieldTable e))
-put_pending p ts rest old new (w, v, same, is, stored, h) = (amqp.json v, h.0, (amqp.json v, refl, ((w, v, same, is, stored, refl), h.1)))
+pub put_pending : (p : Parse json.Json) (ts rest : List Token) (old new : List ℕ) → PutsEncodingOf (λ v. IsObject (amqp.json v) p ts rest) old new
+    → (d : Data) × IsObject d p ts rest × ((e : Data) × (d ≡ e) × PutsEncodingOf (λ v. amqp.json v ≡ e) old new)
+put_pending p ts rest old new (w, v, same, is, stored, h) = (amqp.json v, h, (amqp.json v, refl, (w, v, same, is, stored, refl)))
 
 nothing_put : (old new : List ℕ) → new ≡ old → (w : List ℕ) × (new ≡ old ++ w)
 nothing_put old new same = ([], same ∙ sym (append-nil old))
 
-leaf_after : (leaf : Leaf) (type : AMQPType) (k : List ℕ) (read : Option (Data × List Token)) (rest : List Token) (old new : List ℕ) → IsLeaf leaf type k read rest old new → (w : List ℕ) × (new ≡ old ++ w)
-leaf_after (Number s) type k read rest old new h = nothing_put old new h.0
-leaf_after (Text s) type k read rest old new h = nothing_put old new h.0
-leaf_after (Decimal x) type k read rest old new h = nothing_put old new h.0
-leaf_after Put type k read rest old new h =
+leaf_after : (leaf : Leaf) (k : List ℕ) (read : Option (Data × List Token)) (rest : List Token) (old new : List ℕ) → IsLeaf leaf k read rest old new → (w : List ℕ) × (new ≡ old ++ w)
+leaf_after (Number s) k read rest old new h = nothing_put old new h.0
+leaf_after (Text s) k read rest old new h = nothing_put old new h.0
+leaf_after (Decimal x) k read rest old new h = nothing_put old new h.0
+leaf_after Put k read rest old new h =
     let head = 70 ∷ 0 ∷ 0 ∷ 0 ∷ 0 ∷ [] in
     (head ++ (short_field k ++ h.1.0), h.1.2 ∙ append_assoc (old ++ head) (short_field k) h.1.0 ∙ append_assoc old head (short_field k ++ h.1.0))
 
 kind_after : (kind : Kind) (d : Data) (old new : List ℕ) → IsKind kind d old new → (w : List ℕ) × (new ≡ old ++ w)
-kind_after Table d old new h = (h.0.0, h.0.2)
-kind_after (Named type leaf) d old new h = leaf_after leaf type (name_of type) (Some (h.0, [])) [] old new h.2
+kind_after Table d old new h = (h.0, h.2)
+kind_after (Named type leaf) d old new h = leaf_after leaf (name_of type) (Some (h.0, [])) [] old new h.2
 
-pub last_after : (last : Last) (type : AMQPType) (k : List ℕ) (read : Option (Data × List Token)) (rest : List Token) (old new : List ℕ) → IsLast last type k read rest old new → (w : List ℕ) × (new ≡ old ++ w)
-last_after (OfLeaf leaf) type k read rest old new h = leaf_after leaf type k read rest old new h
-last_after (OfObject o) type k read rest old new h = kind_after o.kind h.2.0 old new h.2.2
-last_after NoValue type k read rest old new h = h.4
+pub last_after : (last : Last) (k : List ℕ) (read : Option (Data × List Token)) (rest : List Token) (old new : List ℕ) → IsLast last k read rest old new → (w : List ℕ) × (new ≡ old ++ w)
+last_after (OfLeaf leaf) k read rest old new h = leaf_after leaf k read rest old new h
+last_after (OfObject o) k read rest old new h = kind_after o.kind h.2.0 old new h.2.2
 
 -- what was put is taken back
 pub back_to : (len : ℕ) (old now : List ℕ) → length old ≡ len → (w : List ℕ) × (now ≡ old ++ w) → take len now ≡ old

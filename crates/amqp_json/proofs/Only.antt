@@ -291,13 +291,6 @@ decimal_read (object (member a x (member b y no_members))) t h none =
     absurd (cc (read, same, none))
 decimal_read _ t h none = absurd (cc h)
 
-pub no_decimal : (d : Data) → value_of d ≡ None → decimal_in d ≡ None
-no_decimal d none = by (decimal_in d) refl
-  where
-    by : (o : Option Tree) → decimal_in d ≡ o → decimal_in d ≡ None
-    by None is = is
-    by (Some t) is = absurd (decimal_read d t is none)
-
 pub is_under : (type : AMQPType) (d : Data) (t : Tree) → value_under type d ≡ Some t → json t ≡ under type d
 is_under amqp.ShortShortInt d t h = signed_under amqp.ShortShortInt w8 d t refl (λ n. refl) h
 is_under amqp.ShortShortUInt d t h = unsigned_under amqp.ShortShortUInt (unsigned_below (2 ^ 8)) d t (below_is (2 ^ 8) d) refl (λ n. refl) h

@@ -21,4 +21,3 @@ pub mod Puts
 pub mod Buffers
 pub mod Ascending
 pub mod Lexing
-pub mod Decimals

@@ -1,21 +1,17 @@
 //! From the tokens of a text to an encoding of its value, without the value in memory: the pairs of
 //! a table are in the order of the text, and keys may occur again.
 
-ghost use Rattle.std.specs.Prelude.{ℕ, ◌≡◌, ◌≢◌, ◌<◌, ◌≤◌, ◌∷◌, [], length, List, Some, None, true, codes, IfOk, OnOk, IfErr, IfSome, option_map};
+ghost use Rattle.std.specs.Prelude.{ℕ, ◌≡◌, ◌<◌, ◌≤◌, ◌∷◌, length, List, Some, None, true, codes, IfOk, OnOk, IfSome, option_map};
 ghost use Rattle.json.specs.Token.{Token as SpecToken};
 ghost use Rattle.json.specs.Token as token;
 ghost use Rattle.json.specs.Reads.{token_of};
 ghost use Rattle.json.specs.Json.{value, items, parse_map, read_key};
-ghost use Rattle.serde_json.specs.Data.{Data, array, number, member, no_members, put};
+ghost use Rattle.serde_json.specs.Data.{Data, array, number};
 ghost use Rattle.serde_json.specs.Read.{of_json, of_items, converted, number_of};
-ghost use Rattle.amqp_value_core.specs.declared.types.amqp_type.AMQPType.TheVariants as amqp;
-ghost use Rattle.amqp_value_core.specs.Values.{Entries, table};
+ghost use Rattle.amqp_value_core.specs.Values.{Entries};
 ghost use Rattle.amqp_json.specs.InMemory.{EntriesStored};
-ghost use Rattle.amqp_json.specs.Encodes.{IsObject, IsEncodedMeaning, PutsEncodingOf, PutsValues, PutsPairs, AreEntriesRead, HasNoTypeName, IsLast, IsPending, IsNamedRead, OnNotAValue, IsNoneUnder, EncodesNone, Extends, IsMemberPut, IsTableOf};
-ghost use Rattle.amqp_json.specs.Tokens.{Ends, IsUnread, IsNoTable, IsNoEntry, BecomesTable, next_token};
-ghost use Rattle.amqp_json.specs.Refusals.{IsErrorWithin};
-ghost use Rattle.amqp_json.specs.Converts.{IsRefused};
-ghost use Rattle.amqp_json.specs.Json.{json, items_json, members_json, under};
+ghost use Rattle.amqp_json.specs.Encodes.{IsObject, IsEncodedMeaning, PutsEncodingOf, PutsValues, PutsPairs, AreEntriesRead, HasNoTypeName, IsLast, IsPending, IsNamedRead, IsNaturalRead};
+ghost use Rattle.amqp_json.specs.Json.{json, items_json, under, decimal_json};
 ghost use Rattle.amqp_json.specs.Names.{type_named};
 
 mod fields;
@@ -24,34 +20,28 @@ mod leaf;
 mod lexer;
 mod named;
 mod object;
-mod plain;
 pub(crate) mod put;
 
-use crate::conversion_error::EncodeError;
-use crate::error::{JsonError, ValueError};
-use crate::faults::{least, mark, note};
+use crate::error::ValueError;
 use crate::names::type_of_name;
-use amqp_value_core::types::AMQPType;
+use crate::numerals::{integer, natural_number};
+use amqp_value_core::types::{AMQPType, DecimalValue};
 use fields::last_of_table;
 use json::{Scratch, Token};
-use last::{Last, fails_at_start, is_same, object_of, put_first, put_sole, take_back};
+use last::{Last, is_same, object_of, put_first, put_sole, take_back};
 use leaf::Leaf;
 use lexer::Lexer;
 use named::put_narrow;
 use object::{Object, TABLE};
-use plain::put_integer;
-use put::{fill_length, put_boolean, put_head, put_key, put_text, put_void};
+use put::{fill_length, put_boolean, put_head, put_key, put_long_long_int, put_text, put_void};
 use std::alloc::{AllocError, Global};
-use std::collections::BTreeMap;
 
 /// Why no encoding was put.
 #[derive(Clone, Copy)]
 pub(crate) enum Stop {
     OutOfMemory,
-    /// It is no JSON, or has a ShortString, or its encoding would have 2^32 bytes or more.
+    /// The text isn't encoded here.
     NotHere,
-    /// It is the JSON of no value.
-    NotAValue,
 }
 
 impl From<AllocError> for Stop {
@@ -66,69 +56,31 @@ impl From<AllocError> for Stop {
 }
 
 impl From<ValueError> for Stop {
-    ghost use Rattle.std.specs.Prelude.{◌≡◌};
-    ghost use Rattle.amqp_json.specs.declared.error.ValueError.TheVariants as value_error;
-    ghost use Rattle.amqp_json.specs.Encodes.{OnNotAValue};
-
-    ghost from_gives = { λ error e. OnNotAValue e (error ≡ value_error.NotAValue) };
+    ghost from_gives = { λ _ e. Unit {0} };
 
     fn from(error: ValueError) -> Stop {
         match error {
             ValueError::OutOfMemory => Stop::OutOfMemory,
-            ValueError::NotAValue => Stop::NotAValue,
+            ValueError::NotAValue => Stop::NotHere,
         }
     }
 }
 
 const MAX_DEPTH: usize = 127;
 
-/// An encoding of the value that the text means, or none if the text isn't encoded here.
+/// An encoding of the value that the text means.
 // Not inlined, so that the scratch is off the stack when the text is read again.
 #[inline(never)]
-pub(crate) fn encoding_of_text(alloc: Global, text: &str) -> Result<Option<Vec<u8>>, EncodeError>
-    ensures ok { IfOk result (λ found. IfSome found (λ bytes. IsEncodedMeaning text.now bytes.items)) }
-    ensures refused { IfErr result (IsRefused text.now) }
-    ensures within { IfErr result (λ e. IsErrorWithin e (length text.now)) }
+pub(crate) fn encoding_of_text(alloc: Global, text: &str) -> Result<Vec<u8>, Stop>
+    ensures { IfOk result (λ bytes. IsEncodedMeaning text.now bytes.items) }
 {
     let mut scratch = Scratch::new(alloc);
     let mut reader = Lexer::new(text, &mut scratch);
     // An encoding has at most 4.5 bytes for each byte of the text, and 4.5 more: two doublings suffice.
-    let capacity = text.len() / 8 + text.len() + 2;
-    match encoding_of_tokens(alloc, &mut reader, capacity) {
-        Ok(bytes) => Ok(Some(bytes)),
-        Err(Stop::OutOfMemory) => Err(EncodeError::OutOfMemory),
-        Err(Stop::NotHere) => Ok(None),
-        Err(Stop::NotAValue) => {
-            let at = reader.fault().min(text.len());
-            Err(EncodeError::Json(JsonError::NotAValue(at)))
-        }
-    }
-}
-
-// An encoding of the value whose tokens are those of a text, in a vector of that capacity at first.
-#[inline(always)]
-fn encoding_of_tokens(
-    alloc: Global,
-    reader: &mut Lexer<'_>,
-    capacity: usize,
-) -> Result<Vec<u8>, Stop>
-    ensures ok { IfOk result (λ bytes. PutsEncodingOf
-        (λ v. converted of_json (value 127 reader.old) ≡ Some (json v, [])) [] bytes.items) }
-    ensures refused { IfErr result (λ e. OnNotAValue e
-        ((d : Data) × (converted of_json (value 127 reader.old) ≡ Some (d, [])) × IsUnread d)) }
-{
-    let mut out = Vec::with_capacity(alloc, capacity)?;
-    match put_value(alloc, reader, &mut out, MAX_DEPTH) {
-        Ok(()) => {
-            reader.end()?;
-            Ok(out)
-        }
-        Err(Stop::NotAValue) => {
-            reader.end()?;
-            Err(Stop::NotAValue)
-        }
-        Err(e) => Err(e),
-    }
+    let mut out = Vec::with_capacity(alloc, text.len() / 8 + text.len() + 2)?;
+    put_value(alloc, &mut reader, &mut out, MAX_DEPTH)?;
+    reader.end()?;
+    Ok(out)
 }
 
 #[cycle(encode)]
@@ -142,15 +94,12 @@ fn put_value(
     ensures ok { OnOk result (PutsEncodingOf (λ v. converted of_json (value depth reader.old)
         ≡ Some (json v, reader.new)) out.old.items out.new.items) }
     ensures shorter { OnOk result (length reader.new < length reader.old) }
-    ensures refused { IfErr result (λ e. OnNotAValue e (EncodesNone (λ d. converted of_json
-        (value depth reader.old) ≡ Some (d, reader.new)) out.old.items out.new.items)) }
 {
     if reader.opens_object() {
         return put_inner_object(alloc, reader, out, depth);
     }
-    let at = reader.offset();
     let token = reader.next()?;
-    put_token(alloc, reader, token, at, out, depth)
+    put_token(alloc, reader, token, out, depth)
 }
 
 // What is after an opening brace, if so many may be open.
@@ -166,8 +115,6 @@ fn put_inner_object(
         (value depth (token.begin_object ∷ reader.old)) ≡ Some (json v, reader.new))
         out.old.items out.new.items) }
     ensures shorter { OnOk result (length reader.new < length reader.old) }
-    ensures refused { IfErr result (λ e. OnNotAValue e (EncodesNone (λ d. converted of_json
-        (value depth (token.begin_object ∷ reader.old)) ≡ Some (d, reader.new)) out.old.items out.new.items)) }
 {
     if depth == 0 {
         return Err(Stop::NotHere);
@@ -182,7 +129,6 @@ fn put_token<'a>(
     alloc: Global,
     reader: &mut Lexer<'a>,
     token: Token<'a>,
-    at: usize,
     out: &mut Vec<u8>,
     depth: usize,
 ) -> Result<(), Stop>
@@ -190,13 +136,11 @@ fn put_token<'a>(
         (value depth (token_of token.entry ∷ reader.old)) ≡ Some (json v, reader.new))
         out.old.items out.new.items) }
     ensures shorter { OnOk result (length reader.new ≤ length reader.old) }
-    ensures refused { IfErr result (λ e. OnNotAValue e (EncodesNone (λ d. converted of_json
-        (value depth (token_of token.entry ∷ reader.old)) ≡ Some (d, reader.new)) out.old.items out.new.items)) }
 {
     match token {
         Token::Null => put_void(out),
         Token::Bool(b) => put_boolean(out, b),
-        Token::Number(text) => put_number(reader, out, text, at),
+        Token::Number(text) => put_integer(out, text),
         Token::String(text) => put_text(out, text),
         Token::BeginArray => {
             if depth == 0 {
@@ -209,20 +153,16 @@ fn put_token<'a>(
     }
 }
 
-// A number without a type's name, which begins at this byte.
+// A number without a type's name.
 #[inline(always)]
-fn put_number(reader: &mut Lexer<'_>, out: &mut Vec<u8>, text: &str, at: usize) -> Result<(), Stop>
-    ensures ok { OnOk result (PutsEncodingOf (λ v. option_map number (number_of text.now) ≡ Some (json v))
+fn put_integer(out: &mut Vec<u8>, text: &str) -> Result<(), Stop>
+    ensures { OnOk result (PutsEncodingOf (λ v. option_map number (number_of text.now) ≡ Some (json v))
         out.old.items out.new.items) }
-    ensures same { reader.new ≡ reader.old }
-    ensures refused { IfErr result (λ e. OnNotAValue e (EncodesNone
-        (λ d. option_map number (number_of text.now) ≡ Some d) out.old.items out.new.items)) }
 {
-    let put = put_integer(out, text);
-    if let Err(Stop::NotAValue) = put {
-        reader.set_fault(at);
-    }
-    put
+    let Some(n) = integer(text) else {
+        return Err(Stop::NotHere);
+    };
+    put_long_long_int(out, n)
 }
 
 #[cycle(encode)]
@@ -237,9 +177,6 @@ fn put_array(
         (converted of_items (items (value depth) (length reader.old) reader.old))
         ≡ Some (json v, reader.new)) out.old.items out.new.items) }
     ensures shorter { OnOk result (length reader.new < length reader.old) }
-    ensures refused { IfErr result (λ e. OnNotAValue e (EncodesNone (λ d. parse_map array
-        (converted of_items (items (value depth) (length reader.old) reader.old))
-        ≡ Some (d, reader.new)) out.old.items out.new.items)) }
 {
     let at = out.len() + 1;
     put_head(out, b'A')?;
@@ -259,53 +196,16 @@ fn put_items(
         converted of_items (items (value depth) (length reader.old) reader.old)
         ≡ Some (items_json vs, reader.new)) out.old.items out.new.items) }
     ensures shorter { OnOk result (length reader.new < length reader.old) }
-    ensures refused { IfErr result (λ e. OnNotAValue e (EncodesNone (λ d. parse_map array
-        (converted of_items (items (value depth) (length reader.old) reader.old))
-        ≡ Some (d, reader.new)) out.old.items out.new.items)) }
 {
     'items: loop {
         if reader.opens_object() {
-            match put_inner_object(alloc, reader, out, depth) {
-                Ok(()) => continue,
-                Err(Stop::NotAValue) => return Err(after_item(alloc, reader, out, depth)),
-                Err(e) => return Err(e),
-            }
+            put_inner_object(alloc, reader, out, depth)?;
+            continue;
         }
-        let at = reader.offset();
         let Some(token) = reader.next_item()? else {
             return Ok(());
         };
-        match put_token(alloc, reader, token, at, out, depth) {
-            Ok(()) => {}
-            Err(Stop::NotAValue) => return Err(after_item(alloc, reader, out, depth)),
-            Err(e) => return Err(e),
-        }
-    }
-}
-
-// Reads the items that are left after one that is no value. What is put of them is cut off with that.
-#[cycle(encode)]
-#[cold]
-#[inline(never)]
-fn after_item(alloc: Global, reader: &mut Lexer<'_>, out: &mut Vec<u8>, depth: usize) -> Stop
-    ensures { OnNotAValue result (((n : ℕ) → length reader.old ≤ n
-        → Ends (converted of_items (items (value depth) n reader.old)) reader.new)
-        × Extends out.old.items out.new.items) }
-{
-    let fault = reader.fault();
-    'items: loop {
-        let at = reader.offset();
-        match reader.next_item() {
-            Ok(Some(token)) => match put_token(alloc, reader, token, at, out, depth) {
-                Ok(()) | Err(Stop::NotAValue) => {}
-                Err(e) => return e,
-            },
-            Ok(None) => {
-                reader.set_fault(fault);
-                return Stop::NotAValue;
-            }
-            Err(e) => return e,
-        }
+        put_token(alloc, reader, token, out, depth)?;
     }
 }
 
@@ -321,8 +221,6 @@ fn put_object(
     ensures ok { OnOk result (PutsEncodingOf (λ v. IsObject (json v) (value depth) reader.old reader.new)
         out.old.items out.new.items) }
     ensures shorter { OnOk result (length reader.new < length reader.old) }
-    ensures refused { IfErr result (λ e. OnNotAValue e (EncodesNone
-        (λ d. IsObject d (value depth) reader.old reader.new) out.old.items out.new.items)) }
 {
     let first = reader.next_key()?;
     put_object_from(alloc, reader, out, first, depth)
@@ -341,9 +239,6 @@ fn put_object_from<'a>(
     ensures ok { OnOk result ((ts : List SpecToken) → read_key ts ≡ Some (option_map (λ s. s.now) first.entry, reader.old)
         → PutsEncodingOf (λ v. IsObject (json v) (value depth) ts reader.new) out.old.items out.new.items) }
     ensures shorter { OnOk result (length reader.new ≤ length reader.old) }
-    ensures refused { IfErr result (λ e. OnNotAValue e ((ts : List SpecToken)
-        → read_key ts ≡ Some (option_map (λ s. s.now) first.entry, reader.old)
-        → EncodesNone (λ d. IsObject d (value depth) ts reader.new) out.old.items out.new.items)) }
 {
     if let Some(name) = first
         && let Some(amqp_type) = type_of_name(name)
@@ -353,8 +248,8 @@ fn put_object_from<'a>(
     put_table(alloc, reader, out, first, depth)
 }
 
-// What is after an opening brace under the name of a decimal's type. What isn't exactly a scale and
-// a number is put as a table first.
+// What is after an opening brace under the name of a decimal's type. What doesn't begin with the scale
+// is put as a table.
 #[cycle(encode)]
 #[inline(never)]
 fn last_fields<'a>(
@@ -365,20 +260,17 @@ fn last_fields<'a>(
     depth: usize,
 ) -> Result<Last<'a>, Stop>
     ensures ok { IfOk result (λ last. (d : Data) × IsObject d (value depth) reader.old reader.new
-        × IsLast last amqp.DecimalValue name.now (Some (d, reader.new)) reader.new out.old.items out.new.items) }
+        × IsLast last name.now (Some (d, reader.new)) reader.new out.old.items out.new.items) }
     ensures shorter { IfOk result (λ last. length reader.new < length reader.old) }
-    ensures refused { IfErr result (λ e. OnNotAValue e (EncodesNone
-        (λ d. IsObject d (value depth) reader.old reader.new) out.old.items out.new.items)) }
 {
     let first = reader.next_key()?;
-    if is_scale(first)
-        && let Some(d) = reader.decimal_fields()
-    {
+    if is_scale(first) {
+        let d = decimal(reader)?;
         return Ok(Last::Leaf(Leaf::Decimal(d)));
     }
     let start = out.len();
     put_object_from(alloc, reader, out, first, depth)?;
-    last_of_table(out, start, name)
+    last_of_table(alloc, out, start, name)
 }
 
 // What is after an opening brace under the name of a table's type: an object, of which nothing is put
@@ -394,8 +286,6 @@ fn object_under_table<'a>(
     ensures ok { IfOk result (λ object. (d : Data) × IsObject d (value depth) reader.old reader.new
         × IsPending object d out.old.items out.new.items) }
     ensures shorter { IfOk result (λ object. length reader.new < length reader.old) }
-    ensures refused { IfErr result (λ e. OnNotAValue e (EncodesNone (λ d. IsObject d (value depth) reader.old reader.new
-        × IsNoneUnder amqp.FieldTable d) out.old.items out.new.items)) }
 {
     let first = reader.next_key()?;
     if let Some(name) = first
@@ -422,12 +312,9 @@ fn put_table<'a>(
     depth: usize,
 ) -> Result<(), Stop>
     ensures ok { OnOk result (IfSome first.entry (λ k. type_named k.now ≡ None)
-        → PutsEncodingOf (λ v. ((ts : List SpecToken) → read_key ts ≡ Some (option_map (λ s. s.now) first.entry, reader.old)
-        → IsObject (json v) (value depth) ts reader.new) × IsNoneUnder amqp.FieldTable (json v)) out.old.items out.new.items) }
+        → PutsEncodingOf (λ v. (ts : List SpecToken) → read_key ts ≡ Some (option_map (λ s. s.now) first.entry, reader.old)
+        → IsObject (json v) (value depth) ts reader.new) out.old.items out.new.items) }
     ensures shorter { OnOk result (length reader.new ≤ length reader.old) }
-    ensures refused { IfErr result (λ e. OnNotAValue e (IfSome first.entry (λ k. type_named k.now ≡ None)
-        → IsNoTable (value depth) no_members (next_token (option_map (λ s. s.now) first.entry) ∷ reader.old)
-        reader.new × Extends out.old.items out.new.items)) }
 {
     let at = out.len() + 1;
     put_head(out, b'F')?;
@@ -450,117 +337,14 @@ fn put_members<'a>(
         → PutsPairs before (λ es. AreEntriesRead before es (value depth)
         (option_map (λ s. s.now) first.entry) reader.old reader.new) out.old.items out.new.items) }
     ensures shorter { OnOk result (length reader.new ≤ length reader.old) }
-    ensures refused { IfErr result (λ e. OnNotAValue e ((before : Entries) → EntriesStored before
-        → HasNoTypeName before (option_map (λ s. s.now) first.entry)
-        → IsNoTable (value depth) (members_json before)
-        (next_token (option_map (λ s. s.now) first.entry) ∷ reader.old) reader.new
-        × Extends out.old.items out.new.items)) }
 {
     let mut next = first;
     'members: while let Some(key) = next {
-        if let Some(at) = put_member(alloc, reader, out, key, depth)? {
-            let after = reader.next_key()?;
-            return put_rest(alloc, reader, out, (key, at), after, depth);
-        }
+        put_key(out, key)?;
+        put_value(alloc, reader, out, depth)?;
         next = reader.next_key()?;
     }
     Ok(())
-}
-
-// Puts the member with a key that was read, or returns where its value begins if it isn't that of an
-// entry. Then nothing of it is put.
-#[cycle(encode)]
-#[inline(always)]
-fn put_member(
-    alloc: Global,
-    reader: &mut Lexer<'_>,
-    out: &mut Vec<u8>,
-    key: &str,
-    depth: usize,
-) -> Result<Option<usize>, Stop>
-    ensures ok { IfOk result (λ bad. IsMemberPut bad (converted of_json (value depth reader.old)) reader.new
-        key.now out.old.items out.new.items) }
-    ensures refused { IfErr result (λ e. OnNotAValue e ⊥) }
-{
-    if key.len() > 255 {
-        let at = long_member(alloc, reader, out, depth)?;
-        return Ok(Some(at));
-    }
-    let start = out.len();
-    put_key(out, key)?;
-    match put_value(alloc, reader, out, depth) {
-        Ok(()) => Ok(None),
-        Err(Stop::NotAValue) => {
-            out.truncate(start);
-            Ok(Some(reader.fault()))
-        }
-        Err(e) => Err(e),
-    }
-}
-
-// Reads the value of a key that is longer than that of an entry, and returns where the value begins, or
-// where that in it begins which is no value.
-#[cycle(encode)]
-#[cold]
-#[inline(never)]
-fn long_member(
-    alloc: Global,
-    reader: &mut Lexer<'_>,
-    out: &mut Vec<u8>,
-    depth: usize,
-) -> Result<usize, Stop>
-    ensures ok { IfOk result (λ at. (out.new.items ≡ out.old.items)
-        × ((d : Data) × (converted of_json (value depth reader.old) ≡ Some (d, reader.new)))) }
-    ensures refused { IfErr result (λ e. OnNotAValue e ⊥) }
-{
-    let start = out.len();
-    let begin = reader.offset();
-    let at = match put_value(alloc, reader, out, depth) {
-        Ok(()) => begin,
-        Err(Stop::NotAValue) => reader.fault(),
-        Err(e) => return Err(e),
-    };
-    out.truncate(start);
-    Ok(at)
-}
-
-// The members that are left after one that isn't that of an entry. A later one may have its key.
-#[cycle(encode)]
-#[cold]
-#[inline(never)]
-fn put_rest<'a>(
-    alloc: Global,
-    reader: &mut Lexer<'a>,
-    out: &mut Vec<u8>,
-    first: (&'a str, usize),
-    key: Option<&'a str>,
-    depth: usize,
-) -> Result<(), Stop>
-    ensures ok { OnOk result ((before : Entries) (d : Data) → EntriesStored before → IsNoEntry first.entry.0.now d
-        → BecomesTable (option_map (λ s. s.now) key.entry) (put first.entry.0.now d (members_json before))
-        → PutsPairs before (λ es. IsTableOf es (value depth) (put first.entry.0.now d (members_json before))
-        (next_token (option_map (λ s. s.now) key.entry) ∷ reader.old) reader.new) out.old.items out.new.items) }
-    ensures shorter { OnOk result (length reader.new ≤ length reader.old) }
-    ensures refused { IfErr result (λ e. OnNotAValue e ((before : Entries) (d : Data) → EntriesStored before
-        → IsNoEntry first.entry.0.now d
-        → BecomesTable (option_map (λ s. s.now) key.entry) (put first.entry.0.now d (members_json before))
-        → IsNoTable (value depth) (put first.entry.0.now d (members_json before))
-        (next_token (option_map (λ s. s.now) key.entry) ∷ reader.old) reader.new
-        × Extends out.old.items out.new.items)) }
-{
-    let mut bad = BTreeMap::new(alloc);
-    note(&mut bad, first.0, first.1)?;
-    let mut next = key;
-    'members: while let Some(name) = next {
-        let found = put_member(alloc, reader, out, name, depth)?;
-        mark(&mut bad, name, found)?;
-        next = reader.next_key()?;
-    }
-    let Some(at) = least(&bad) else {
-        return Ok(());
-    };
-    reader.set_fault(at);
-    Err(Stop::NotAValue)
 }
 
 // What is after a first key that is the name of a type: mostly an integer, and the brace.
@@ -578,16 +362,9 @@ fn put_typed<'a>(
         → PutsEncodingOf (λ v. IsObject (json v) (value depth) (token.key name.now ∷ reader.old) reader.new)
         out.old.items out.new.items) }
     ensures shorter { OnOk result (length reader.new < length reader.old) }
-    ensures refused { IfErr result (λ e. OnNotAValue e (type_named name.now ≡ Some amqp_type → EncodesNone
-        (λ d. IsObject d (value depth) (token.key name.now ∷ reader.old) reader.new) out.old.items out.new.items)) }
 {
-    let at = reader.offset();
     if let Some(n) = reader.last_integer() {
-        let put = put_narrow(out, amqp_type, n);
-        if let Err(Stop::NotAValue) = put {
-            reader.set_fault(at);
-        }
-        return put;
+        return put_narrow(out, amqp_type, n);
     }
     put_named(alloc, reader, out, name, amqp_type, depth)
 }
@@ -607,8 +384,6 @@ fn put_named<'a>(
         → PutsEncodingOf (λ v. IsObject (json v) (value depth) (token.key name.now ∷ reader.old) reader.new)
         out.old.items out.new.items) }
     ensures shorter { OnOk result (length reader.new < length reader.old) }
-    ensures refused { IfErr result (λ e. OnNotAValue e (type_named name.now ≡ Some amqp_type → EncodesNone
-        (λ d. IsObject d (value depth) (token.key name.now ∷ reader.old) reader.new) out.old.items out.new.items)) }
 {
     let start = out.len();
     match put_turns(alloc, reader, out, name, amqp_type, depth)? {
@@ -629,31 +404,19 @@ fn put_turns<'a>(
     amqp_type: AMQPType,
     depth: usize,
 ) -> Result<Option<Last<'a>>, Stop>
-    ensures ok { IfOk result (λ found. IsNamedRead found amqp_type (value depth) name.now reader.old reader.new
+    ensures ok { IfOk result (λ found. IsNamedRead found (value depth) name.now reader.old reader.new
         out.old.items out.new.items) }
     ensures shorter { IfOk result (λ found. length reader.new < length reader.old) }
-    ensures refused { IfErr result (λ e. OnNotAValue e (IsNoTable (value depth) no_members
-        (token.key name.now ∷ reader.old) reader.new × Extends out.old.items out.new.items)) }
 {
     let start = out.len();
     'turns: loop {
-        let at = reader.offset();
         let last = put_last(alloc, reader, out, name, amqp_type, depth)?;
-        note_place(reader, last, at);
         let next = reader.next_key()?;
         match next {
             None => return Ok(Some(last)),
             Some(key) if is_same(key, name) => take_back(out, start, last)?,
             Some(key) => {
-                match put_first(alloc, out, start, name, last) {
-                    Ok(()) => {}
-                    Err(Stop::NotAValue) => {
-                        let first = (name, reader.fault());
-                        put_bad_first(alloc, reader, out, start, first, key, depth)?;
-                        return Ok(None);
-                    }
-                    Err(e) => return Err(e),
-                }
+                put_first(alloc, out, start, name, last)?;
                 put_members(alloc, reader, out, Some(key), depth)?;
                 fill_length(out, start + 1)?;
                 return Ok(None);
@@ -662,48 +425,8 @@ fn put_turns<'a>(
     }
 }
 
-// Notes where the value begins, in case that it is none.
-#[inline(always)]
-fn note_place(reader: &mut Lexer<'_>, last: Last<'_>, at: usize)
-    ensures { reader.new ≡ reader.old }
-{
-    if fails_at_start(last) {
-        reader.set_fault(at);
-    }
-}
-
-// A table whose first key is the name of a type, of which the value is none, and another follows.
-#[cycle(encode)]
-#[cold]
-#[inline(never)]
-fn put_bad_first<'a>(
-    alloc: Global,
-    reader: &mut Lexer<'a>,
-    out: &mut Vec<u8>,
-    start: usize,
-    first: (&'a str, usize),
-    key: &'a str,
-    depth: usize,
-) -> Result<(), Stop>
-    ensures ok { OnOk result ((old : List ℕ) (d : Data) → length old ≡ start → Extends old out.old.items
-        → IsNoEntry first.entry.0.now d → key.now ≢ first.entry.0.now
-        → PutsEncodingOf (λ v. (es : Entries) × (v ≡ table es) × IsTableOf es (value depth)
-        (member first.entry.0.now d no_members) (token.key key.now ∷ reader.old) reader.new) old out.new.items) }
-    ensures shorter { OnOk result (length reader.new ≤ length reader.old) }
-    ensures refused { IfErr result (λ e. OnNotAValue e ((old : List ℕ) (d : Data) → length old ≡ start
-        → Extends old out.old.items → IsNoEntry first.entry.0.now d → key.now ≢ first.entry.0.now
-        → IsNoTable (value depth) (member first.entry.0.now d no_members) (token.key key.now ∷ reader.old)
-        reader.new × Extends old out.new.items)) }
-{
-    out.truncate(start);
-    let at = out.len() + 1;
-    put_head(out, b'F')?;
-    put_rest(alloc, reader, out, first, Some(key), depth)?;
-    fill_length(out, at)
-}
-
 // What is under the name of a type. Of a number, a string, a decimal, and an object that may be named,
-// nothing is put. Of what is no value something may be, which is to be cut off.
+// nothing is put.
 #[cycle(encode)]
 #[inline(always)]
 fn put_last<'a>(
@@ -714,12 +437,10 @@ fn put_last<'a>(
     amqp_type: AMQPType,
     depth: usize,
 ) -> Result<Last<'a>, Stop>
-    ensures ok { IfOk result (λ last. IsLast last amqp_type name.now
+    ensures ok { IfOk result (λ last. IsLast last name.now
         (converted of_json (value depth reader.old)) reader.new out.old.items out.new.items) }
     ensures shorter { IfOk result (λ last. length reader.new < length reader.old) }
-    ensures refused { IfErr result (λ e. OnNotAValue e ⊥) }
 {
-    let at = reader.offset();
     let token = reader.next()?;
     match (amqp_type, token) {
         (_, Token::Number(text)) => Ok(Last::Leaf(Leaf::Number(text))),
@@ -728,29 +449,20 @@ fn put_last<'a>(
             if depth == 0 {
                 return Err(Stop::NotHere);
             }
-            match last_fields(alloc, reader, out, name, depth - 1) {
-                Err(Stop::NotAValue) => Ok(Last::NoValue),
-                last => last,
-            }
+            last_fields(alloc, reader, out, name, depth - 1)
         }
         (AMQPType::FieldTable, Token::BeginObject) => {
             if depth == 0 {
                 return Err(Stop::NotHere);
             }
-            match object_under_table(alloc, reader, out, depth - 1) {
-                Ok(object) => Ok(Last::Object(object)),
-                Err(Stop::NotAValue) => Ok(Last::NoValue),
-                Err(e) => Err(e),
-            }
+            let object = object_under_table(alloc, reader, out, depth - 1)?;
+            Ok(Last::Object(object))
         }
         (_, token) => {
             put_head(out, b'F')?;
             put_key(out, name)?;
-            match put_token(alloc, reader, token, at, out, depth) {
-                Ok(()) => Ok(Last::Leaf(Leaf::Put)),
-                Err(Stop::NotAValue) => Ok(Last::NoValue),
-                Err(e) => Err(e),
-            }
+            put_token(alloc, reader, token, out, depth)?;
+            Ok(Last::Leaf(Leaf::Put))
         }
     }
 }
@@ -763,4 +475,45 @@ fn is_scale(first: Option<&str>) -> bool
         Some(key) => key == "scale",
         None => false,
     }
+}
+
+// What is after a decimal's first key, that of its scale: this, its number and the brace.
+#[inline(never)]
+fn decimal(reader: &mut Lexer<'_>) -> Result<DecimalValue, Stop>
+    ensures json { IfOk result (λ d. (depth : ℕ) (ts : List SpecToken) → read_key ts ≡ Some (Some (codes "scale"), reader.old)
+        → IsObject (decimal_json d.scale d.value) (value depth) ts reader.new) }
+    ensures shorter { OnOk result (length reader.new < length reader.old) }
+{
+    let Ok(scale) = u8::try_from(natural(reader)?) else {
+        return Err(Stop::NotHere);
+    };
+    let Some(key) = reader.next_key()? else {
+        return Err(Stop::NotHere);
+    };
+    if key != "value" {
+        return Err(Stop::NotHere);
+    }
+    let Ok(value) = u32::try_from(natural(reader)?) else {
+        return Err(Stop::NotHere);
+    };
+    let next = reader.next_key()?;
+    if next.is_none() {
+        return Ok(DecimalValue { scale, value });
+    }
+    Err(Stop::NotHere)
+}
+
+// A natural number.
+fn natural(reader: &mut Lexer<'_>) -> Result<u64, Stop>
+    ensures json { IfOk result (λ n. IsNaturalRead n reader.old reader.new) }
+    ensures shorter { OnOk result (length reader.new < length reader.old) }
+{
+    let token = reader.next()?;
+    let Token::Number(text) = token else {
+        return Err(Stop::NotHere);
+    };
+    let Some(n) = natural_number(text) else {
+        return Err(Stop::NotHere);
+    };
+    Ok(n)
 }

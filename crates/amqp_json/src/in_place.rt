@@ -10,11 +10,12 @@ ghost use Rattle.amqp_in_place.specs.Bodies.{HasEntries};
 ghost use Rattle.amqp_in_place.specs.Refs.{Denotes, array_body, table_body};
 ghost use Rattle.amqp_json.specs.Json.{json, members_json};
 ghost use Rattle.amqp_json.specs.Adds.{Adds};
-ghost use Rattle.amqp_json.specs.Sorted.{AreLeft};
+ghost use Rattle.amqp_json.specs.Sorted.{AreAt};
+ghost use Rattle.amqp_json.specs.Placed.{steps_of};
 
 use crate::keys::{keys_rise, needs_type_name};
 use crate::owned::write_owned;
-use crate::sorted::SortedPairs;
+use crate::sorted::{PlacedPair, pairs_need_type_name, sorted_pairs};
 use crate::tokens::{begin_named, decimal, digits, integer, long_string, natural};
 use amqp_in_place::{ArrayRef, TableRef, ValueRef};
 use amqp_value_core::types::AMQPType;
@@ -115,8 +116,9 @@ fn write_unordered(
     ensures ok { OnOk result ((es : Entries) → HasEntries (table_body table.entry) es → Adds (json (table_tree es)) out.old.tokens out.new.tokens) }
     ensures before { out.new.before ≡ out.old.before }
 {
-    let sorted = SortedPairs::new(alloc, table)?;
-    if sorted.need_type_name() {
+    let pairs = sorted_pairs(alloc, table)?;
+    let sorted = pairs.as_slice();
+    if pairs_need_type_name(sorted) {
         begin_named(out)?;
         out.begin_object()?;
         write_sorted(alloc, out, sorted, depth)?;
@@ -132,16 +134,16 @@ fn write_unordered(
 fn write_sorted(
     alloc: Global,
     out: &mut Writer,
-    sorted: SortedPairs<'_>,
+    sorted: &[PlacedPair<'_>],
     depth: usize,
 ) -> Result<(), AllocError>
-    ensures ok { OnOk result ((es : Entries) → AreLeft sorted.entry es
+    ensures ok { OnOk result ((es : Entries) → AreAt (steps_of sorted.now) es
         → out.new.tokens ≡ out.old.tokens ++ members_tokens (members_outline (members_json es))) }
     ensures before { out.new.before ≡ out.old.before }
 {
-    for (key, value) in sorted {
-        out.key(key)?;
-        write_value(alloc, out, value, depth)?;
+    for pair in sorted {
+        out.key(pair.key)?;
+        write_value(alloc, out, pair.value, depth)?;
     }
     out.end_object()
 }

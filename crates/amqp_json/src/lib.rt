@@ -11,7 +11,6 @@ mod direct;
 mod encode;
 mod encoding;
 mod error;
-mod faults;
 mod in_place;
 mod keys;
 pub mod laws;
