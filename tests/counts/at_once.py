@@ -113,6 +113,11 @@ FIRST: dict[str, str] = {
 }  # fmt: skip
 # The JSON of no value.
 NO_VALUE = '{"Void":0}'
+# What is before the last member of an object, which keeps until its end where others are that are none.
+BEFORE = {
+    "of no value": '{"":-0,"":', "of no value of a type": '{"LongInt":-0,"":',
+    "of sixteen of no value": "{" + "".join(f'"{chr(112 - n)}":-0,' for n in range(16)) + '"":',
+}  # fmt: skip
 # A decimal with a key twice.
 TWICE = '{"DecimalValue":{"scale":0,"scale":0,"value":0}}'
 
@@ -120,6 +125,12 @@ TWICE = '{"DecimalValue":{"scale":0,"scale":0,"value":0}}'
 def keys(n: int) -> list[bytes]:
     """Different keys of few bytes, in order."""
     return sorted(b"%x" % it for it in range(n))
+
+
+def short_keys(n: int) -> list[str]:
+    """Different keys of at most two letters, in order."""
+    letters = [chr(it) for it in range(35, 127) if chr(it) != "\\"]
+    return sorted(["", *letters, *(a + b for a in letters for b in letters)][:n])
 
 
 def tables(n: int) -> Iterator[tuple[str, list[bytes]]]:
@@ -143,6 +154,8 @@ def unordered(levels: int) -> bytes:
 def encodings(n: int) -> Iterator[tuple[str, bytes]]:
     for name, item in ITEMS.items():
         yield name, ODD + item * (n // len(item))
+        # (of which the JSON can't be written as its keys come)
+        yield f"{name}, then keys that fall", item * (n // len(item)) + ITEMS["tables of keys that fall"]
     for name, of_table in tables(n):
         yield f"keys {name}", ODD + field(b"F", b"".join(bytes([len(it)]) + it + b"V" for it in of_table))
     of_nested = min(n, MOST_NESTED)
@@ -171,6 +184,16 @@ def of_tables(n: int) -> Iterator[tuple[str, bytes]]:
     yield "malformed, a table of keys without values", field(b"F", b"".join(bytes([len(it)]) + it for it in few))
 
 
+def before_last(name: str, before: str, after: str) -> Iterator[tuple[str, str]]:
+    """Texts with this before the last member, which is short, or has an encoding for which room is made anew."""
+    yield f"JSON of no value, {name}", f"{before}-0{after}"
+    zeros = "0," * (len(before) // 2 + len(before) // 25 + 10)
+    yield f"JSON of no value, {name}, before zeros", f"{before}[{zeros}-0]{after}"
+    # (for what is after an escape it asks for as many bytes as are left)
+    escape = before.replace('":', '\\n":', 1)
+    yield f"JSON of no value, {name}, before zeros, after an escape", f"{escape}[{zeros}-0]{after}"
+
+
 def texts(n: int) -> Iterator[tuple[str, str]]:
     for name, text in TEXTS.items():
         items = [text] * max(1, n // (len(text) + 1))
@@ -181,6 +204,11 @@ def texts(n: int) -> Iterator[tuple[str, str]]:
         yield f"JSON, {name}, after the name of a type", f'[{{"LongInt":0,"":0}},{",".join(items)}]'
         # (of which a tree is made, as after no value)
         yield f"JSON, {name}, after a scale that comes twice", f'[{TWICE},{",".join(items)}]'
+    for name, first in BEFORE.items():
+        levels = min(126, n // 2 // (len(first) + 1))
+        yield from before_last(f"objects {name}", first * levels, "}" * levels)
+    without_values = "".join(f'"{it}":-0,' for it in short_keys(n // 16))
+    yield from before_last("keys of no value", f'{{{without_values}"zero":', "}")
     # (of which a tree takes most)
     objects = ",".join(['{"":0}'] * (n // 7))
     for name, first in FIRST.items():

@@ -21,7 +21,8 @@ def held(folder: Path, programs: Path) -> list[Held]:
     given = folder / "at once"
     given.mkdir()
     for name, data in (*inputs(), *at_once.inputs()):
-        (given / name).write_bytes(data)
+        with (given / name).open("xb") as file:
+            file.write(data)
     return [*map(at_once.held, printed([programs / "at_once", given]).splitlines())]
 
 

@@ -15,7 +15,7 @@ import subprocess
 import sys
 from bisect import bisect
 from collections.abc import Callable, Iterator, Mapping
-from functools import cache, partial
+from functools import lru_cache, partial
 from pathlib import Path
 from typing import NamedTuple
 
@@ -32,6 +32,8 @@ HEADER = TOP / "include/amqp_values.h"
 FORMS = {"arrays in arrays": "A", "tables in tables": "F", "arrays and tables": "AF"}
 # The key in each table. It is a type's name, for which JSON needs a level more.
 KEY = b"\x04Void"
+# A key that no entry can have.
+LONG_KEY = "k" * 256
 
 
 def encoding(form: str, depth: int, innermost: bytes = b"V") -> bytes:
@@ -90,6 +92,17 @@ def under_types(form: str, depth: int) -> bytes:
     return f"{opened}null{closed}".encode()
 
 
+def not_an_entry(opened: str, form: str, depth: int) -> bytes:
+    """A text that nests that deep: each object begins so, with a key that isn't that of an entry, or a value that is none.
+
+    So does each array with an item that is none. The outermost object has its key again, so the text is that of a value.
+    """
+    tags = (form * depth)[: depth - 1]
+    inner = "".join("[-0," if it == "A" else opened for it in tags)
+    closed = "".join("]" if it == "A" else "}" for it in tags)
+    return f'{{"b":{inner}null{closed[::-1]},"b":null}}'.encode()
+
+
 def type_tags(form: str, depth: int) -> bytes:
     """The type tags of a value that the program makes by itself, the innermost first."""
     return (form * depth)[:depth].encode()
@@ -110,12 +123,21 @@ class Threaded(NamedTuple):
 Program = Path | Threaded
 
 
+Make = Callable[[str, int], bytes]
+
+
 class Call(NamedTuple):
     """The words that have a program make it, what it is made on, and how deep; JSON has a limit by itself."""
 
     words: list[str]
-    make: Callable[[str, int], bytes]
+    makes: dict[str, Make]
     depths: tuple[int, ...]
+
+    def inputs(self) -> Iterator[tuple[str, Make, str]]:
+        """What is said of each of its inputs, what makes that, and the form."""
+        for how, make in self.makes.items():
+            for said, form in FORMS.items():
+                yield f"{said}{how and ', '}{how}", make, form
 
 
 DEEP, DEEPER, OF_JSON, UNLIMITED = (LIMIT, 1000), (LIMIT, 10_000), (LIMIT, 127), (LIMIT, 1000, 10_000)
@@ -140,33 +162,47 @@ OF_TABLES = (
     "amqpv_is_canonical_table",
     "amqpv_first_warnings_in_table",
 )
-FOR_C = {
-    **{it: Call([it], encoding, DEEPER) for it in OF_ENCODINGS},
-    **{it: Call([it], payload, DEEPER) for it in OF_TABLES},
-    "amqpv_put_value of any keys": Call(["amqpv_put_value of any keys"], any_keys, DEEPER),
-    "amqpv_to_json": Call(["amqpv_to_json"], unordered, DEEP),
-    "amqpv_write_json": Call(["amqpv_write_json"], encoding, DEEP),
-    "amqpv_canonical": Call(["amqpv_canonical"], not_canonical, DEEP),
-    **{it: Call([it], under_types, OF_JSON) for it in ("amqpv_from_json", "amqpv_from_json_or_problem")},
+# What reading JSON goes through.
+TEXTS: dict[str, Make] = {
+    "": json_text,
+    "under types": under_types,
+    "after no value": partial(not_an_entry, '{"b":-0,"b":'),
+    "after no value of a type": partial(not_an_entry, '{"LongInt":-0,"b":'),
+    "after no bytes": partial(not_an_entry, '{"ByteArray":"0","b":'),
+    "after no table": partial(not_an_entry, '{"FieldTable":-0,"b":'),
+    "in what is no decimal": partial(not_an_entry, '{"DecimalValue":'),
+    "of a long key": partial(not_an_entry, f'{{"{LONG_KEY}":'),
+    "of a long key after no value": partial(not_an_entry, f'{{"b":-0,"{LONG_KEY}":'),
+    "of a long key after a type": partial(not_an_entry, f'{{"LongInt":0,"{LONG_KEY}":'),
+    "of a long key after no value of a type": partial(not_an_entry, f'{{"LongInt":-0,"{LONG_KEY}":'),
 }
-MADE: dict[str, Callable[[str, int], bytes]] = {
-    "encoding": encoding, "payload": payload, "values": values, "tree": type_tags, "document": brackets,
-    "text": json_text,
+FOR_C = {
+    **{it: Call([it], {"": encoding}, DEEPER) for it in OF_ENCODINGS},
+    **{it: Call([it], {"": payload}, DEEPER) for it in OF_TABLES},
+    "amqpv_put_value of any keys": Call(["amqpv_put_value of any keys"], {"": any_keys}, DEEPER),
+    "amqpv_to_json": Call(["amqpv_to_json"], {"": unordered}, DEEP),
+    "amqpv_write_json": Call(["amqpv_write_json"], {"": encoding}, DEEP),
+    "amqpv_canonical": Call(["amqpv_canonical"], {"": not_canonical}, DEEP),
+    **{it: Call([it], TEXTS, OF_JSON) for it in ("amqpv_from_json", "amqpv_from_json_or_problem")},
+}
+MADE: dict[str, dict[str, Make]] = {
+    "encoding": {"": encoding}, "payload": {"": payload}, "values": {"": values}, "tree": {"": type_tags},
+    "document": {"": brackets}, "text": TEXTS,
 }  # fmt: skip
 
 
-# What takes most of these calls.
-MOST = {"json_of_encoding": unordered, "encoding_of_json": under_types}
+# What takes most of this call.
+MOST: dict[str, dict[str, Make]] = {"json_of_encoding": {"": unordered}}
 
 
 def calls() -> Iterator[tuple[str, Call]]:
     """Yields the calls of test_hostile, by name: the arms of its functions of_encoding and so on."""
     text = (TOP / "crates/test_hostile/src/nesting.rt").read_text()
-    for kind, make in MADE.items():
+    for kind, makes in MADE.items():
         (body,) = re.findall(rf"(?ms)^fn of_{kind}\(.*?^}}", text)
         for name, arm in re.findall(r'(?m)^ {8}"(\S+)" => (.*(?:\n {9}.*)*)', body):
             depths = OF_JSON if kind == "text" else DEEPER if "limits" in arm else UNLIMITED
-            yield name, Call([kind, name], MOST.get(name, make), depths)
+            yield name, Call([kind, name], MOST.get(name, makes), depths)
 
 
 CALLS = dict(calls())
@@ -199,8 +235,8 @@ def answer(program: Program, call: Call, depth: int, given: bytes, stack: int) -
     return f"status {done.returncode}" if done.returncode else str(done.stdout.decode().strip())
 
 
-@cache
-def long_input(make: Callable[[str, int], bytes], form: str) -> bytes:
+@lru_cache(maxsize=32)
+def long_input(make: Make, form: str) -> bytes:
     a_level = (len(make(form, 200)) - len(make(form, 100))) / 100
     return make(form, int(LONG / a_level) + 1)
 
@@ -220,27 +256,27 @@ def checks(made: Mapping[str, Call], column: int = 0) -> Iterator[Check]:
     figures, besides = table(column)
     for name, call in made.items():
         figure = figures.get(name, 0)
-        for said, form in FORMS.items():
+        for said, make, form in call.inputs():
             for depth in call.depths if figure else ():
                 stack = besides + depth * figure
-                yield Check(f"{name}, {depth} {said}", partial(not_done, call, depth, form, stack))
+                yield Check(f"{name}, {depth} {said}", partial(not_done, call, depth, make, form, stack))
             if not figure or call.depths != UNLIMITED:
-                of_long = partial(wrong_of_long, call, form, SMALL, figure > 0)
+                of_long = partial(wrong_of_long, call, make, form, SMALL, figure > 0)
                 yield Check(f"{name}, {LONG} bytes of {said}", of_long)
         if figure:
             stack = besides + call.depths[-1] * figure // 2
             yield Check(f"{name}, half of the stack", partial(enough, call, stack))
 
 
-def not_done(call: Call, depth: int, form: str, stack: int, program: Program) -> str:
+def not_done(call: Call, depth: int, make: Make, form: str, stack: int, program: Program) -> str:
     """What a call returns, if it isn't done."""
-    got = answer(program, call, depth, call.make(form, depth), stack)
+    got = answer(program, call, depth, make(form, depth), stack)
     return "" if got == "done" else got or "nothing"
 
 
-def wrong_of_long(call: Call, form: str, stack: int, is_limited: bool, program: Program) -> str:
+def wrong_of_long(call: Call, make: Make, form: str, stack: int, is_limited: bool, program: Program) -> str:
     """What a call returns of what no limit lets through, if it doesn't reject it, or isn't done without a limit."""
-    got = answer(program, call, LIMIT, long_input(call.make, form), stack)
+    got = answer(program, call, LIMIT, long_input(make, form), stack)
     is_well = REJECTED.search(got) if is_limited else got == "done"
     return "" if is_well else got or "nothing"
 
@@ -253,7 +289,7 @@ def whatever(wrong: str, _: Program) -> str:
 def enough(call: Call, stack: int, program: Program) -> str:
     """Whether a stack is enough for what nests deepest, in each form."""
     deepest = call.depths[-1]
-    answers = [answer(program, call, deepest, call.make(form, deepest), stack) for form in FORMS.values()]
+    answers = [answer(program, call, deepest, make(form, deepest), stack) for _, make, form in call.inputs()]
     return "" if "status -11" in answers else "it is enough"
 
 
@@ -293,12 +329,11 @@ def recommended(column: int = 0) -> Iterator[Check]:
         stack = besides + limit * figures.get(name, thread)
         over = f"by the header it takes {stack} bytes of stack" if stack > thread else ""
         yield Check(f"{name}, {limit} deep", partial(whatever, over))
-        for said, form in FORMS.items():
+        for said, make, form in call.inputs():
             for size in (stack, thread):
-                yield Check(
-                    f"{name}, {limit} {said} on {size} bytes of stack", partial(not_done, call, limit, form, size)
-                )
-            of_long = partial(wrong_of_long, call, form, thread, True)
+                of_limit = partial(not_done, call, limit, make, form, size)
+                yield Check(f"{name}, {limit} {said} on {size} bytes of stack", of_limit)
+            of_long = partial(wrong_of_long, call, make, form, thread, True)
             yield Check(f"{name}, {LONG} bytes of {said} on {thread} bytes of stack", of_long)
 
 
@@ -307,7 +342,7 @@ def least(program: Program, call: Call, depth: int) -> int:
 
     def is_done(pages: int) -> bool:
         return all(
-            answer(program, call, depth, call.make(form, depth), pages << 12) == "done" for form in FORMS.values()
+            answer(program, call, depth, make(form, depth), pages << 12) == "done" for _, make, form in call.inputs()
         )
 
     return bisect(range(1 << 11), False, key=is_done) << 12
