@@ -20,6 +20,7 @@ mod ReadBack
 mod Decoded
 mod Putting
 mod Filling
+mod Firsts
 mod Ascents
 mod Turns
 mod Ordered

@@ -1,6 +1,6 @@
 -- An object whose first key is the name of a type: a value of that type, or a table.
 use Rattle.std.specs.Prelude.{if◌then◌else◌}
-use Rattle.std.proofs.Common.{◌≡◌, ◌≢◌, ℕ, Bool, true, false, zero, suc, ◌+◌, ◌-◌, ◌*◌, ◌/◌, ◌%◌, ◌^◌, ◌<◌, List, [], ◌∷◌, ◌++◌, length, take, drop, Option, Some, None, option_map, refl, sym, ap, ◌∙◌, subst, append_assoc, append-nil, arith}
+use Rattle.std.proofs.Common.{◌≡◌, ℕ, Bool, true, false, zero, suc, ◌+◌, ◌-◌, ◌*◌, ◌/◌, ◌%◌, ◌^◌, ◌<◌, List, [], ◌∷◌, ◌++◌, length, take, drop, Option, Some, None, option_map, refl, sym, ap, ◌∙◌, subst, append_assoc, append-nil, arith}
 use Rattle.std.proofs.Math.Seq.{take-append_seam}
 use Rattle.std.specs.Int.{w32, to_be_bytes}
 use Rattle.json.specs.Token.{Token, key, end_object}
@@ -14,12 +14,11 @@ use Rattle.amqp_value_core.specs.Names.{name_of}
 use Rattle.amqp_value_core.specs.Values.{Tree, table, Entries, no_entries, entry}
 use Rattle.amqp_value_core.specs.Strings.{IsShort}
 use Rattle.amqp_value_core.specs.Grammar.{TableBody, no_pairs, pair, short_field}
-use Rattle.amqp_json.specs.InMemory.{EntriesStored}
 use Rattle.amqp_json.specs.Json as amqp
 use Rattle.amqp_json.specs.Json.{members_json, sole_type, under, table_json, decimal_json}
 use Rattle.amqp_json.specs.Names.{type_named}
-use Rattle.amqp_json.specs.Tokens.{MembersLeadTo, IsObjectOfMembers}
-use Rattle.amqp_json.specs.Encodes.{IsObject, PutsEncodingOf, PutsFirst, PutsPairs, HasNoTypeName, AreEntriesRead, IsLeaf, IsKind, IsLast, IsNoneUnder, wrapped}
+use Rattle.amqp_json.specs.Tokens.{MembersLeadTo}
+use Rattle.amqp_json.specs.Encodes.{IsObject, PutsEncodingOf, PutsFirst, PutsPairs, IsLeaf, IsKind, IsLast, IsNoneUnder, wrapped}
 use Rattle.amqp_json.specs.declared.encoding.leaf.Leaf.{Leaf}
 use Rattle.amqp_json.specs.declared.encoding.leaf.Leaf.TheVariants.{Number, Text, Decimal, Put}
 use Rattle.amqp_json.specs.declared.encoding.object.Kind.{Kind}
@@ -30,7 +29,6 @@ use Rattle.amqp_json.proofs.Back.{named}
 use Rattle.amqp_json.proofs.Encodes.{puts_weaker, table_put}
 use Rattle.amqp_json.proofs.Only.{is_name}
 use Rattle.amqp_json.proofs.Leading.{past_member, over}
-use Rattle.amqp_json.proofs.Merged.{second_of_table}
 
 module _ (p : Parse json.Json) (k : List ℕ) (start : List Token) where
   -- the value under the name is read again
@@ -44,27 +42,6 @@ module _ (p : Parse json.Json) (k : List ℕ) (start : List Token) where
 
   pub sole_under : (type : AMQPType) (d e : Data) (end : List Token) → type_named k ≡ Some type → e ≡ under type d → IsObject (object (member k d no_members)) p (key k ∷ start) end → IsObject e p (key k ∷ start) end
   sole_under type d e end named is found = subst (λ (x : Data). IsObject x p (key k ∷ start) end) (ap (λ j. object (member j d no_members)) (is_name k type named) ∙ sym is) found
-
-  -- the entries of a table, of which the first is under the name, and another follows
-  pub first_pairs : (j : List ℕ) (u rest : List Token) (old mid end : List ℕ) (Q : Tree → Type 0) → PutsFirst k Q old mid
-      → ((v : Tree) → Q v → MembersLeadTo p no_members (key k ∷ start) (member k (amqp.json v) no_members) (key j ∷ u)) → j ≢ k
-      → ((before : Entries) → EntriesStored before → HasNoTypeName before (Some j) → PutsPairs before (λ es. AreEntriesRead before es p (Some j) u rest) mid end)
-      → PutsPairs no_entries (λ es. IsObjectOfMembers p no_members (key k ∷ start) (members_json es) rest × (sole_type (members_json es) ≡ None)) (old ++ 70 ∷ 0 ∷ 0 ∷ 0 ∷ 0 ∷ []) end
-  first_pairs j u rest old mid end Q first leads other more =
-      let head = old ++ 70 ∷ 0 ∷ 0 ∷ 0 ∷ 0 ∷ [] in
-      let named = short_field k in
-      let w = first.1.0 in
-      let v = first.1.1 in
-      let at = leads v first.1.5 in
-      let all = more (entry k v no_entries) (first.0, first.1.4, tt) (second_of_table j k (amqp.json v) other) in
-      let tail = all.0 in (
-        named ++ (w ++ tail),
-        entry k v all.1,
-        all.2 ∙ ap (λ b. b ++ tail) first.1.2 ∙ append_assoc (head ++ named) w tail ∙ append_assoc head named (w ++ tail),
-        pair k w tail v all.1 first.0 first.1.3 all.3,
-        all.4,
-        (λ n enough. let to = at n enough in to.2 ∙ all.5.0 (key j ∷ u) to.0 refl to.1, all.5.1),
-      )
 
 -- ---- the name of a type as the only key of a table
 

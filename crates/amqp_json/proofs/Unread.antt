@@ -20,16 +20,16 @@ use Rattle.amqp_json.specs.Lexing.{IsLastInteger}
 use Rattle.amqp_json.specs.Names.{type_named}
 use Rattle.amqp_json.specs.Sorted.{by_key, at_key}
 use Rattle.amqp_json.specs.Tokens.{Ends, IsNoEntry, IsNoTable, IsTableObject, BecomesTable, MembersLeadTo, next_token}
-use Rattle.amqp_json.specs.Encodes.{OnNotAValue, IsNoneUnder, IsNumberWith, EncodesNone, Extends, IsObject, IsMemberPut, IsTableOf, PutsEncodingOf, PutsFirst, PutsPairs, AreEntriesRead, HasNoTypeName}
+use Rattle.amqp_json.specs.Encodes.{OnNotAValue, IsNoneUnder, IsNumberWith, EncodesNone, Extends, IsObject, IsMemberPut, IsTableOf, PutsPairs, AreEntriesRead}
 use Rattle.amqp_json.specs.declared.encoding.Stop.{Stop}
 use Rattle.amqp_json.specs.declared.encoding.Stop.TheVariants.{OutOfMemory, NotHere, NotAValue}
-use Rattle.amqp_json.proofs.Encodes.{ItemsLeft, PairsLeft, puts_weaker, plain_object, under_object}
-use Rattle.amqp_json.proofs.Refused.{under_is, under_table, plain_unnamed}
+use Rattle.amqp_json.proofs.Encodes.{ItemsLeft, PairsLeft, under_object}
+use Rattle.amqp_json.proofs.Refused.{under_is, under_table}
 use Rattle.amqp_value_core.specs.declared.types.amqp_type.AMQPType.{AMQPType}
 use Rattle.amqp_value_core.specs.declared.types.amqp_type.AMQPType.TheVariants as amqp_type
 use Rattle.amqp_json.proofs.Forms.{no_table, no_table_forms}
 use Rattle.amqp_json.proofs.Leading.{taken, leads_as, next_is, past_member, over, ends_on, sole_of_table}
-use Rattle.amqp_json.proofs.Merged.{merge, AreKeysOf, AreNoEntries, AreMembersRising, becomes, second_of_table, rest_step, no_keys, some_keys}
+use Rattle.amqp_json.proofs.Merged.{merge, AreKeysOf, AreNoEntries, AreMembersRising, becomes, rest_step, no_keys, some_keys}
 use Rattle.amqp_json.proofs.Passing.{SameEnd, end, ends, end-parse_map}
 use Rattle.amqp_json.proofs.Turns.{number_read, item_read, items_over, insert_put}
 use Rattle.amqp_json.proofs.Walks.{put_stored}
@@ -240,19 +240,6 @@ module _ (p : Parse json.Json) (before : Entries) (first : Option (List ℕ)) (s
     pub rest_none : IsNoTable p with_bad (next_token next ∷ u) rest × Extends mid new → IsNoTable p (members_json before) (next_token first ∷ start) rest × Extends old new
     rest_none (none, more) = (no_table_on p (members_json before) with_bad (next_token first ∷ start) (next_token next ∷ u) rest bad_leads none, extends_after l.body old mid new l.put more)
 
--- ---- an object whose first key is the name of a type
-
--- the first member is that of an entry, and a later one isn't
-pub first_none : (p : Parse json.Json) (k j : List ℕ) (start u rest : List Token) (old mid new : List ℕ) (Q : Tree → Type 0) → PutsFirst k Q old mid
-    → ((v : Tree) → Q v → MembersLeadTo p no_members (key k ∷ start) (member k (amqp.json v) no_members) (key j ∷ u)) → j ≢ k
-    → ((before : Entries) → EntriesStored before → HasNoTypeName before (Some j) → IsNoTable p (members_json before) (key j ∷ u) rest × Extends mid new)
-    → IsNoTable p no_members (key k ∷ start) rest × Extends old new
-first_none p k j start u rest old mid new Q (short, (w, v, same, encoded, stored, q)) leads other more =
-    let all = more (entry k v no_entries) (short, stored, tt) (second_of_table j k (amqp.json v) other) in
-    let head = 70 ∷ 0 ∷ 0 ∷ 0 ∷ 0 ∷ [] in
-    let put : mid ≡ old ++ (head ++ (short_field k ++ w)) = same ∙ append_assoc (old ++ head) (short_field k) w ∙ append_assoc old head (short_field k ++ w) in
-    (no_table_on p no_members (member k (amqp.json v) no_members) (key k ∷ start) (key j ∷ u) rest (leads v q) all.0, extends_after (head ++ (short_field k ++ w)) old mid new put all.1)
-
 -- ---- a result that is known
 
 pub when_ok : {A E : Type 0} (r : Result A E) (a : A) (P : A → Type 0) → r ≡ Ok a → IfOk r P → P a
@@ -305,15 +292,6 @@ no_sole p type d ts rest old new none is more = (under type d, is, (under_is typ
 pub no_sole_under : (p : Parse json.Json) (type : AMQPType) (d : Data) (ts rest : List Token) (old new : List ℕ) → IsNoneUnder type d → value_of d ≡ None → IsObject (under type d) p ts rest → Extends old new
     → EncodesNone (λ e. IsObject e p ts rest × IsNoneUnder amqp_type.FieldTable e) old new
 no_sole_under p type d ts rest old new none unread is more = (under type d, (is, sym (under_is amqp_type.FieldTable (under type d)) ∙ under_table type d unread), (under_is type d ∙ none, refl), more)
-
--- a table of which the first value isn't that of an entry
-pub bad_first : (p : Parse json.Json) (k : List ℕ) (d : Data) (ts us rest : List Token) (old new : List ℕ) → MembersLeadTo p no_members ts (member k d no_members) us
-    → PutsEncodingOf (λ v. (es : Entries) × (v ≡ values.table es) × IsTableOf es p (member k d no_members) us rest) old new → PutsEncodingOf (λ v. IsObject (amqp.json v) p ts rest × IsNoneUnder amqp_type.FieldTable (amqp.json v)) old new
-bad_first p k d ts us rest old new leads put =
-    puts_weaker (λ v. (es : Entries) × (v ≡ values.table es) × IsTableOf es p (member k d no_members) us rest) (λ v. IsObject (amqp.json v) p ts rest × IsNoneUnder amqp_type.FieldTable (amqp.json v)) old new
-    (λ v h.
-    let sole = sole_of_table (members_json h.0) h.2.1 in
-    ((members_json h.0, plain_object v h.0 h.1 sole, ends_on p no_members ts (member k d no_members) us (members_json h.0) rest leads h.2.0 (length ts) (omega arith)), plain_unnamed v h.0 h.1 sole)) put
 
 -- an integer as the last number of an object, under the name of a type
 pub last_integer_object : (depth : ℕ) (k : List ℕ) (type : AMQPType) (z : ℤ) (s end : List Token) → type_named k ≡ Some type → IsLastInteger z s end → IsObject (under type (number (of_integer z))) (json.value depth) (key k ∷ s) end

@@ -1,5 +1,5 @@
 -- For private clauses: encodings that are put after other bytes.
-use Rattle.std.specs.Prelude.{ℕ, zero, suc, ◌≡◌, ◌≤◌, IsTrue, List, [], ◌∷◌, ◌++◌, length, Option, Some, None, option_map, MatchOption}
+use Rattle.std.specs.Prelude.{ℕ, zero, suc, ◌≡◌, ◌≢◌, ◌≤◌, IsTrue, List, [], ◌∷◌, ◌++◌, length, Option, Some, None, option_map, MatchOption}
 use Rattle.json.specs.Token.{Token, key}
 use Rattle.json.specs.Json.{Json, Parse, members, read_key, value}
 use Rattle.serde_json.specs.Data.{Num, Data, Members, number, string, object, member, no_members}
@@ -16,7 +16,7 @@ use Rattle.amqp_json.specs.InMemory.{IsStored, AreStoredTrees, EntriesStored}
 use Rattle.amqp_json.specs.Converts.{IsStoredMeaning}
 use Rattle.amqp_json.specs.Json.{json, members_json, decimal_json, under, sole_type}
 use Rattle.amqp_json.specs.Reading.{value_of, value_named, ambiguous_table}
-use Rattle.amqp_json.specs.Tokens.{BecomesTable, IsUnread, IsNoEntry, IsObjectOfMembers, IsTableObject}
+use Rattle.amqp_json.specs.Tokens.{BecomesTable, IsUnread, IsNoEntry, IsObjectOfMembers, IsTableObject, MembersLeadTo}
 use Rattle.amqp_json.specs.declared.encoding.Stop.{Stop}
 use Rattle.amqp_json.specs.declared.encoding.Stop.TheVariants.{NotAValue}
 use Rattle.amqp_json.specs.declared.encoding.leaf.Leaf.{Leaf}
@@ -26,6 +26,8 @@ use Rattle.amqp_json.specs.declared.encoding.object.Kind.{Kind}
 use Rattle.amqp_json.specs.declared.encoding.object.Kind.TheVariants.{Table, Named}
 use Rattle.amqp_json.specs.declared.encoding.last.Last.{Last}
 use Rattle.amqp_json.specs.declared.encoding.last.Last.TheVariants.{Leaf as OfLeaf, Object as OfObject, NoValue}
+use Rattle.amqp_json.specs.declared.encoding.last.Turns.{Turns}
+use Rattle.amqp_json.specs.declared.encoding.last.Turns.TheVariants.{Sole, Table as OfTable, NoValue as OfNoValue}
 
 -- if no encoding is put since it is the JSON of no value, `none` is so; any other reason says nothing
 abbrev pub OnNotAValue : Stop → Type 0 → Type 0
@@ -133,10 +135,27 @@ abbrev pub IsObject : Data → Parse Json → List Token → List Token → Type
 IsObject d value ts rest =
     (ms : Members) × (d ≡ object ms) × (converted (λ found. of_members found no_members) (members value (length ts) ts) ≡ Some (ms, rest))
 
--- what is under the first key, the name of a type, if that is the only one; otherwise a table is put,
--- which needs no name of its type
-abbrev pub IsNamedRead : Option Last → AMQPType → Parse Json → List ℕ → List Token → List Token → List ℕ → List ℕ → Type 0
-IsNamedRead None type value k ts rest old new = PutsEncodingOf (λ v. IsObject (json v) value (key k ∷ ts) rest × IsNoneUnder amqp.FieldTable (json v)) old new
-IsNamedRead (Some last) type value k ts rest old new =
+-- an object is put that is a table, and needs no name of its type
+abbrev pub PutsTable : Parse Json → List Token → List Token → List ℕ → List ℕ → Type 0
+PutsTable value ts rest old new = PutsEncodingOf (λ v. IsObject (json v) value ts rest × IsNoneUnder amqp.FieldTable (json v)) old new
+
+-- an object has d under its first key k, and the members from another key j on
+abbrev pub IsFirst : Parse Json → List ℕ → Data → List Token → List ℕ → List Token → Type 0
+IsFirst value k d ts j rest = MembersLeadTo value no_members (key k ∷ ts) (member k d no_members) (key j ∷ rest) × (j ≢ k)
+
+-- what is under the first key is put as the first of a table
+abbrev pub IsFirstPut : Parse Json → List ℕ → List Token → List ℕ → List Token → List ℕ → List ℕ → Type 0
+IsFirstPut value k ts j rest old new = PutsFirst k (λ v. IsFirst value k (json v) ts j rest) old new
+
+-- what is under the first key isn't that of an entry
+abbrev pub IsFirstBad : Parse Json → List ℕ → List Token → List ℕ → List Token → Type 0
+IsFirstBad value k ts j rest = (d : Data) × IsNoEntry k d × IsFirst value k d ts j rest
+
+-- what is under the first key, the name of a type, if that is the only one; otherwise the first pair of
+-- a table is put, or what is under the key isn't that of an entry
+abbrev pub IsNamedRead : Turns → AMQPType → Parse Json → List ℕ → List Token → List Token → List ℕ → List ℕ → Type 0
+IsNamedRead (Sole last) type value k ts rest old new =
     (read : Option (Data × List Token)) × (after : List Token) × IsLast last type k read after old new
     × ((d : Data) → read ≡ Some (d, after) → IsObject (object (member k d no_members)) value (key k ∷ ts) rest)
+IsNamedRead (OfTable j) type value k ts rest old new = IsFirstPut value k ts j.now rest old new
+IsNamedRead (OfNoValue j) type value k ts rest old new = IsFirstBad value k ts j.now rest × Extends old new

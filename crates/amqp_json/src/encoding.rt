@@ -1,7 +1,7 @@
 //! From the tokens of a text to an encoding of its value, without the value in memory: the pairs of
 //! a table are in the order of the text, and keys may occur again.
 
-ghost use Rattle.std.specs.Prelude.{ℕ, ◌≡◌, ◌≢◌, ◌<◌, ◌≤◌, ◌∷◌, [], length, List, Some, None, true, codes, IfOk, OnOk, IfErr, IfSome, option_map};
+ghost use Rattle.std.specs.Prelude.{ℕ, ◌≡◌, ◌≢◌, ◌+◌, ◌<◌, ◌≤◌, ◌∷◌, [], length, List, Some, None, true, codes, IfOk, OnOk, IfErr, IfSome, option_map};
 ghost use Rattle.json.specs.Token.{Token as SpecToken};
 ghost use Rattle.json.specs.Token as token;
 ghost use Rattle.json.specs.Reads.{token_of};
@@ -11,7 +11,7 @@ ghost use Rattle.serde_json.specs.Read.{of_json, of_items, converted, number_of}
 ghost use Rattle.amqp_value_core.specs.declared.types.amqp_type.AMQPType.TheVariants as amqp;
 ghost use Rattle.amqp_value_core.specs.Values.{Entries, table};
 ghost use Rattle.amqp_json.specs.InMemory.{EntriesStored};
-ghost use Rattle.amqp_json.specs.Encodes.{IsObject, IsEncodedMeaning, PutsEncodingOf, PutsValues, PutsPairs, AreEntriesRead, HasNoTypeName, IsLast, IsPending, IsNamedRead, OnNotAValue, IsNoneUnder, EncodesNone, Extends, IsMemberPut, IsTableOf};
+ghost use Rattle.amqp_json.specs.Encodes.{IsObject, IsEncodedMeaning, PutsEncodingOf, PutsValues, PutsPairs, AreEntriesRead, HasNoTypeName, IsLast, IsPending, IsNamedRead, IsFirstPut, IsFirstBad, PutsTable, OnNotAValue, IsNoneUnder, EncodesNone, Extends, IsMemberPut, IsTableOf};
 ghost use Rattle.amqp_json.specs.Tokens.{Ends, IsUnread, IsNoTable, IsNoEntry, BecomesTable, next_token};
 ghost use Rattle.amqp_json.specs.Refusals.{IsErrorWithin};
 ghost use Rattle.amqp_json.specs.Converts.{IsRefused};
@@ -34,13 +34,13 @@ use crate::names::type_of_name;
 use amqp_value_core::types::AMQPType;
 use fields::last_of_table;
 use json::{Scratch, Token};
-use last::{Last, fails_at_start, is_same, object_of, put_first, put_sole, take_back};
+use last::{Last, Turns, fails_at_start, is_same, object_of, put_first, put_sole, take_back};
 use leaf::Leaf;
 use lexer::Lexer;
 use named::put_narrow;
 use object::{Object, TABLE};
 use plain::put_integer;
-use put::{fill_length, put_boolean, put_head, put_key, put_text, put_void};
+use put::{fill_length, put_boolean, put_head, put_key, put_short_key, put_text, put_void};
 use std::alloc::{AllocError, Global};
 use std::collections::BTreeMap;
 
@@ -401,11 +401,16 @@ fn object_under_table<'a>(
     if let Some(name) = first
         && let Some(amqp_type) = type_of_name(name)
     {
-        let found = put_turns(alloc, reader, out, name, amqp_type, depth)?;
-        let Some(last) = found else {
-            return Ok(TABLE);
-        };
-        return object_of(amqp_type, last);
+        let start = out.len();
+        match put_turns(alloc, reader, out, name, amqp_type, depth)? {
+            Turns::Sole(last) => return object_of(amqp_type, last),
+            Turns::Table(key) => put_others(alloc, reader, out, start + 1, key, depth)?,
+            Turns::NoValue(key) => {
+                let first = (name, reader.fault());
+                put_bad_first(alloc, reader, out, start, first, key, depth)?;
+            }
+        }
+        return Ok(TABLE);
     }
     put_table(alloc, reader, out, first, depth)?;
     Ok(TABLE)
@@ -467,8 +472,8 @@ fn put_members<'a>(
     Ok(())
 }
 
-// Puts the member with a key that was read, or returns where its value begins if it isn't that of an
-// entry. Then nothing of it is put.
+// Puts the member with a key that was read. If it isn't that of an entry, nothing of it is put, and
+// where its value begins is returned, or where that in it begins which is no value.
 #[cycle(encode)]
 #[inline(always)]
 fn put_member(
@@ -482,46 +487,21 @@ fn put_member(
         key.now out.old.items out.new.items) }
     ensures refused { IfErr result (λ e. OnNotAValue e ⊥) }
 {
-    if key.len() > 255 {
-        let at = long_member(alloc, reader, out, depth)?;
-        return Ok(Some(at));
-    }
     let start = out.len();
-    put_key(out, key)?;
+    let begin = reader.offset();
+    let is_short = put_short_key(out, key)?;
     match put_value(alloc, reader, out, depth) {
-        Ok(()) => Ok(None),
+        Ok(()) if is_short => Ok(None),
+        Ok(()) => {
+            out.truncate(start);
+            Ok(Some(begin))
+        }
         Err(Stop::NotAValue) => {
             out.truncate(start);
             Ok(Some(reader.fault()))
         }
         Err(e) => Err(e),
     }
-}
-
-// Reads the value of a key that is longer than that of an entry, and returns where the value begins, or
-// where that in it begins which is no value.
-#[cycle(encode)]
-#[cold]
-#[inline(never)]
-fn long_member(
-    alloc: Global,
-    reader: &mut Lexer<'_>,
-    out: &mut Vec<u8>,
-    depth: usize,
-) -> Result<usize, Stop>
-    ensures ok { IfOk result (λ at. (out.new.items ≡ out.old.items)
-        × ((d : Data) × (converted of_json (value depth reader.old) ≡ Some (d, reader.new)))) }
-    ensures refused { IfErr result (λ e. OnNotAValue e ⊥) }
-{
-    let start = out.len();
-    let begin = reader.offset();
-    let at = match put_value(alloc, reader, out, depth) {
-        Ok(()) => begin,
-        Err(Stop::NotAValue) => reader.fault(),
-        Err(e) => return Err(e),
-    };
-    out.truncate(start);
-    Ok(at)
 }
 
 // The members that are left after one that isn't that of an entry. A later one may have its key.
@@ -612,15 +592,20 @@ fn put_named<'a>(
 {
     let start = out.len();
     match put_turns(alloc, reader, out, name, amqp_type, depth)? {
-        None => Ok(()),
-        Some(last) => put_sole(alloc, out, start, amqp_type, last),
+        Turns::Sole(last) => put_sole(alloc, out, start, amqp_type, last),
+        Turns::Table(key) => put_others(alloc, reader, out, start + 1, key, depth),
+        Turns::NoValue(key) => {
+            let first = (name, reader.fault());
+            put_bad_first(alloc, reader, out, start, first, key, depth)
+        }
     }
 }
 
-// What is under that key, if it is the only one, and otherwise a table, which is put. The key or the
-// brace after the value says which.
+// What is under that key, if it is the only one, and otherwise the first pair of a table, which is
+// put. The key or the brace after the value says which.
+// Not inlined, so that it is off the stack when the members after the first are read.
 #[cycle(encode)]
-#[inline(always)]
+#[inline(never)]
 fn put_turns<'a>(
     alloc: Global,
     reader: &mut Lexer<'a>,
@@ -628,12 +613,11 @@ fn put_turns<'a>(
     name: &'a str,
     amqp_type: AMQPType,
     depth: usize,
-) -> Result<Option<Last<'a>>, Stop>
-    ensures ok { IfOk result (λ found. IsNamedRead found amqp_type (value depth) name.now reader.old reader.new
+) -> Result<Turns<'a>, Stop>
+    ensures ok { IfOk result (λ turns. IsNamedRead turns amqp_type (value depth) name.now reader.old reader.new
         out.old.items out.new.items) }
-    ensures shorter { IfOk result (λ found. length reader.new < length reader.old) }
-    ensures refused { IfErr result (λ e. OnNotAValue e (IsNoTable (value depth) no_members
-        (token.key name.now ∷ reader.old) reader.new × Extends out.old.items out.new.items)) }
+    ensures shorter { IfOk result (λ turns. length reader.new < length reader.old) }
+    ensures refused { IfErr result (λ e. OnNotAValue e ⊥) }
 {
     let start = out.len();
     'turns: loop {
@@ -642,24 +626,40 @@ fn put_turns<'a>(
         note_place(reader, last, at);
         let next = reader.next_key()?;
         match next {
-            None => return Ok(Some(last)),
+            None => return Ok(Turns::Sole(last)),
             Some(key) if is_same(key, name) => take_back(out, start, last)?,
             Some(key) => {
-                match put_first(alloc, out, start, name, last) {
-                    Ok(()) => {}
-                    Err(Stop::NotAValue) => {
-                        let first = (name, reader.fault());
-                        put_bad_first(alloc, reader, out, start, first, key, depth)?;
-                        return Ok(None);
-                    }
-                    Err(e) => return Err(e),
-                }
-                put_members(alloc, reader, out, Some(key), depth)?;
-                fill_length(out, start + 1)?;
-                return Ok(None);
+                return match put_first(alloc, out, start, name, last) {
+                    Ok(()) => Ok(Turns::Table(key)),
+                    Err(Stop::NotAValue) => Ok(Turns::NoValue(key)),
+                    Err(e) => Err(e),
+                };
             }
         }
     }
+}
+
+// The members of a table after the first, which is put, and the length of the table at its place.
+#[cycle(encode)]
+#[inline(never)]
+fn put_others<'a>(
+    alloc: Global,
+    reader: &mut Lexer<'a>,
+    out: &mut Vec<u8>,
+    at: usize,
+    key: &'a str,
+    depth: usize,
+) -> Result<(), Stop>
+    ensures ok { OnOk result ((k old : List ℕ) (ts : List SpecToken) → length old + 1 ≡ at
+        → IsFirstPut (value depth) k ts key.now reader.old old out.old.items
+        → PutsTable (value depth) (token.key k ∷ ts) reader.new old out.new.items) }
+    ensures shorter { OnOk result (length reader.new ≤ length reader.old) }
+    ensures refused { IfErr result (λ e. OnNotAValue e ((k old : List ℕ) (ts : List SpecToken)
+        → IsFirstPut (value depth) k ts key.now reader.old old out.old.items
+        → IsNoTable (value depth) no_members (token.key k ∷ ts) reader.new × Extends old out.new.items)) }
+{
+    put_members(alloc, reader, out, Some(key), depth)?;
+    fill_length(out, at)
 }
 
 // Notes where the value begins, in case that it is none.
@@ -685,15 +685,14 @@ fn put_bad_first<'a>(
     key: &'a str,
     depth: usize,
 ) -> Result<(), Stop>
-    ensures ok { OnOk result ((old : List ℕ) (d : Data) → length old ≡ start → Extends old out.old.items
-        → IsNoEntry first.entry.0.now d → key.now ≢ first.entry.0.now
-        → PutsEncodingOf (λ v. (es : Entries) × (v ≡ table es) × IsTableOf es (value depth)
-        (member first.entry.0.now d no_members) (token.key key.now ∷ reader.old) reader.new) old out.new.items) }
+    ensures ok { OnOk result ((old : List ℕ) (ts : List SpecToken) → length old ≡ start → Extends old out.old.items
+        → IsFirstBad (value depth) first.entry.0.now ts key.now reader.old
+        → PutsTable (value depth) (token.key first.entry.0.now ∷ ts) reader.new old out.new.items) }
     ensures shorter { OnOk result (length reader.new ≤ length reader.old) }
-    ensures refused { IfErr result (λ e. OnNotAValue e ((old : List ℕ) (d : Data) → length old ≡ start
-        → Extends old out.old.items → IsNoEntry first.entry.0.now d → key.now ≢ first.entry.0.now
-        → IsNoTable (value depth) (member first.entry.0.now d no_members) (token.key key.now ∷ reader.old)
-        reader.new × Extends old out.new.items)) }
+    ensures refused { IfErr result (λ e. OnNotAValue e ((old : List ℕ) (ts : List SpecToken) → length old ≡ start
+        → Extends old out.old.items → IsFirstBad (value depth) first.entry.0.now ts key.now reader.old
+        → IsNoTable (value depth) no_members (token.key first.entry.0.now ∷ ts) reader.new
+        × Extends old out.new.items)) }
 {
     out.truncate(start);
     let at = out.len() + 1;

@@ -25,6 +25,17 @@ pub(crate) enum Last<'a> {
     NoValue,
 }
 
+/// What came after the first key of an object, the name of a type.
+#[derive(Clone, Copy)]
+pub(crate) enum Turns<'a> {
+    /// The closing brace.
+    Sole(Last<'a>),
+    /// This other key. The first pair of a table is put.
+    Table(&'a str),
+    /// This other key. What is under the first is no value.
+    NoValue(&'a str),
+}
+
 /// The value of a type whose name is the only key.
 #[inline(always)]
 pub(crate) fn put_sole(

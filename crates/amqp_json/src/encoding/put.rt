@@ -1,6 +1,6 @@
 //! Bytes of encodings, put after others.
 
-ghost use Rattle.std.specs.Prelude.{◌≡◌, ◌+◌, ◌-◌, ◌<◌, ◌^◌, ◌∷◌, [], ◌++◌, length, take, drop, OnOk, IfErr};
+ghost use Rattle.std.specs.Prelude.{◌≡◌, ◌+◌, ◌-◌, ◌<◌, ◌^◌, ◌∷◌, [], ◌++◌, length, take, drop, true, false, IfOk, OnOk, IfErr};
 ghost use Rattle.std.specs.Int.{w8, w16, w32, w64, to_be_bytes, cast_unsigned};
 ghost use Rattle.amqp_value_core.specs.declared.types.amqp_type.AMQPType.TheVariants as amqp;
 ghost use Rattle.amqp_value_core.specs.Grammar.{short_field};
@@ -110,6 +110,21 @@ pub(crate) fn put_key(out: &mut Vec<u8>, key: &str) -> Result<(), Stop>
     };
     put_byte(out, n)?;
     Ok(out.extend_from_slice(key.as_bytes())?)
+}
+
+/// Whether the key is short enough for an entry, and is put. Nothing is put of any other.
+#[inline(always)]
+pub(crate) fn put_short_key(out: &mut Vec<u8>, key: &str) -> Result<bool, Stop>
+    ensures short { IfOk result (λ is_put. is_put ≡ true → IsShort key.now
+        × (out.new.items ≡ out.old.items ++ short_field key.now)) }
+    ensures long { IfOk result (λ is_put. is_put ≡ false → (255 < length key.now) × (out.new.items ≡ out.old.items)) }
+    ensures refused { IfErr result (λ e. OnNotAValue e ⊥) }
+{
+    if key.len() > 255 {
+        return Ok(false);
+    }
+    put_key(out, key)?;
+    Ok(true)
 }
 
 /// A container's type tag, and four bytes for its length, which `fill_length` fills in.

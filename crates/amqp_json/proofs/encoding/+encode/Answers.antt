@@ -19,24 +19,25 @@ use Rattle.serde_json.specs.Read.{of_json, of_items, converted, number_of}
 use Rattle.amqp_value_core.specs.declared.types.amqp_type.AMQPType.TheVariants as amqp
 use Rattle.amqp_value_core.specs.Values as values
 use Rattle.amqp_value_core.specs.Values.{Tree, Trees, Entries, no_entries, scalar, boolean, void, long}
-use Rattle.amqp_json.specs.Encodes.{AreEntriesRead, IsLast, IsNamedRead, IsNoneUnder, IsPending, PutsEncodingOf, PutsFirst, PutsPairs, EncodesNone, Extends, OnNotAValue, IsTableOf}
+use Rattle.amqp_json.specs.Encodes.{AreEntriesRead, IsLast, IsNamedRead, IsFirst, IsFirstPut, IsFirstBad, IsNoneUnder, IsPending, PutsEncodingOf, PutsFirst, PutsPairs, PutsTable, EncodesNone, Extends, OnNotAValue, IsTableOf}
 use Rattle.amqp_json.proofs.Refused.{IsPutToken, put_unnamed, plain_unnamed}
 use Rattle.amqp_json.specs.Names.{type_named}
-use Rattle.amqp_json.specs.declared.encoding.last.Last.{Last}
+use Rattle.amqp_json.specs.declared.encoding.last.Turns.{Turns}
 use Rattle.amqp_json.proofs.Only.{is_name, no_decimal}
-use Rattle.amqp_json.specs.Tokens.{IsObjectOfMembers, IsNoEntry, IsNoTable, next_token}
+use Rattle.amqp_json.specs.Tokens.{IsNoTable, next_token}
 use Rattle.amqp_json.proofs.Refused.{refusal_weaker, refused_weaker}
-use Rattle.amqp_json.proofs.Unread.{last_integer_object, no_table_on, both, no_sole, no_sole_under, no_object_under, bad_first, none_weaker, same_extends, extends_after, no_array, no_object, RestLeft, rest_first, rest_next, rest_done, rest_refused, bad_table, rest_pairs, rest_none, first_none, when_ok, on_ok, when_err, item_passed, items_passed, member_taken}
-use Rattle.amqp_json.specs.Json.{json, items_json, members_json, sole_type, under, decimal_json}
+use Rattle.amqp_json.proofs.Unread.{last_integer_object, no_table_on, both, no_sole, no_sole_under, no_object_under, none_weaker, same_extends, extends_after, no_array, no_object, RestLeft, rest_first, rest_next, rest_done, rest_refused, bad_table, rest_pairs, rest_none, when_ok, on_ok, when_err, item_passed, items_passed, member_taken}
+use Rattle.amqp_json.specs.Json.{json, items_json, members_json, under, decimal_json}
 use Rattle.amqp_json.specs.Encodes.{IsObject}
 use Rattle.amqp_json.proofs.Turns.{weaker, closed, number_is, converted-array, converted-object}
 use Rattle.amqp_json.proofs.Leading.{leads, leads_as, next_is, taken, was_put, was_bad}
 use Rattle.amqp_json.proofs.Merged.{put_over, second_of_table, no_value_entry}
-use Rattle.amqp_json.proofs.Named.{back_to, last_after, past_turn, sole_object, sole_under, first_pairs, put_pending}
+use Rattle.amqp_json.proofs.Named.{back_to, last_after, past_turn, sole_object, sole_under, put_pending}
+use Rattle.amqp_json.proofs.Firsts.{others_put, first_none, bad_first, any_object}
 use Rattle.amqp_json.proofs.Encodes.{PairsLeft, items_first, items_next, items_done, pairs_first, pairs_next, pairs_done, array_put, table_put, puts_weaker, text_put, scalar_put, plain_first, plain_object}
 use Rattle.amqp_json.proofs.Decimals.{decimal_read}
 use Rattle.amqp_json.proofs.encoding.+encode.Goals as goal
-use Rattle.amqp_json.proofs.encoding.+encode.Goals.{last_fields-else-is_scale-via-else-is_scale, last_fields-else-is_scale-via-then-is_scale+in-None-1}
+use Rattle.amqp_json.proofs.encoding.+encode.Goals.{object_under_table-in-Table+in_ok-put_others-in-Table, object_under_table-in-NoValue+in_ok-put_bad_first-in-NoValue, last_fields-else-is_scale-via-else-is_scale, last_fields-else-is_scale-via-then-is_scale+in-None-1}
 
 pub put_token-returns-in-Null-clause-ok : goal.put_token-returns-in-Null-clause-ok
 put_token-returns-in-Null-clause-ok t c =
@@ -521,8 +522,8 @@ put_turns-returns-in-None-clause-ok t c =
           sole_object p k s d u (leads_as p no_members (key k ∷ s) (member k d no_members) r (Token.end_object ∷ u) past end),
     )
 
-pub put_turns-returns-in-Some-2-clause-ok : goal.put_turns-returns-in-Some-2-clause-ok
-put_turns-returns-in-Some-2-clause-ok t c =
+pub put_turns-returns-in-Ok-clause-ok : goal.put_turns-returns-in-Ok-clause-ok
+put_turns-returns-in-Ok-clause-ok t c =
     let p = value c.args.depth in
     let l = c.turns in
     let k = c.args.name.now in
@@ -531,30 +532,22 @@ put_turns-returns-in-Some-2-clause-ok t c =
     let r = c.put_last.new.reader in
     let u = c.next_key.new.self in
     let after_last = ap read_key (sym c.note_place.ensures) ∙ c.in_ok-next.ensures.ok in
-    let rest = c.put_members.new.reader in
     let last = c.in_ok-last.ensures in
     let read = converted of_json (p l.reader) in
     let old = c.args.out.now.items in
     let mid = c.put_first.new.out.items in
-    let end = c.put_members.new.out.items in
-    let new = c.fill_length.new.out.items in
-    let place : c.len-start.result + 1 ≡ length old + 1 = grind arith in
     let len : length old ≡ c.len-start.result = grind arith in
     let other : j ≢ k = search rules in
     let next : read_key r ≡ Some (Some j, u) = after_last ∙ ap (λ (o : Option (Bor (List ℕ))). Some (option_map (λ b. b.now) o, u)) c.in-Some-2.is in
     let here = subst (λ (b : List ℕ). IsLast c.in_ok-last.last c.args.amqp_type k read r b c.put_last.new.out.items) l.invariant.4 last.ok in
-    let first : PutsFirst k (λ v. read ≡ Some (json v, r)) old mid = on_ok c.put_first.result tt _ (search rules) c.put_first.ensures.ok c.args.amqp_type read r old len here in
-    let pairs = first_pairs p k s j u rest old mid end (λ v. read ≡ Some (json v, r)) first (
-    λ v h. leads_as p no_members (key k ∷ s) (member k (json v) no_members) r (key j ∷ u) (past_turn p k s l.invariant.0 l.reader r (json v) l.invariant.1 l.invariant.2 h last.shorter) (next_is r (Some j) u next)
-    ) other c.in_ok-put_members-in-Some-2.ensures.ok in
-    let P : Entries → Type 0 = λ es. IsObjectOfMembers p no_members (key k ∷ s) (members_json es) rest × (sole_type (members_json es) ≡ None) in
-    let done = c.in_ok-fill_length-in-Some-2.ensures.ok in
-    puts_weaker (λ v. (es : Entries) × (v ≡ values.table es) × P es) (λ v. IsObject (json v) p (key k ∷ s) rest × IsNoneUnder amqp.FieldTable (json v)) old new
-    (λ v h. ((members_json h.0, plain_object v h.0 h.1 h.2.1, h.2.0 (length (key k ∷ s)) (omega arith)), plain_unnamed v h.0 h.1 h.2.1))
-    (table_put (c.len-start.result + 1) old (old ++ 70 ∷ 0 ∷ 0 ∷ 0 ∷ 0 ∷ []) end new place done.0 done.1 P refl pairs)
+    let first : PutsFirst k (λ v. read ≡ Some (json v, r)) old mid = on_ok c.put_first.result tt _ (search rules) c.put_first.ensures.ok c.args.amqp_type read r old len here in (
+      first.0,
+      puts_weaker (λ v. read ≡ Some (json v, r)) (λ v. IsFirst p k (json v) s j u) _ mid
+          (λ v h. (leads_as p no_members (key k ∷ s) (member k (json v) no_members) r (key j ∷ u) (past_turn p k s l.invariant.0 l.reader r (json v) l.invariant.1 l.invariant.2 h last.shorter) (next_is r (Some j) u next), other)) first.1,
+    )
 
-pub put_turns-returns-in_err-put_members-in-Some-2-clause-refused : goal.put_turns-returns-in_err-put_members-in-Some-2-clause-refused
-put_turns-returns-in_err-put_members-in-Some-2-clause-refused t c =
+pub put_turns-returns-in-Err-NotAValue-clause-ok : goal.put_turns-returns-in-Err-NotAValue-clause-ok
+put_turns-returns-in-Err-NotAValue-clause-ok t c =
     let p = value c.args.depth in
     let l = c.turns in
     let k = c.args.name.now in
@@ -563,22 +556,21 @@ put_turns-returns-in_err-put_members-in-Some-2-clause-refused t c =
     let r = c.put_last.new.reader in
     let u = c.next_key.new.self in
     let after_last = ap read_key (sym c.note_place.ensures) ∙ c.in_ok-next.ensures.ok in
-    let rest = c.put_members.new.reader in
     let last = c.in_ok-last.ensures in
     let read = converted of_json (p l.reader) in
     let old = c.args.out.now.items in
+    let now = c.put_last.new.out.items in
     let mid = c.put_first.new.out.items in
-    let end = c.put_members.new.out.items in
     let len : length old ≡ c.len-start.result = grind arith in
     let other : j ≢ k = search rules in
     let next : read_key r ≡ Some (Some j, u) = after_last ∙ ap (λ (o : Option (Bor (List ℕ))). Some (option_map (λ b. b.now) o, u)) c.in-Some-2.is in
-    let here = subst (λ (b : List ℕ). IsLast c.in_ok-last.last c.args.amqp_type k read r b c.put_last.new.out.items) l.invariant.4 last.ok in
-    let first : PutsFirst k (λ v. read ≡ Some (json v, r)) old mid = on_ok c.put_first.result tt _ (search rules) c.put_first.ensures.ok c.args.amqp_type read r old len here in
-    let refused = refusal_weaker c.in_err-put_members-in-Some-2.field-0.0 _ (IsNoTable p no_members (key k ∷ s) rest × Extends old end)
-    (first_none p k j s u rest old mid end (λ v. read ≡ Some (json v, r)) first (
-    λ v h. leads_as p no_members (key k ∷ s) (member k (json v) no_members) r (key j ∷ u) (past_turn p k s l.invariant.0 l.reader r (json v) l.invariant.1 l.invariant.2 h last.shorter) (next_is r (Some j) u next)
-    ) other) c.in_err-put_members-in-Some-2.ensures.refused in
-    search (rules, refused)
+    let here = subst (λ (b : List ℕ). IsLast c.in_ok-last.last c.args.amqp_type k read r b now) l.invariant.4 last.ok in
+    let result : c.put_first.result ≡ Err NotAValue = search rules in
+    let none = when_err c.put_first.result NotAValue _ result c.put_first.ensures.refused c.args.amqp_type read r old len here in
+    let kept = when_err c.put_first.result NotAValue _ result c.put_first.ensures.kept in
+    let was = last_after c.in_ok-last.last c.args.amqp_type k read r old now here in
+    let leads = leads_as p no_members (key k ∷ s) (member k none.0 no_members) r (key j ∷ u) (past_turn p k s l.invariant.0 l.reader r none.0 l.invariant.1 l.invariant.2 none.1 last.shorter) (next_is r (Some j) u next) in
+    ((none.0, no_value_entry k none.0 none.2, (leads, other)), extends_after was.0 old now mid was.1 kept)
 
 pub put_last-returns-in-Ok-clause-ok : goal.put_last-returns-in-Ok-clause-ok
 put_last-returns-in-Ok-clause-ok t c =
@@ -600,23 +592,8 @@ object_under_table-returns-2-clause-ok t c =
     let o = option_map (λ (b : Bor (List ℕ)). b.now) c.in_ok-first.first in
     put_pending p s r _ _ (puts_weaker (λ v. ((ts : List Token) → read_key ts ≡ Some (o, a) → IsObject (json v) p ts r) × IsNoneUnder amqp.FieldTable (json v)) (λ v. IsObject (json v) p s r × IsNoneUnder amqp.FieldTable (json v)) _ _ (λ v h. (h.0 s c.in_ok-first.ensures.ok, h.1)) (c.in_ok-put_table.ensures.ok (search rules)))
 
-pub object_under_table-returns-in_default-clause-ok : goal.object_under_table-returns-in_default-clause-ok
-object_under_table-returns-in_default-clause-ok t c =
-    let p = value c.args.depth in
-    let s = c.args.reader.now in
-    let k = c.in-Some.name.now in
-    let a = c.next_key.new.self in
-    let r = c.put_turns.new.reader in
-    let old = c.args.out.now.items in
-    let new = c.put_turns.new.out.items in
-    let first : read_key s ≡ Some (Some k, a) = c.in_ok-first.ensures.ok ∙ ap (λ (o : Option (Bor (List ℕ))). Some (option_map (λ b. b.now) o, a)) c.in-Some.is in
-    let next = next_is s (Some k) a first in
-    let none : c.in_ok-found.found ≡ None = search rules in
-    let put = subst (λ (f : Option Last). IsNamedRead f c.in-Some-type_of_name.amqp_type p k a r old new) none c.in_ok-found.ensures.ok in
-    put_pending p s r old new (subst (λ (ts : List Token). PutsEncodingOf (λ v. IsObject (json v) p ts r × IsNoneUnder amqp.FieldTable (json v)) old new) (sym next) put)
-
-pub object_under_table-returns-clause-ok : goal.object_under_table-returns-clause-ok
-object_under_table-returns-clause-ok t c =
+pub object_under_table-returns-in-Sole-clause-ok : goal.object_under_table-returns-in-Sole-clause-ok
+object_under_table-returns-in-Sole-clause-ok t c =
     let p = value c.args.depth in
     let s = c.args.reader.now in
     let k = c.in-Some.name.now in
@@ -625,11 +602,11 @@ object_under_table-returns-clause-ok t c =
     let old = c.args.out.now.items in
     let new = c.put_turns.new.out.items in
     let type = c.in-Some-type_of_name.amqp_type in
-    let last = c.in-Some-found.last in
+    let last = c.in-Sole.last in
     let first : read_key s ≡ Some (Some k, a) = c.in_ok-first.ensures.ok ∙ ap (λ (o : Option (Bor (List ℕ))). Some (option_map (λ b. b.now) o, a)) c.in-Some.is in
     let next = next_is s (Some k) a first in
     let typed : type_named k ≡ Some type = search rules in
-    let is = subst (λ (f : Option Last). IsNamedRead f type p k a r old new) c.in-Some-found.is c.in_ok-found.ensures.ok in
+    let is = subst (λ (f : Turns). IsNamedRead f type p k a r old new) c.in-Sole.is c.in_ok-last.ensures.ok in
     let under_name = subst (λ (j : List ℕ). IsLast last type j is.0 is.1 old new) (is_name k type typed) is.2 in
     weaker _ (λ o. (d : Data) × IsObject d p s r × IsPending o d old new) c.object_of.result
     (λ o done.
@@ -638,8 +615,8 @@ object_under_table-returns-clause-ok t c =
     (d, subst (λ (ts : List Token). IsObject d p ts r) (sym next) (sole_under p k a type at.0 d r typed refl (is.3 at.0 at.1)), at.2))
     c.object_of.ensures.ok
 
-pub put_named-returns-in-Some-clause-ok : goal.put_named-returns-in-Some-clause-ok
-put_named-returns-in-Some-clause-ok t c =
+pub put_named-returns-in-Sole-clause-ok : goal.put_named-returns-in-Sole-clause-ok
+put_named-returns-in-Sole-clause-ok t c =
     let p = value c.args.depth in
     let s = c.args.reader.now in
     let k = c.args.name.now in
@@ -648,15 +625,58 @@ put_named-returns-in-Some-clause-ok t c =
     let old = c.args.out.now.items in
     let mid = c.put_turns.new.out.items in
     let new = c.put_sole.new.out.items in
-    let is = subst (λ (f : Option Last). IsNamedRead f type p k s r old mid) c.in-Some.is c.in_ok-put_turns.ensures.ok in
+    let is = subst (λ (f : Turns). IsNamedRead f type p k s r old mid) c.in-Sole.is c.in_ok-last.ensures.ok in
     let len : length old ≡ c.len-start.result = grind arith in
     on_ok_weaker c.put_sole.result (λ done typed.
     puts_weaker (λ v. (d : Data) × (json v ≡ under type d) × (is.0 ≡ Some (d, is.1))) (λ v. IsObject (json v) p (key k ∷ s) r) old new
     (λ v h. sole_under p k s type h.0 (json v) r typed h.1 (is.3 h.0 h.2)) (done k is.0 is.1 old len is.2))
     c.put_sole.ensures.ok
 
-pub put_named-returns-in-Some-clause-refused : goal.put_named-returns-in-Some-clause-refused
-put_named-returns-in-Some-clause-refused t c =
+pub put_named-returns-in-Table-clause-ok : goal.put_named-returns-in-Table-clause-ok
+put_named-returns-in-Table-clause-ok t c =
+    let p = value c.args.depth in
+    let s = c.args.reader.now in
+    let k = c.args.name.now in
+    let r = c.put_others.new.reader in
+    let old = c.args.out.now.items in
+    let first = subst (λ (f : Turns). IsNamedRead f c.args.amqp_type p k s c.put_turns.new.reader old c.put_turns.new.out.items) c.in-Table.is c.in_ok-last.ensures.ok in
+    let place : length old + 1 ≡ c.len-start.result + 1 = grind arith in
+    on_ok_weaker c.put_others.result (λ done typed. any_object p (key k ∷ s) r old c.put_others.new.out.items (done k old s place first)) c.put_others.ensures.ok
+
+pub put_named-returns-in-Table-clause-refused : goal.put_named-returns-in-Table-clause-refused
+put_named-returns-in-Table-clause-refused t c =
+    let p = value c.args.depth in
+    let s = c.args.reader.now in
+    let k = c.args.name.now in
+    let r = c.put_others.new.reader in
+    let old = c.args.out.now.items in
+    let first = subst (λ (f : Turns). IsNamedRead f c.args.amqp_type p k s c.put_turns.new.reader old c.put_turns.new.out.items) c.in-Table.is c.in_ok-last.ensures.ok in
+    refused_weaker c.put_others.result _ _ (λ done typed. no_object p (key k ∷ s) (key k ∷ s) r old c.put_others.new.out.items refl (done k old s first)) c.put_others.ensures.refused
+
+pub put_named-returns-in-NoValue-clause-ok : goal.put_named-returns-in-NoValue-clause-ok
+put_named-returns-in-NoValue-clause-ok t c =
+    let p = value c.args.depth in
+    let s = c.args.reader.now in
+    let k = c.args.name.now in
+    let r = c.put_bad_first.new.reader in
+    let old = c.args.out.now.items in
+    let bad = subst (λ (f : Turns). IsNamedRead f c.args.amqp_type p k s c.put_turns.new.reader old c.put_turns.new.out.items) c.in-NoValue.is c.in_ok-last.ensures.ok in
+    let len : length old ≡ c.len-start.result = grind arith in
+    on_ok_weaker c.put_bad_first.result (λ done typed. any_object p (key k ∷ s) r old c.put_bad_first.new.out.items (done old s len bad.1 bad.0)) c.put_bad_first.ensures.ok
+
+pub put_named-returns-in-NoValue-clause-refused : goal.put_named-returns-in-NoValue-clause-refused
+put_named-returns-in-NoValue-clause-refused t c =
+    let p = value c.args.depth in
+    let s = c.args.reader.now in
+    let k = c.args.name.now in
+    let r = c.put_bad_first.new.reader in
+    let old = c.args.out.now.items in
+    let bad = subst (λ (f : Turns). IsNamedRead f c.args.amqp_type p k s c.put_turns.new.reader old c.put_turns.new.out.items) c.in-NoValue.is c.in_ok-last.ensures.ok in
+    let len : length old ≡ c.len-start.result = grind arith in
+    refused_weaker c.put_bad_first.result _ _ (λ done typed. no_object p (key k ∷ s) (key k ∷ s) r old c.put_bad_first.new.out.items refl (done old s len bad.1 bad.0)) c.put_bad_first.ensures.refused
+
+pub put_named-returns-in-Sole-clause-refused : goal.put_named-returns-in-Sole-clause-refused
+put_named-returns-in-Sole-clause-refused t c =
     let p = value c.args.depth in
     let s = c.args.reader.now in
     let k = c.args.name.now in
@@ -665,24 +685,13 @@ put_named-returns-in-Some-clause-refused t c =
     let old = c.args.out.now.items in
     let mid = c.put_turns.new.out.items in
     let new = c.put_sole.new.out.items in
-    let is = subst (λ (f : Option Last). IsNamedRead f type p k s r old mid) c.in-Some.is c.in_ok-put_turns.ensures.ok in
+    let is = subst (λ (f : Turns). IsNamedRead f type p k s r old mid) c.in-Sole.is c.in_ok-last.ensures.ok in
     let len : length old ≡ c.len-start.result = grind arith in
     refused_weaker c.put_sole.result _ _ (λ (done, more) typed.
     let none = done k is.0 is.1 old len is.2 in
-    let was = last_after c.in-Some.last type k is.0 is.1 old mid is.2 in
+    let was = last_after c.in-Sole.last type k is.0 is.1 old mid is.2 in
     no_sole p type none.0 (key k ∷ s) r old new none.2 (sole_under p k s type none.0 (under type none.0) r typed refl (is.3 none.0 none.1)) (extends_after was.0 old mid new was.1 more))
     (both c.put_sole.result _ _ c.put_sole.ensures.refused c.put_sole.ensures.kept)
-
-pub put_named-returns-in_err-put_turns-clause-refused : goal.put_named-returns-in_err-put_turns-clause-refused
-put_named-returns-in_err-put_turns-clause-refused t c =
-    let p = value c.args.depth in
-    let ts = key c.args.name.now ∷ c.args.reader.now in
-    let r = c.put_turns.new.reader in
-    let old = c.args.out.now.items in
-    let new = c.put_turns.new.out.items in
-    let refused = refusal_weaker c.in_err-put_turns.field-0.0 _ (type_named c.args.name.now ≡ Some c.args.amqp_type → EncodesNone (λ d. IsObject d p ts r) old new)
-    (λ done typed. no_object p ts ts r old new refl done) c.in_err-put_turns.ensures.refused in
-    search (rules, refused)
 
 pub last_fields-returns-clause-ok : goal.last_fields-returns-clause-ok
 last_fields-returns-clause-ok t c =
@@ -780,19 +789,6 @@ put_last-returns-in-Ok-put_token-clause-ok t c =
           (λ v e. (opened ∙ e, put_unnamed type depth (token_of k) s r (json v) is_put e)) put,
     )
 
-pub put_named-returns-in-None-clause-ok : goal.put_named-returns-in-None-clause-ok
-put_named-returns-in-None-clause-ok t c typed =
-    let p = value c.args.depth in
-    let s = c.args.reader.now in
-    let k = c.args.name.now in
-    let r = c.put_turns.new.reader in
-    let type = c.args.amqp_type in
-    let old = c.args.out.now.items in
-    let new = c.put_turns.new.out.items in
-    let none : c.in_ok-put_turns.field-0 ≡ None = search rules in
-    let put = subst (λ (f : Option Last). IsNamedRead f type p k s r old new) none c.in_ok-put_turns.ensures.ok in
-    puts_weaker (λ v. IsObject (json v) p (key k ∷ s) r × IsNoneUnder amqp.FieldTable (json v)) (λ v. IsObject (json v) p (key k ∷ s) r) old new (λ v h. h.0) put
-
 pub object_under_table-returns-in_err-put_table-clause-refused : goal.object_under_table-returns-in_err-put_table-clause-refused
 object_under_table-returns-in_err-put_table-clause-refused t c =
     let p = value c.args.depth in
@@ -807,22 +803,8 @@ object_under_table-returns-in_err-put_table-clause-refused t c =
     (λ done. no_object_under p s (next_token o ∷ a) r old new (next_is s o a c.in_ok-first.ensures.ok) (done plain)) c.in_err-put_table.ensures.refused in
     search (rules, refused)
 
-pub object_under_table-returns-in_err-found-clause-refused : goal.object_under_table-returns-in_err-found-clause-refused
-object_under_table-returns-in_err-found-clause-refused t c =
-    let p = value c.args.depth in
-    let s = c.args.reader.now in
-    let k = c.in-Some.name.now in
-    let a = c.next_key.new.self in
-    let r = c.put_turns.new.reader in
-    let old = c.args.out.now.items in
-    let new = c.put_turns.new.out.items in
-    let first : read_key s ≡ Some (Some k, a) = c.in_ok-first.ensures.ok ∙ ap (λ (o : Option (Bor (List ℕ))). Some (option_map (λ b. b.now) o, a)) c.in-Some.is in
-    let refused = refusal_weaker c.in_err-found.field-0.0 _ (EncodesNone (λ d. IsObject d p s r × IsNoneUnder amqp.FieldTable d) old new)
-    (no_object_under p s (key k ∷ a) r old new (next_is s (Some k) a first)) c.in_err-found.ensures.refused in
-    search (rules, refused)
-
-pub object_under_table-returns-clause-refused : goal.object_under_table-returns-clause-refused
-object_under_table-returns-clause-refused t c =
+pub object_under_table-returns-in-Sole-clause-refused : goal.object_under_table-returns-in-Sole-clause-refused
+object_under_table-returns-in-Sole-clause-refused t c =
     let p = value c.args.depth in
     let s = c.args.reader.now in
     let k = c.in-Some.name.now in
@@ -831,76 +813,17 @@ object_under_table-returns-clause-refused t c =
     let old = c.args.out.now.items in
     let new = c.put_turns.new.out.items in
     let type = c.in-Some-type_of_name.amqp_type in
-    let last = c.in-Some-found.last in
+    let last = c.in-Sole.last in
     let first : read_key s ≡ Some (Some k, a) = c.in_ok-first.ensures.ok ∙ ap (λ (o : Option (Bor (List ℕ))). Some (option_map (λ b. b.now) o, a)) c.in-Some.is in
     let next = next_is s (Some k) a first in
     let typed : type_named k ≡ Some type = search rules in
-    let is = subst (λ (f : Option Last). IsNamedRead f type p k a r old new) c.in-Some-found.is c.in_ok-found.ensures.ok in
+    let is = subst (λ (f : Turns). IsNamedRead f type p k a r old new) c.in-Sole.is c.in_ok-last.ensures.ok in
     let under_name = subst (λ (j : List ℕ). IsLast last type j is.0 is.1 old new) (is_name k type typed) is.2 in
     refused_weaker c.object_of.result _ _ (λ done.
     let none = done is.0 is.1 old new under_name in
     let is_object = subst (λ (ts : List Token). IsObject (under type none.0) p ts r) (sym next) (sole_under p k a type none.0 (under type none.0) r typed refl (is.3 none.0 none.1)) in
     no_sole_under p type none.0 s r old new none.3 none.2 is_object (last_after last type k is.0 is.1 old new is.2))
     c.object_of.ensures.refused
-
-pub put_turns-returns-in-Err-NotAValue-clause-ok : goal.put_turns-returns-in-Err-NotAValue-clause-ok
-put_turns-returns-in-Err-NotAValue-clause-ok t c =
-    let p = value c.args.depth in
-    let l = c.turns in
-    let k = c.args.name.now in
-    let j = c.in-Some-2.key.now in
-    let s = c.args.reader.now in
-    let r = c.put_last.new.reader in
-    let u = c.next_key.new.self in
-    let after_last = ap read_key (sym c.note_place.ensures) ∙ c.in_ok-next.ensures.ok in
-    let rest = c.put_bad_first.new.reader in
-    let last = c.in_ok-last.ensures in
-    let read = converted of_json (p l.reader) in
-    let old = c.args.out.now.items in
-    let now = c.put_last.new.out.items in
-    let mid = c.put_first.new.out.items in
-    let new = c.put_bad_first.new.out.items in
-    let len : length old ≡ c.len-start.result = grind arith in
-    let other : j ≢ k = search rules in
-    let next : read_key r ≡ Some (Some j, u) = after_last ∙ ap (λ (o : Option (Bor (List ℕ))). Some (option_map (λ b. b.now) o, u)) c.in-Some-2.is in
-    let here = subst (λ (b : List ℕ). IsLast c.in_ok-last.last c.args.amqp_type k read r b now) l.invariant.4 last.ok in
-    let result : c.put_first.result ≡ Err NotAValue = search rules in
-    let none = when_err c.put_first.result NotAValue _ result c.put_first.ensures.refused c.args.amqp_type read r old len here in
-    let kept = when_err c.put_first.result NotAValue _ result c.put_first.ensures.kept in
-    let was = last_after c.in_ok-last.last c.args.amqp_type k read r old now here in
-    let leads = leads_as p no_members (key k ∷ s) (member k none.0 no_members) r (key j ∷ u) (past_turn p k s l.invariant.0 l.reader r none.0 l.invariant.1 l.invariant.2 none.1 last.shorter) (next_is r (Some j) u next) in
-    bad_first p k none.0 (key k ∷ s) (key j ∷ u) rest old new leads (c.in_ok-put_bad_first-in-Err-NotAValue.ensures.ok old none.0 len (extends_after was.0 old now mid was.1 kept) (no_value_entry k none.0 none.2) other)
-
-pub put_turns-returns-in_err-put_bad_first-in-Err-NotAValue-clause-refused : goal.put_turns-returns-in_err-put_bad_first-in-Err-NotAValue-clause-refused
-put_turns-returns-in_err-put_bad_first-in-Err-NotAValue-clause-refused t c =
-    let p = value c.args.depth in
-    let l = c.turns in
-    let k = c.args.name.now in
-    let j = c.in-Some-2.key.now in
-    let s = c.args.reader.now in
-    let r = c.put_last.new.reader in
-    let u = c.next_key.new.self in
-    let after_last = ap read_key (sym c.note_place.ensures) ∙ c.in_ok-next.ensures.ok in
-    let rest = c.put_bad_first.new.reader in
-    let last = c.in_ok-last.ensures in
-    let read = converted of_json (p l.reader) in
-    let old = c.args.out.now.items in
-    let now = c.put_last.new.out.items in
-    let mid = c.put_first.new.out.items in
-    let new = c.put_bad_first.new.out.items in
-    let len : length old ≡ c.len-start.result = grind arith in
-    let other : j ≢ k = search rules in
-    let next : read_key r ≡ Some (Some j, u) = after_last ∙ ap (λ (o : Option (Bor (List ℕ))). Some (option_map (λ b. b.now) o, u)) c.in-Some-2.is in
-    let here = subst (λ (b : List ℕ). IsLast c.in_ok-last.last c.args.amqp_type k read r b now) l.invariant.4 last.ok in
-    let result : c.put_first.result ≡ Err NotAValue = search rules in
-    let none = when_err c.put_first.result NotAValue _ result c.put_first.ensures.refused c.args.amqp_type read r old len here in
-    let kept = when_err c.put_first.result NotAValue _ result c.put_first.ensures.kept in
-    let was = last_after c.in_ok-last.last c.args.amqp_type k read r old now here in
-    let leads = leads_as p no_members (key k ∷ s) (member k none.0 no_members) r (key j ∷ u) (past_turn p k s l.invariant.0 l.reader r none.0 l.invariant.1 l.invariant.2 none.1 last.shorter) (next_is r (Some j) u next) in
-    let refused = refusal_weaker c.in_err-put_bad_first-in-Err-NotAValue.field-0.0 _ (IsNoTable p no_members (key k ∷ s) rest × Extends old new)
-    (λ done. let at = done old none.0 len (extends_after was.0 old now mid was.1 kept) (no_value_entry k none.0 none.2) other in (no_table_on p no_members (member k none.0 no_members) (key k ∷ s) (key j ∷ u) rest leads at.0, at.1))
-    c.in_err-put_bad_first-in-Err-NotAValue.ensures.refused in
-    search (rules, refused)
 
 pub put_bad_first-returns-clause-ok : goal.put_bad_first-returns-clause-ok
 put_bad_first-returns-clause-ok t c =
@@ -911,11 +834,12 @@ put_bad_first-returns-clause-ok t c =
     let mid = c.put_head.new.out.items in
     let end = c.put_rest.new.out.items in
     let new = c.fill_length.new.out.items in
-    on_ok_weaker c.fill_length.result (λ done old d size more none other.
+    on_ok_weaker c.fill_length.result (λ done old ts size more (d, none, (leads, other)).
     let cut = c.truncate.ensures.items ∙ back_to c.args.start old c.args.out.now.items size more in
     let headed = c.in_ok-put_head.ensures.ok ∙ ap (λ b. b ++ 70 ∷ 0 ∷ 0 ∷ 0 ∷ 0 ∷ []) cut in
     let place : c.len-at.result + 1 ≡ length old + 1 = grind (arith, cut) in
-    table_put (c.len-at.result + 1) old mid end new place done.0 done.1 (λ es. IsTableOf es p (member k d no_members) (key j ∷ c.args.reader.now) rest) headed (c.in_ok-put_rest.ensures.ok no_entries d tt none (second_of_table j k d other)))
+    let P : Entries → Type 0 = λ es. IsTableOf es p (member k d no_members) (key j ∷ c.args.reader.now) rest in
+    bad_first p k d (key k ∷ ts) (key j ∷ c.args.reader.now) rest old new leads (table_put (c.len-at.result + 1) old mid end new place done.0 done.1 P headed (c.in_ok-put_rest.ensures.ok no_entries d tt none (second_of_table j k d other))))
     c.fill_length.ensures.ok
 
 pub put_bad_first-returns-in_err-put_rest-clause-refused : goal.put_bad_first-returns-in_err-put_rest-clause-refused
@@ -923,17 +847,38 @@ put_bad_first-returns-in_err-put_rest-clause-refused t c =
     let p = value c.args.depth in
     let k = c.args.first.0.now in
     let j = c.args.key.now in
+    let u = c.args.reader.now in
     let rest = c.put_rest.new.reader in
     let mid = c.put_head.new.out.items in
     let new = c.put_rest.new.out.items in
-    let refused = refusal_weaker c.in_err-put_rest.field-0.0 _ ((old : List ℕ) (d : Data) → length old ≡ c.args.start → Extends old c.args.out.now.items → IsNoEntry k d → j ≢ k
-    → IsNoTable p (member k d no_members) (key j ∷ c.args.reader.now) rest × Extends old new)
-    (λ done old d size more none other.
+    let refused = refusal_weaker c.in_err-put_rest.field-0.0 _ ((old : List ℕ) (ts : List Token) → length old ≡ c.args.start → Extends old c.args.out.now.items → IsFirstBad p k ts j u
+    → IsNoTable p no_members (key k ∷ ts) rest × Extends old new)
+    (λ done old ts size more (d, none, (leads, other)).
     let cut = c.truncate.ensures.items ∙ back_to c.args.start old c.args.out.now.items size more in
     let headed = c.in_ok-put_head.ensures.ok ∙ ap (λ b. b ++ 70 ∷ 0 ∷ 0 ∷ 0 ∷ 0 ∷ []) cut in
     let at = done no_entries d tt none (second_of_table j k d other) in
-    (at.0, extends_after (70 ∷ 0 ∷ 0 ∷ 0 ∷ 0 ∷ []) old mid new headed at.1))
+    (no_table_on p no_members (member k d no_members) (key k ∷ ts) (key j ∷ u) rest leads at.0, extends_after (70 ∷ 0 ∷ 0 ∷ 0 ∷ 0 ∷ []) old mid new headed at.1))
     c.in_err-put_rest.ensures.refused in
+    search (rules, refused)
+
+pub put_others-returns-clause-ok : goal.put_others-returns-clause-ok
+put_others-returns-clause-ok t c =
+    let p = value c.args.depth in
+    let rest = c.put_members.new.reader in
+    let end = c.put_members.new.out.items in
+    let new = c.fill_length.new.out.items in
+    on_ok_weaker c.fill_length.result (λ done k old ts place first. others_put p k c.args.key.now ts c.args.reader.now rest c.args.at old c.args.out.now.items end new (sym place) done.0 done.1 first c.in_ok-put_members.ensures.ok)
+    c.fill_length.ensures.ok
+
+pub put_others-returns-in_err-put_members-clause-refused : goal.put_others-returns-in_err-put_members-clause-refused
+put_others-returns-in_err-put_members-clause-refused t c =
+    let p = value c.args.depth in
+    let u = c.args.reader.now in
+    let rest = c.put_members.new.reader in
+    let mid = c.args.out.now.items in
+    let end = c.put_members.new.out.items in
+    let refused = refusal_weaker c.in_err-put_members.field-0.0 _ ((k old : List ℕ) (ts : List Token) → IsFirstPut p k ts c.args.key.now u old mid → IsNoTable p no_members (key k ∷ ts) rest × Extends old end)
+    (λ done k old ts first. first_none p k c.args.key.now ts u rest old mid end first done) c.in_err-put_members.ensures.refused in
     search (rules, refused)
 
 pub put_last-returns-in-Err-NotAValue-object_under_table-clause-ok : goal.put_last-returns-in-Err-NotAValue-object_under_table-clause-ok
@@ -985,3 +930,58 @@ put_last-returns-in-Err-NotAValue-put_token-clause-shorter t c =
     let result : c.put_token.result ≡ Err NotAValue = search rules in
     let none = when_err c.put_token.result NotAValue _ result c.put_token.ensures.refused in
     taken depth c.args.reader.now c.put_token.new.reader none.0 (ap (λ ts. converted of_json (value depth ts)) first ∙ none.1)
+
+pub object_under_table-returns-clause-ok : goal.object_under_table-returns-clause-ok
+object_under_table-returns-clause-ok t c =
+    let p = value c.args.depth in
+    let s = c.args.reader.now in
+    let k = c.in-Some.name.now in
+    let a = c.next_key.new.self in
+    let r = c.match-branch-3.reader in
+    let old = c.args.out.now.items in
+    let new = c.match-branch-3.out.items in
+    let read : Turns → Type 0 = λ f. IsNamedRead f c.in-Some-type_of_name.amqp_type p k a c.put_turns.new.reader old c.put_turns.new.out.items in
+    let len : length old ≡ c.len-start.result = grind arith in
+    let place : length old + 1 ≡ c.len-start.result + 1 = grind arith in
+    let next = next_is s (Some k) a (c.in_ok-first.ensures.ok ∙ ap (λ (o : Option (Bor (List ℕ))). Some (option_map (λ b. b.now) o, a)) c.in-Some.is) in
+    let put : PutsTable p (key k ∷ a) r old new = elim c.match-branch-3.branch [
+      | object_under_table-in-Table+in_ok-put_others-in-Table w ↦
+          let put = w.in_ok-put_others-in-Table.ensures.ok k old a place (subst read w.in-Table.is c.in_ok-last.ensures.ok) in
+          subst (λ (o : List ℕ). PutsTable p (key k ∷ a) r old o) (ap (λ o. o.items) (sym w.out-is)) (subst (λ (ts : List Token). PutsTable p (key k ∷ a) ts old w.put_others.new.out.items) (sym w.reader-is) put)
+      | object_under_table-in-NoValue+in_ok-put_bad_first-in-NoValue w ↦
+          let bad = subst read w.in-NoValue.is c.in_ok-last.ensures.ok in
+          let put = w.in_ok-put_bad_first-in-NoValue.ensures.ok old a len bad.1 bad.0 in
+          subst (λ (o : List ℕ). PutsTable p (key k ∷ a) r old o) (ap (λ o. o.items) (sym w.out-is)) (subst (λ (ts : List Token). PutsTable p (key k ∷ a) ts old w.put_bad_first.new.out.items) (sym w.reader-is) put)
+    ] in
+    put_pending p s r old new (subst (λ (ts : List Token). PutsTable p ts r old new) (sym next) put)
+
+pub object_under_table-returns-in_err-put_others-in-Table-clause-refused : goal.object_under_table-returns-in_err-put_others-in-Table-clause-refused
+object_under_table-returns-in_err-put_others-in-Table-clause-refused t c =
+    let p = value c.args.depth in
+    let s = c.args.reader.now in
+    let k = c.in-Some.name.now in
+    let a = c.next_key.new.self in
+    let r = c.put_others.new.reader in
+    let old = c.args.out.now.items in
+    let new = c.put_others.new.out.items in
+    let next = next_is s (Some k) a (c.in_ok-first.ensures.ok ∙ ap (λ (o : Option (Bor (List ℕ))). Some (option_map (λ b. b.now) o, a)) c.in-Some.is) in
+    let first = subst (λ (f : Turns). IsNamedRead f c.in-Some-type_of_name.amqp_type p k a c.put_turns.new.reader old c.put_turns.new.out.items) c.in-Table.is c.in_ok-last.ensures.ok in
+    let refused = refusal_weaker c.in_err-put_others-in-Table.field-0.0 _ (EncodesNone (λ d. IsObject d p s r × IsNoneUnder amqp.FieldTable d) old new)
+    (λ done. no_object_under p s (key k ∷ a) r old new next (done k old a first)) c.in_err-put_others-in-Table.ensures.refused in
+    search (rules, refused)
+
+pub object_under_table-returns-in_err-put_bad_first-in-NoValue-clause-refused : goal.object_under_table-returns-in_err-put_bad_first-in-NoValue-clause-refused
+object_under_table-returns-in_err-put_bad_first-in-NoValue-clause-refused t c =
+    let p = value c.args.depth in
+    let s = c.args.reader.now in
+    let k = c.in-Some.name.now in
+    let a = c.next_key.new.self in
+    let r = c.put_bad_first.new.reader in
+    let old = c.args.out.now.items in
+    let new = c.put_bad_first.new.out.items in
+    let next = next_is s (Some k) a (c.in_ok-first.ensures.ok ∙ ap (λ (o : Option (Bor (List ℕ))). Some (option_map (λ b. b.now) o, a)) c.in-Some.is) in
+    let bad = subst (λ (f : Turns). IsNamedRead f c.in-Some-type_of_name.amqp_type p k a c.put_turns.new.reader old c.put_turns.new.out.items) c.in-NoValue.is c.in_ok-last.ensures.ok in
+    let len : length old ≡ c.len-start.result = grind arith in
+    let refused = refusal_weaker c.in_err-put_bad_first-in-NoValue.field-0.0 _ (EncodesNone (λ d. IsObject d p s r × IsNoneUnder amqp.FieldTable d) old new)
+    (λ done. no_object_under p s (key k ∷ a) r old new next (done old a len bad.1 bad.0)) c.in_err-put_bad_first-in-NoValue.ensures.refused in
+    search (rules, refused)

@@ -29,9 +29,6 @@ decreases-put_last l = 16 * l.depth + 2
 abbrev pub decreases-put_items : goal.decreases-put_items
 decreases-put_items l = 16 * l.depth + 3
 
-abbrev pub decreases-long_member : goal.decreases-long_member
-decreases-long_member l = 16 * l.depth + 3
-
 abbrev pub decreases-put_member : goal.decreases-put_member
 decreases-put_member l = 16 * l.depth + 4
 
@@ -46,6 +43,9 @@ decreases-put_bad_first l = 16 * l.depth + 6
 
 abbrev pub decreases-put_members : goal.decreases-put_members
 decreases-put_members l = 16 * l.depth + 6
+
+abbrev pub decreases-put_others : goal.decreases-put_others
+decreases-put_others l = 16 * l.depth + 7
 
 abbrev pub decreases-put_turns : goal.decreases-put_turns
 decreases-put_turns l = 16 * l.depth + 7
