@@ -339,8 +339,29 @@ def damaged(make: Random, text: bytes) -> bytes:
     return text
 
 
+# The keys of objects in which any may come again, and what is under them.
+AGAIN = ["LongInt", "DecimalValue", "FieldTable", "ByteArray", "Void", "scale", "value", "a", "", "k" * 256]
+UNDER = [
+    "-0", "1.5", "0", "1", "256", "4294967296", "18446744073709551616", "null", '"\\n"', '"0"', '"ff"', "[]", "{}", "[-0,0]",
+    '{"":-0}', '{"scale":0,"value":0}',
+]  # fmt: skip
+
+
+def of_few_keys(make: Random, depth: int) -> str:
+    """A text whose objects have few keys each, some of them again, and anywhere what is no value."""
+    if depth == 0 or make.random() < 0.4:
+        return make.choice(UNDER)
+    inner = [of_few_keys(make, depth - 1) for _ in range(make.randrange(5))]
+    if make.random() < 0.2:
+        return f"[{','.join(inner)}]"
+    few = make.sample(AGAIN, 3)
+    members = (f'"{make.choice(few)}":{it}' for it in inner)
+    return f"{{{','.join(members)}}}"
+
+
 def texts(make: Random, values: Iterable[Value]) -> Iterator[bytes]:
-    """For each of these values two texts that may mean none."""
+    """For each of these values three texts that may mean none."""
     for value in values:
         yield damaged(make, text_of(make, value).encode())
         yield spelled(make, with_a_form(make, json_of(value))).encode()
+        yield of_few_keys(make, 5).encode()
