@@ -12,7 +12,7 @@ static uint8_t input[AMQPV_FRAME];
 
 /* The most memory that amqpv_to_json takes, as the header states it. */
 static size_t memory_for(const amqpv_measure *measure) {
-    return 28 * measure->length;
+    return 12 * measure->length;
 }
 
 static amqpv_result print_json(size_t length) {

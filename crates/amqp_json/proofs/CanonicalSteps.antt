@@ -1,5 +1,5 @@
 -- One more value or pair of a canonical encoding is put.
-use Rattle.std.proofs.Common.{◌≡◌, ℕ, List, ◌∷◌, ◌++◌, Some, ap, ◌∙◌, subst, append_assoc}
+use Rattle.std.proofs.Common.{◌≡◌, ℕ, List, ◌++◌, Some, ap, ◌∙◌, append_assoc}
 use Rattle.std.specs.Borrow.{Bor}
 use Rattle.amqp_value_core.specs.Values.{Tree, Trees, no_trees, tree, Entries, no_entries, entry}
 use Rattle.amqp_value_core.specs.Grammar.{ArrayBody, TableBody, short_field}
@@ -7,7 +7,8 @@ use Rattle.amqp_value_core.specs.Texts.{text, body, pairs}
 use Rattle.amqp_in_place.specs.Refs.{Denotes}
 use Rattle.amqp_in_place.specs.Walks.{ValueStep, PairStep}
 use Rattle.amqp_in_place.specs.declared.refs.ValueRef.{ValueRef}
-use Rattle.amqp_json.specs.Sorted.{AreAt}
+use Rattle.amqp_json.specs.declared.sorted.SortedPairs.{SortedPairs}
+use Rattle.amqp_json.specs.Sorted.{AreLeft, SortedStep}
 use Rattle.amqp_json.proofs.SortedSteps.{AtStep}
 
 pub item_put : (now new target : List ℕ) (rest : Trees) (r : ValueRef) (left : List ℕ) → ValueStep rest (Some r) left → ((v : Tree) → Denotes r v → new ≡ now ++ text v)
@@ -28,10 +29,7 @@ pair_put now mid new target no_entries x left step keyed put e = absurd step
 pair_put now mid new target (entry k v es) x left step keyed put e =
     (es, step.2, paired now mid new target k v es (keyed ∙ ap (λ j. now ++ short_field j) step.0) (put v step.1) e)
 
-pub entry_put : (now mid new target : List ℕ) (rest : Entries) (its : List AtStep) (e : AtStep) (left : List AtStep) → its ≡ e ∷ left → AreAt its rest → mid ≡ now ++ short_field e.0.now → ((v : Tree) → Denotes e.1 v → new ≡ mid ++ text v)
-    → now ++ pairs rest ≡ target → (es : Entries) × AreAt left es × (new ++ pairs es ≡ target)
-entry_put now mid new target rest its e left is are keyed put same = by rest (subst (λ (t : List AtStep). AreAt t rest) is are) same
-  where
-    by : (rest : Entries) → AreAt (e ∷ left) rest → now ++ pairs rest ≡ target → (es : Entries) × AreAt left es × (new ++ pairs es ≡ target)
-    by no_entries given same = absurd given
-    by (entry k v es) given same = (es, given.2, paired now mid new target k v es (keyed ∙ ap (λ j. now ++ short_field j) given.0) (put v given.1) same)
+pub entry_put : (now mid new target : List ℕ) (rest : Entries) (e : AtStep) (left : SortedPairs) → SortedStep rest (Some e) left → mid ≡ now ++ short_field e.0.now → ((v : Tree) → Denotes e.1 v → new ≡ mid ++ text v)
+    → now ++ pairs rest ≡ target → (es : Entries) × AreLeft left es × (new ++ pairs es ≡ target)
+entry_put now mid new target no_entries e left given keyed put same = absurd given
+entry_put now mid new target (entry k v es) e left given keyed put same = (es, given.2, paired now mid new target k v es (keyed ∙ ap (λ j. now ++ short_field j) given.0) (put v given.1) same)

@@ -1,6 +1,6 @@
 -- Values and pairs, one after another, of encodings whose pairs are in the order of a text.
-use Rattle.std.proofs.Common.{◌≡◌, ℕ, ℤ, pos, negsuc, codes, ◌-◌, ◌+◌, ◌<◌, ◌≤◌, ◌^◌, List, [], ◌∷◌, ◌++◌, length, take, drop, Option, Some, None, option_map, IfSome, Bor, refl, sym, ap, ◌∙◌, subst, arith, append_assoc, append-nil, length-append}
-use Rattle.std.specs.Prelude.{unsigned_abs}
+use Rattle.std.proofs.Common.{◌≡◌, ℕ, ℤ, pos, negsuc, codes, ◌-◌, ◌+◌, ◌<◌, ◌≤◌, ◌^◌, List, [], ◌∷◌, ◌++◌, length, take, drop, Bool, true, false, Option, Some, None, option_map, IfSome, Bor, refl, sym, ap, ◌∙◌, subst, arith, append_assoc, append-nil, length-append}
+use Rattle.std.specs.Prelude.{unsigned_abs, ◌&&◌}
 use Rattle.std.specs.Int.{FitsUnsignedBits, Width, w32, w64, to_be_bytes, from_be_bytes, cast_unsigned}
 use mir.Val.{bits, SFits}
 use mir.ValLaws as laws
@@ -12,23 +12,24 @@ use Rattle.json.specs.Token.{Token}
 use Rattle.json.specs.Json as json
 use Rattle.json.specs.Json.{Parse, parse_map, after_end_array, read_key, items, members}
 use Rattle.json.proofs.Grammar.{read_key-shorter}
-use Rattle.serde_json.specs.Data.{Num, Data, Members, number, string, object, item, member, no_members}
+use Rattle.serde_json.specs.Data.{Num, Data, Items, Members, number, string, object, item, member, no_members}
 use Rattle.serde_json.specs.Find.{of_integer}
 use Rattle.serde_json.specs.Read.{of_json, of_items, of_members, converted, number_of}
 use Rattle.amqp_value_core.specs.declared.types.amqp_type.AMQPType.{AMQPType}
 use Rattle.amqp_value_core.specs.declared.types.amqp_type.AMQPType.TheVariants as types
-use Rattle.amqp_value_core.specs.Values.{Scalar, number as number_tree, Tree, scalar, long, octets, array, table, Trees, no_trees, tree, Entries, no_entries, entry, insert, insert_all}
+use Rattle.amqp_value_core.specs.Values.{Scalar, number as number_tree, Tree, scalar, long, octets, array, table, Trees, no_trees, tree, Entries, no_entries, entry, insert, insert_all, readable}
 use Rattle.amqp_value_core.specs.Grammar.{Wire, wire, raw_array, raw_table, ArrayBody, no_values, value, TableBody, no_pairs, pair, short_field, long_field}
 use Rattle.amqp_value_core.specs.InMemory.{IsScalar}
 use Rattle.amqp_value_core.specs.Strings.{IsShort}
 use Rattle.amqp_value_core.specs.Texts.{text}
 use Rattle.amqp_value_core.proofs.GrammarLaws.{text_is_wire}
-use Rattle.amqp_json.specs.Encodes.{IsObject, IsTextPut, PutsEncodingOf, PutsValues, PutsPairs, HasNoTypeName, AreEntriesRead, IsNaturalRead}
+use Rattle.amqp_json.specs.Encodes.{IsObject, IsTextPut, PutsEncodingOf, PutsValues, PutsPairs, HasNoTypeName, AreEntriesRead}
 use Rattle.amqp_json.specs.InMemory.{IsStored, AreStoredTrees, EntriesStored}
 use Rattle.amqp_json.specs.Json as amqp
 use Rattle.amqp_json.specs.Json.{items_json, members_json, sole_type, under, natural, decimal_json}
 use Rattle.amqp_json.specs.Names.{type_named}
-use Rattle.amqp_json.specs.Reading.{bytes_in, sized_in}
+use Rattle.amqp_json.specs.Reading.{bytes_in, sized_in, value_of, values_of}
+use Rattle.amqp_json.proofs.ReadWalks.{nothing_after}
 use Rattle.amqp_json.proofs.Bytes.{long_is_read}
 use Rattle.amqp_json.proofs.Only.{is_name, is_under}
 use Rattle.amqp_json.proofs.Turns.{one_member, item_read, items_over, member_read, members_over, insert_put}
@@ -38,6 +39,11 @@ use Rattle.amqp_json.proofs.Walks.{put_stored}
 
 -- ---- an array
 
+-- with a value of which something can't be read
+not_readable : (a b : Bool) → b ≡ false → a && b ≡ false
+not_readable true b unreadable = unreadable
+not_readable false b unreadable = refl
+
 -- the values of the tokens before `now` are put, and with those that are left they are the array's
 pub record ItemsLeft (p : Parse json.Json) (first now : List Token) (old new : List ℕ) : Type 0 where
   pub count : ℕ
@@ -46,6 +52,10 @@ pub record ItemsLeft (p : Parse json.Json) (first now : List Token) (old new : L
   pub put : new ≡ old ++ body
   pub rest : (tail : List ℕ) (vs : Trees) (r : List Token) → ArrayBody tail vs → AreStoredTrees vs → converted of_items (items p count now) ≡ Some (items_json vs, r)
       → (ws : Trees) × ArrayBody (body ++ tail) ws × AreStoredTrees ws × (converted of_items (items p (length first) first) ≡ Some (items_json ws, r))
+  pub left : (ds : Items) (r : List Token) → converted of_items (items p count now) ≡ Some (ds, r) → values_of ds ≡ None
+      → (es : Items) × (converted of_items (items p (length first) first) ≡ Some (es, r)) × (values_of es ≡ None)
+  pub whole : (vs : Trees) (r : List Token) → converted of_items (items p count now) ≡ Some (items_json vs, r) → AreStoredTrees vs → readable (array vs) ≡ false
+      → (ws : Trees) × (converted of_items (items p (length first) first) ≡ Some (items_json ws, r)) × AreStoredTrees ws × (readable (array ws) ≡ false)
 
 module _ (p : Parse json.Json) (first : List Token) (old : List ℕ) where
   pub items_first : ItemsLeft p first first old old
@@ -55,6 +65,8 @@ module _ (p : Parse json.Json) (first : List Token) (old : List ℕ) where
     body = [];
     put = sym (append-nil old);
     rest = λ tail vs r all stored e. (vs, all, stored, e);
+    left = λ ds r e none. (ds, e, none);
+    whole = λ vs r e stored unreadable. (vs, e, stored, unreadable);
   }
 
   pub items_next : (now r : List Token) (mid new : List ℕ) → ItemsLeft p first now old mid → after_end_array now ≡ None → length r < length now
@@ -69,6 +81,8 @@ module _ (p : Parse json.Json) (first : List Token) (old : List ℕ) where
         rest = λ tail vs s all kept e.
             let at = l.rest (w ++ tail) (tree v vs) s (value w tail v vs is all) (stored, kept) (item_read p l.count now r (amqp.json v) some going read ∙ ap (parse_map (item (amqp.json v))) e) in
             (at.0, subst (λ (b : List ℕ). ArrayBody b at.0) (sym (append_assoc l.body w tail)) at.1, at.2, at.3);
+        left = λ ds s e none. l.left (item (amqp.json v) ds) s (item_read p l.count now r (amqp.json v) some going read ∙ ap (parse_map (item (amqp.json v))) e) (nothing_after (value_of (amqp.json v)) (values_of ds) none);
+        whole = λ vs s e all unreadable. l.whole (tree v vs) s (item_read p l.count now r (amqp.json v) some going read ∙ ap (parse_map (item (amqp.json v))) e) (stored, all) (not_readable (readable v) (readable (array vs)) unreadable);
       }
 
   pub items_done : (now r : List Token) (new : List ℕ) → ItemsLeft p first now old new → after_end_array now ≡ Some r
@@ -259,23 +273,6 @@ plain_first (Some k) h = first_of_table k.now h
 -- a table whose only key isn't the name of a type is the object of its members
 pub plain_object : (v : Tree) (es : Entries) → v ≡ table es → sole_type (members_json es) ≡ None → amqp.json v ≡ object (members_json es)
 plain_object v es is none = ap amqp.json is ∙ rw none refl
-
--- the object of a decimal's scale and number
-pub decimal_read : (depth scale n : ℕ) (ts us vs ws xs end : List Token) → read_key ts ≡ Some (Some (codes "scale"), us) → IsNaturalRead scale us vs → read_key vs ≡ Some (Some (codes "value"), ws) → IsNaturalRead n ws xs
-    → read_key xs ≡ Some (None, end) → IsObject (decimal_json scale n) (json.value depth) ts end
-decimal_read depth scale n ts us vs ws xs end scale_key scale_read value_key value_read last =
-    let p = json.value depth in
-    let first = read_key-shorter ts (Some (codes "scale")) us scale_key in
-    let second = read_key-shorter vs (Some (codes "value")) ws value_key in
-    let less = scale_read.1 in
-    let more = value_read.1 in
-    let one = member (codes "scale") (natural scale) no_members in
-    let both = member (codes "scale") (natural scale) (member (codes "value") (natural n) no_members) in
-    let all : converted (λ ms. of_members ms no_members) (members p (length ts) ts) ≡ Some (both, end) =
-    member_read p no_members (length ts) (codes "scale") ts us vs (natural scale) (omega (arith, first)) scale_key (scale_read.0 depth)
-    ∙ member_read p one (length ts - 1) (codes "value") vs ws xs (natural n) (omega (arith, first, less, second)) value_key (value_read.0 depth)
-    ∙ members_over p both (length ts - 1 - 1) xs end (omega (arith, first, less, second, more)) last in
-    (both, refl, all)
 
 -- what is under the name of a type, its only key
 pub under_object : (p : Parse json.Json) (k : List ℕ) (type : AMQPType) (ts us vs end : List Token) (d : Data) → type_named k ≡ Some type → read_key ts ≡ Some (Some k, us) → converted of_json (p us) ≡ Some (d, vs)

@@ -83,12 +83,26 @@ read_as s v is rest = wire_found s rest v is
 pub only_read_as : (s t : List ℕ) (v u : Tree) → IsStoredMeaning t v → Wire s v → IsStored u → JsonTextMeans t u → IsReadAs s u
 only_read_as s t v u h is stored means = subst (IsReadAs s) (sym (only_text (read t) v u h.0 h.1 stored means)) (read_as s v is)
 
+-- all of an encoding is read
+whole : (s : List ℕ) (v : Tree) → Wire s v → Outcome s (found v [])
+whole s v is = subst (λ (t : List ℕ). Outcome t (found v [])) (append-nil s) (wire_found s [] v is)
+
 -- what is read from an encoding is what it is an encoding of
 pub read_is : (s rest : List ℕ) (v u : Tree) → Outcome s (found v rest) → Wire s u → v ≡ u
 read_is s rest v u outcome is =
-    let here = subst (λ (t : List ℕ). Outcome t (found u [])) (append-nil s) (wire_found s [] u is) in
-    let same = one_outcome s (found v rest) (found u []) outcome here in
+    let same = one_outcome s (found v rest) (found u []) outcome (whole s u is) in
     cc same
+
+-- an encoding is read
+pub not_refused : (s : List ℕ) (v : Tree) (e : Refusal) → Wire s v → IsRefusal (Outcome s) ⊥ e → ⊥
+not_refused s v (Incomplete Unknown) is h = h
+not_refused s v (Incomplete (Size n)) is h = let same = one_outcome s (more n) (found v []) h (whole s v is) in cc same
+not_refused s v (Error MapOpt) is h = let same = one_outcome s unknown (found v []) h (whole s v is) in cc same
+not_refused s v (Error Eof) is h = let same = one_outcome s malformed (found v []) h (whole s v is) in cc same
+not_refused s v (Error MapRes) is h = h
+not_refused s v (Error OutOfMemory) is h = h
+not_refused s v (Error TooLarge) is h = h
+not_refused s v (Failure kind) is h = h.1
 
 -- the canonical encoding of what bytes are an encoding of is read as it, whatever follows
 pub text_read_as : (s : List ℕ) (v : Tree) → IsBytes s → Wire s v → IsReadAs (text v) v

@@ -24,7 +24,8 @@ use Rattle.amqp_in_place.specs.declared.refs.ValueRef.TheVariants as at
 use Rattle.amqp_json.specs.Json.{json, items_json, members_json, sole_type, under}
 use Rattle.amqp_json.specs.declared.buffer.place.Place.{Place}
 use Rattle.amqp_json.specs.Puts.{Begins, PutsTokens, PutsJson}
-use Rattle.amqp_json.specs.Sorted.{AreAt, body_len}
+use Rattle.amqp_json.specs.declared.sorted.SortedPairs.{SortedPairs}
+use Rattle.amqp_json.specs.Sorted.{body_len, AreLeft, SortedStep}
 use Rattle.amqp_json.proofs.Putting.{tokens_more}
 use Rattle.amqp_json.proofs.Steps.{its_pairs}
 use Rattle.amqp_json.proofs.SortedSteps.{AtStep}
@@ -117,33 +118,26 @@ plain_puts_ok a p c body (Ok r) sole rises puts = λ es has. plain_put a p c r h
 
 -- ---- a table of the entries of a map
 
-pub entry_put : (a : List ℕ) (p : Place) (b : List ℕ) (q : Place) (d : List ℕ) (m : Place) (c : List ℕ) (r : Place) (done target : List Token) (rest : Entries) (its left : List AtStep) (x : AtStep)
-    → its ≡ x ∷ left → AreAt its rest → PutsTokens a p b q done → PutsTokens b q d m (key x.0.now ∷ []) → ((v : Tree) → Denotes x.1 v → PutsJson d m c r (json v))
+pub entry_put : (a : List ℕ) (p : Place) (b : List ℕ) (q : Place) (d : List ℕ) (m : Place) (c : List ℕ) (r : Place) (done target : List Token) (rest : Entries) (x : AtStep) (left : SortedPairs)
+    → SortedStep rest (Some x) left → PutsTokens a p b q done → PutsTokens b q d m (key x.0.now ∷ []) → ((v : Tree) → Denotes x.1 v → PutsJson d m c r (json v))
     → done ++ members_tokens (members_outline (members_json rest)) ≡ target
-    → (more : List Token) × (ys : Entries) × AreAt left ys × PutsTokens a p c r more × (more ++ members_tokens (members_outline (members_json ys)) ≡ target)
-entry_put a p b q d m c r done target rest its left x is are put keyed puts e = by rest (subst (λ (t : List AtStep). AreAt t rest) is are) e
-  where
-    by : (rest : Entries) → AreAt (x ∷ left) rest → done ++ members_tokens (members_outline (members_json rest)) ≡ target
-        → (more : List Token) × (ys : Entries) × AreAt left ys × PutsTokens a p c r more × (more ++ members_tokens (members_outline (members_json ys)) ≡ target)
-    by no_entries given same = absurd given
-    by (entry k v es) given same =
-        let value = json_tokens (outline (json v)) in
-        let more = members_tokens (members_outline (members_json es)) in
-        let named : PutsTokens b q d m (key k ∷ []) = subst (λ (j : List ℕ). PutsTokens b q d m (key j ∷ [])) given.0 keyed in (
-          done ++ key k ∷ value,
-          es,
-          given.2,
-          tokens_more a b c p q r done (key k ∷ value) put (tokens_more b d c q m r (key k ∷ []) value named (puts v given.1)),
-          append_assoc done (key k ∷ value) more ∙ same,
-        )
+    → (more : List Token) × (ys : Entries) × AreLeft left ys × PutsTokens a p c r more × (more ++ members_tokens (members_outline (members_json ys)) ≡ target)
+entry_put a p b q d m c r done target no_entries x left given put keyed puts same = absurd given
+entry_put a p b q d m c r done target (entry k v es) x left given put keyed puts same =
+    let value = json_tokens (outline (json v)) in
+    let more = members_tokens (members_outline (members_json es)) in
+    let named : PutsTokens b q d m (key k ∷ []) = subst (λ (j : List ℕ). PutsTokens b q d m (key j ∷ [])) given.0 keyed in (
+      done ++ key k ∷ value,
+      es,
+      given.2,
+      tokens_more a b c p q r done (key k ∷ value) put (tokens_more b d c q m r (key k ∷ []) value named (puts v given.1)),
+      append_assoc done (key k ∷ value) more ∙ same,
+    )
 
-pub entries_end : (a : List ℕ) (p : Place) (b : List ℕ) (q : Place) (c : List ℕ) (r : Place) (done target : List Token) (rest : Entries) (its : List AtStep) → its ≡ [] → AreAt its rest
+pub entries_end : (a : List ℕ) (p : Place) (b : List ℕ) (q : Place) (c : List ℕ) (r : Place) (done target : List Token) (rest : Entries) (left : SortedPairs) → SortedStep rest None left
     → PutsTokens a p b q done → PutsTokens b q c r (end_object ∷ []) → done ++ members_tokens (members_outline (members_json rest)) ≡ target → PutsTokens a p c r target
-entries_end a p b q c r done target rest its none are put puts e = by rest (subst (λ (t : List AtStep). AreAt t rest) none are) e
-  where
-    by : (rest : Entries) → AreAt [] rest → done ++ members_tokens (members_outline (members_json rest)) ≡ target → PutsTokens a p c r target
-    by no_entries given same = subst (λ (ts : List Token). PutsTokens a p c r ts) same (tokens_more a b c p q r done (end_object ∷ []) put puts)
-    by (entry k v es) given same = absurd given
+entries_end a p b q c r done target no_entries left given put puts same = subst (λ (ts : List Token). PutsTokens a p c r ts) same (tokens_more a b c p q r done (end_object ∷ []) put puts)
+entries_end a p b q c r done target (entry k v es) left given put puts same = absurd given
 
 pub named_entries_put : (a : List ℕ) (p : Place) (b : List ℕ) (q : Place) (c : List ℕ) (r : Place) (d : List ℕ) (s : Place) (es : Entries) → is_some (sole_type (members_json es)) ≡ true
     → PutsTokens a p b q (begin_object ∷ key (name_of amqp.FieldTable) ∷ []) → PutsJson b q c r (object (members_json es)) → PutsTokens c r d s (end_object ∷ []) → PutsJson a p d s (json (table es))
@@ -156,11 +150,11 @@ plain_entries a p c r es sole x =
     let same : json (table es) ≡ object (members_json es) = rw sole refl in
     subst (λ (e : Data). PutsJson a p c r e) (sym same) x
 
-pub plain_entries_put : {E : Type 0} (a : List ℕ) (p : Place) (c : List ℕ) (result : Result Place E) (its : List AtStep) (body : List ℕ) → ((es : Entries) → AreAt its es → is_some (sole_type (members_json es)) ≡ false)
-    → ((es : Entries) → HasEntries body es → AreAt its es) → IfOk result (λ r. (es : Entries) → AreAt its es → PutsJson a p c r (object (members_json es)))
+pub plain_entries_put : {E : Type 0} (a : List ℕ) (p : Place) (c : List ℕ) (result : Result Place E) (sorted : SortedPairs) (body : List ℕ) → ((es : Entries) → AreLeft sorted es → is_some (sole_type (members_json es)) ≡ false)
+    → ((es : Entries) → HasEntries body es → AreLeft sorted es) → IfOk result (λ r. (es : Entries) → AreLeft sorted es → PutsJson a p c r (object (members_json es)))
     → IfOk result (λ r. (es : Entries) → HasEntries body es → PutsJson a p c r (json (table es)))
-plain_entries_put a p c (Err e) its body sole are puts = puts
-plain_entries_put a p c (Ok r) its body sole are puts = λ es has. plain_entries a p c r es (sole es (are es has)) (puts es (are es has))
+plain_entries_put a p c (Err e) sorted body sole are puts = puts
+plain_entries_put a p c (Ok r) sorted body sole are puts = λ es has. plain_entries a p c r es (sole es (are es has)) (puts es (are es has))
 
 -- ---- a value that is a container
 

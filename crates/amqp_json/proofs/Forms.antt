@@ -106,7 +106,7 @@ unread_named type (object ms) h none text = under_object type
 pub no_table : (ms : Members) → sole_type ms ≡ None → entries_of ms ≡ None → value_of (object ms) ≡ None
 no_table ms sole none = rw (sole, none) refl
 
-no_ambiguous : (ms : Members) → sole_type ms ≡ None → ambiguous_table (object ms) ≡ None
+pub no_ambiguous : (ms : Members) → sole_type ms ≡ None → ambiguous_table (object ms) ≡ None
 no_ambiguous ms sole = rw sole refl
 
 pub no_table_forms : (ms : Members) → sole_type ms ≡ None → entries_of ms ≡ None → (value_of (object ms) ≡ None) × (ambiguous_table (object ms) ≡ None)
@@ -184,14 +184,14 @@ IsOtherToken type Token.begin_object = IsOtherThanTable type
 IsOtherToken type t = Unit {0}
 
 -- no value begins with it
-never : {P : Type 0} (depth : ℕ) (t : Token) (s r : List Token) (d : Data) → converted of_json (value depth (t ∷ s)) ≡ None → converted of_json (value depth (t ∷ s)) ≡ Some (d, r) → P
+pub never : {P : Type 0} (depth : ℕ) (t : Token) (s r : List Token) (d : Data) → converted of_json (value depth (t ∷ s)) ≡ None → converted of_json (value depth (t ∷ s)) ≡ Some (d, r) → P
 never depth t s r d none e = let both : None ≡ Some (d, r) = sym none ∙ e in absurd (cc both)
 
 first_of : Data → Option (Data × List Token) → Data
 first_of d None = d
 first_of d (Some p) = p.0
 
-same_data : (x d : Data) (s r : List Token) (o : Option (Data × List Token)) → o ≡ Some (x, s) → o ≡ Some (d, r) → x ≡ d
+pub same_data : (x d : Data) (s r : List Token) (o : Option (Data × List Token)) → o ≡ Some (x, s) → o ≡ Some (d, r) → x ≡ d
 unfolding first_of
 same_data x d s r o e f = ap (first_of d) (sym e ∙ f)
 

@@ -7,8 +7,8 @@ use Rattle.std.specs.List.{prefix_len}
 use Rattle.std.specs.Char.{is_ascii_digit}
 use Rattle.json.specs.Token.{Token, begin_object, end_object, begin_array, end_array, key, string, number, boolean, null, bad}
 use Rattle.json.specs.Text.{content, plain, prepend}
-use Rattle.json.specs.Word.{head, is_operator, is_space, ends_word, after_digits, after_minus, after_whole, after_fraction, after_exponent, after_number, word}
-use Rattle.json.specs.Lex.{Lexeme, token, colon, quote, backslash, operator, space, other, operator_lexeme, string_token, Mode, between, in_string, lex_byte, lex}
+use Rattle.json.specs.Word.{head, is_operator, is_space, ends_word, after_digits, after_minus, after_whole, after_fraction, after_exponent, after_number, number_before, word}
+use Rattle.json.specs.Lex.{Lexeme, token, colon, quote, backslash, operator, space, other, operator_lexeme, string_token, Mode, between, in_word, in_string, lex_byte, lex}
 use Rattle.json.specs.Lex.{Place, fresh, after_value, after_comma, after_key, begins_colon, may_begin, place_token, punctuate, tokens}
 use Rattle.json.specs.Run.{is_plain}
 use Rattle.json.specs.Print.{IsNumber}
@@ -265,10 +265,46 @@ at_quote t e =
     let same = starts t 34 e (λ e. omega (arith, e)) in
     ap (λ l. punctuate after_comma (lex between l)) same ∙ quoted_lexeme (content plain (drop 1 t)) (lex in_string (drop 1 t)) ∙ sym (ap (λ l. punctuate fresh (lex between l)) same)
 
-pub any_place : (place : rust.Place) (t : List ℕ) → place ≢ AfterValue → head t ≡ 34 → tokens_left place t ≡ tokens t
-any_place Fresh t differs e = refl
-any_place AfterValue t differs e = absurd (differs refl)
-any_place AfterComma t differs e = at_quote t e
+-- nor at a byte that a number begins with, or a dot or a slash
+number_lexeme : (s : List ℕ) (o : Option (List ℕ)) (ls : List Lexeme) → punctuate after_comma (token (number_before s o) ∷ ls) ≡ punctuate fresh (token (number_before s o) ∷ ls)
+unfolding punctuate
+number_lexeme s None ls = refl
+number_lexeme s (Some rest) ls = by (ends_word rest)
+  where
+    by : (b : Bool) → place_token after_comma (cond b (number (take (length s - length rest) s)) bad) (begins_colon ls) (λ next. punctuate next ls) ≡ place_token fresh (cond b (number (take (length s - length rest) s)) bad) (begins_colon ls) (λ next. punctuate next ls)
+    by true = refl
+    by false = refl
+
+numbered : (x : ℕ) (xs : List ℕ) → 45 ≤ x → x ≤ 57 → lex between (x ∷ xs) ≡ token (number_before (x ∷ xs) (after_number (x ∷ xs))) ∷ lex in_word xs
+unfolding lex word
+numbered x xs low high =
+    rw (
+      ne_eqb x 34 (λ e. omega (arith, low, e)),
+      ne_eqb x 92 (λ e. omega (arith, high, e)),
+      ne_eqb x 123 (λ e. omega (arith, high, e)),
+      ne_eqb x 125 (λ e. omega (arith, high, e)),
+      ne_eqb x 91 (λ e. omega (arith, high, e)),
+      ne_eqb x 93 (λ e. omega (arith, high, e)),
+      ne_eqb x 58 (λ e. omega (arith, high, e)),
+      ne_eqb x 44 (λ e. omega (arith, low, e)),
+      ne_eqb x 32 (λ e. omega (arith, low, e)),
+      ne_eqb x 9 (λ e. omega (arith, low, e)),
+      ne_eqb x 10 (λ e. omega (arith, low, e)),
+      ne_eqb x 13 (λ e. omega (arith, low, e)),
+      ne_eqb x 116 (λ e. omega (arith, high, e)),
+      ne_eqb x 102 (λ e. omega (arith, high, e)),
+      ne_eqb x 110 (λ e. omega (arith, high, e)),
+    ) refl
+
+at_number : (t : List ℕ) → 45 ≤ head t → head t ≤ 57 → punctuate after_comma (lex between t) ≡ punctuate fresh (lex between t)
+at_number [] low high = absurd (omega (arith, low))
+at_number (x ∷ xs) low high =
+    let same = numbered x xs low high in
+    ap (punctuate after_comma) same ∙ number_lexeme (x ∷ xs) (after_number (x ∷ xs)) (lex in_word xs) ∙ sym (ap (punctuate fresh) same)
+
+pub begins_fresh : (t : List ℕ) → (head t ≡ 34) ⊎ ((45 ≤ head t) × (head t ≤ 57)) → punctuate after_comma (lex between t) ≡ tokens t
+begins_fresh t (inl first) = at_quote t first
+begins_fresh t (inr (low, high)) = at_number t low high
 
 -- ---- numbers
 

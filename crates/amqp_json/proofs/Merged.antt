@@ -188,28 +188,34 @@ merge_without k d (member l e bs) ms rises = so (by k l) refl (merge_without k d
     so Greater is later =
         ap (λ (o : Ordering). merge (cond (is_eq o) bs (member l e (without k bs))) (put k d ms)) is ∙ ap (put l e) later ∙ sym (put_either k l d e (merge bs ms) Greater is greater_other)
 
+-- ---- members of which the same is so
+
+-- P is so of each of them
+abbrev pub AreAll : (List ℕ → Data → Type 0) → Members → Type 0
+AreAll P no_members = Unit {0}
+AreAll P (member k d bs) = P k d × AreAll P bs
+
+pub all_put : (P : List ℕ → Data → Type 0) (k : List ℕ) (d : Data) (bs : Members) → P k d → AreAll P bs → AreAll P (put k d bs)
+all_put P k d no_members is all = (is, tt)
+all_put P k d (member l e bs) is all = so (by k l) refl (all_put P k d bs is all.1)
+  where
+    so : (o : Ordering) → by k l ≡ o → AreAll P (put k d bs) → AreAll P (match_ordering o (member k d (member l e bs)) (member l d bs) (member l e (put k d bs)))
+    so Less order inner = (is, all)
+    so Equal order inner = (subst (λ (j : List ℕ). P j d) (equal_keys k l order) is, all.1)
+    so Greater order inner = (all.0, inner)
+
+pub all_without : (P : List ℕ → Data → Type 0) (k : List ℕ) (bs : Members) → AreAll P bs → AreAll P (without k bs)
+all_without P k no_members all = tt
+all_without P k (member l e bs) all = so (is_eq (by k l)) (all_without P k bs all.1)
+  where
+    so : (b : Bool) → AreAll P (without k bs) → AreAll P (cond b bs (member l e (without k bs)))
+    so true inner = all.1
+    so false inner = (all.0, inner)
+
 -- ---- members that aren't those of entries
 
 abbrev pub AreNoEntries : Members → Type 0
-AreNoEntries no_members = Unit {0}
-AreNoEntries (member k d bs) = IsNoEntry k d × AreNoEntries bs
-
-pub no_entries_put : (k : List ℕ) (d : Data) (bs : Members) → IsNoEntry k d → AreNoEntries bs → AreNoEntries (put k d bs)
-no_entries_put k d no_members none all = (none, tt)
-no_entries_put k d (member l e bs) none all = so (by k l) refl (no_entries_put k d bs none all.1)
-  where
-    so : (o : Ordering) → by k l ≡ o → AreNoEntries (put k d bs) → AreNoEntries (match_ordering o (member k d (member l e bs)) (member l d bs) (member l e (put k d bs)))
-    so Less is inner = (none, all)
-    so Equal is inner = (subst (λ (j : List ℕ). IsNoEntry j d) (equal_keys k l is) none, all.1)
-    so Greater is inner = (all.0, inner)
-
-pub no_entries_without : (k : List ℕ) (bs : Members) → AreNoEntries bs → AreNoEntries (without k bs)
-no_entries_without k no_members all = tt
-no_entries_without k (member l e bs) all = so (is_eq (by k l)) (no_entries_without k bs all.1)
-  where
-    so : (b : Bool) → AreNoEntries (without k bs) → AreNoEntries (cond b bs (member l e (without k bs)))
-    so true inner = all.1
-    so false inner = (all.0, inner)
+AreNoEntries bs = AreAll IsNoEntry bs
 
 -- with one of them there are no entries
 pub no_entry : (k : List ℕ) (d : Data) (ms : Members) → IsNoEntry k d → entries_of (put k d ms) ≡ None
@@ -323,14 +329,14 @@ pub rest_step : (S : Type 0) (o : Option ℕ) (k : Bor (List ℕ)) (d : Data) (e
 rest_step S None k d es fs bs old new is map keys all rises = (
   without k.now bs,
   subst (λ (gs : List (Bor (List ℕ) × ℕ)). AreKeysOf gs (without k.now bs)) (sym map) (keys_without k.now es bs keys),
-  no_entries_without k.now bs all,
+  all_without IsNoEntry k.now bs all,
   rising_without k.now bs rises,
   ap (merge (without k.now bs)) is.0 ∙ merge_without k.now d bs (members_json old) rises,
 )
 rest_step S (Some at) k d es fs bs old new is map keys all rises = (
   put k.now d bs,
   subst (λ (gs : List (Bor (List ℕ) × ℕ)). AreKeysOf gs (put k.now d bs)) (sym map) (keys_put es bs k at d keys),
-  no_entries_put k.now d bs is.0 all,
+  all_put IsNoEntry k.now d bs is.0 all,
   rising_put k.now d bs rises,
   ap (λ (x : Entries). merge (put k.now d bs) (members_json x)) is.1 ∙ merge_put k.now d bs (members_json old),
 )

@@ -1,6 +1,6 @@
 -- An object whose first key is the name of a type: a value of that type, or a table.
 use Rattle.std.specs.Prelude.{if◌then◌else◌}
-use Rattle.std.proofs.Common.{◌≡◌, ◌≢◌, ℕ, Bool, true, false, zero, suc, ◌+◌, ◌-◌, ◌*◌, ◌/◌, ◌%◌, ◌^◌, ◌<◌, List, [], ◌∷◌, ◌++◌, length, take, drop, Option, Some, None, option_map, refl, sym, ap, ◌∙◌, subst, append_assoc, append-nil, arith}
+use Rattle.std.proofs.Common.{◌≡◌, ℕ, Bool, true, false, zero, suc, ◌+◌, ◌-◌, ◌*◌, ◌/◌, ◌%◌, ◌^◌, ◌<◌, List, [], ◌∷◌, ◌++◌, length, take, drop, Option, Some, None, option_map, refl, sym, ap, ◌∙◌, subst, append_assoc, append-nil, arith}
 use Rattle.std.proofs.Math.Seq.{take-append_seam}
 use Rattle.std.specs.Int.{w32, to_be_bytes}
 use Rattle.json.specs.Token.{Token, key, end_object}
@@ -14,23 +14,21 @@ use Rattle.amqp_value_core.specs.Names.{name_of}
 use Rattle.amqp_value_core.specs.Values.{Tree, table, Entries, no_entries, entry}
 use Rattle.amqp_value_core.specs.Strings.{IsShort}
 use Rattle.amqp_value_core.specs.Grammar.{TableBody, no_pairs, pair, short_field}
-use Rattle.amqp_json.specs.InMemory.{EntriesStored}
 use Rattle.amqp_json.specs.Json as amqp
-use Rattle.amqp_json.specs.Json.{members_json, sole_type, under, table_json, decimal_json}
+use Rattle.amqp_json.specs.Json.{members_json, under, table_json, decimal_json}
 use Rattle.amqp_json.specs.Names.{type_named}
-use Rattle.amqp_json.specs.Tokens.{MembersLeadTo, IsObjectOfMembers}
-use Rattle.amqp_json.specs.Encodes.{IsObject, PutsEncodingOf, PutsFirst, PutsPairs, HasNoTypeName, AreEntriesRead, IsLeaf, IsKind, IsLast, wrapped}
+use Rattle.amqp_json.specs.Tokens.{MembersLeadTo}
+use Rattle.amqp_json.specs.Encodes.{IsObject, PutsEncodingOf, PutsFirst, PutsPairs, IsLeaf, IsKind, IsLast, IsNoneUnder, wrapped}
 use Rattle.amqp_json.specs.declared.encoding.leaf.Leaf.{Leaf}
-use Rattle.amqp_json.specs.declared.encoding.leaf.Leaf.TheVariants.{Number, Text, Decimal, Put}
+use Rattle.amqp_json.specs.declared.encoding.leaf.Leaf.TheVariants.{Number, Text, Decimal, Put, NoEncoding}
 use Rattle.amqp_json.specs.declared.encoding.object.Kind.{Kind}
 use Rattle.amqp_json.specs.declared.encoding.object.Kind.TheVariants.{Table, Named}
 use Rattle.amqp_json.specs.declared.encoding.last.Last.{Last}
-use Rattle.amqp_json.specs.declared.encoding.last.Last.TheVariants.{Leaf as OfLeaf, Object as OfObject}
+use Rattle.amqp_json.specs.declared.encoding.last.Last.TheVariants.{Leaf as OfLeaf, Object as OfObject, NoValue}
 use Rattle.amqp_json.proofs.Back.{named}
 use Rattle.amqp_json.proofs.Encodes.{puts_weaker, table_put}
 use Rattle.amqp_json.proofs.Only.{is_name}
 use Rattle.amqp_json.proofs.Leading.{past_member, over}
-use Rattle.amqp_json.proofs.Merged.{second_of_table}
 
 module _ (p : Parse json.Json) (k : List ℕ) (start : List Token) where
   -- the value under the name is read again
@@ -44,27 +42,6 @@ module _ (p : Parse json.Json) (k : List ℕ) (start : List Token) where
 
   pub sole_under : (type : AMQPType) (d e : Data) (end : List Token) → type_named k ≡ Some type → e ≡ under type d → IsObject (object (member k d no_members)) p (key k ∷ start) end → IsObject e p (key k ∷ start) end
   sole_under type d e end named is found = subst (λ (x : Data). IsObject x p (key k ∷ start) end) (ap (λ j. object (member j d no_members)) (is_name k type named) ∙ sym is) found
-
-  -- the entries of a table, of which the first is under the name, and another follows
-  pub first_pairs : (j : List ℕ) (u rest : List Token) (old mid end : List ℕ) (Q : Tree → Type 0) → PutsFirst k Q old mid
-      → ((v : Tree) → Q v → MembersLeadTo p no_members (key k ∷ start) (member k (amqp.json v) no_members) (key j ∷ u)) → j ≢ k
-      → ((before : Entries) → EntriesStored before → HasNoTypeName before (Some j) → PutsPairs before (λ es. AreEntriesRead before es p (Some j) u rest) mid end)
-      → PutsPairs no_entries (λ es. IsObjectOfMembers p no_members (key k ∷ start) (members_json es) rest × (sole_type (members_json es) ≡ None)) (old ++ 70 ∷ 0 ∷ 0 ∷ 0 ∷ 0 ∷ []) end
-  first_pairs j u rest old mid end Q first leads other more =
-      let head = old ++ 70 ∷ 0 ∷ 0 ∷ 0 ∷ 0 ∷ [] in
-      let named = short_field k in
-      let w = first.1.0 in
-      let v = first.1.1 in
-      let at = leads v first.1.5 in
-      let all = more (entry k v no_entries) (first.0, first.1.4, tt) (second_of_table j k (amqp.json v) other) in
-      let tail = all.0 in (
-        named ++ (w ++ tail),
-        entry k v all.1,
-        all.2 ∙ ap (λ b. b ++ tail) first.1.2 ∙ append_assoc (head ++ named) w tail ∙ append_assoc head named (w ++ tail),
-        pair k w tail v all.1 first.0 first.1.3 all.3,
-        all.4,
-        (λ n enough. let to = at n enough in to.2 ∙ all.5.0 (key j ∷ u) to.0 refl to.1, all.5.1),
-      )
 
 -- ---- the name of a type as the only key of a table
 
@@ -141,36 +118,54 @@ again : (rest : List Token) (d : Data) (o : Option Data) → Some (with_rest res
 again rest d None e = absurd (cc e)
 again rest d (Some x) e = let is : d ≡ x = ap (data_of d) e in ap (λ y. Some (with_rest [] y)) is
 
-pub leaf_again : (leaf : Leaf) (k : List ℕ) (rest : List Token) (d : Data) (old new : List ℕ) → IsLeaf leaf k (Some (d, rest)) rest old new → IsLeaf leaf k (Some (d, [])) [] old new
-leaf_again (Number s) k rest d old new h = (h.0, again rest d (option_map number (number_of s.now)) h.1)
-leaf_again (Text s) k rest d old new h = let is : d ≡ string s.now = ap (data_of d) h.1 in (h.0, ap (λ y. Some (with_rest [] y)) is)
-leaf_again (Decimal x) k rest d old new h = let is : d ≡ decimal_json x.scale x.value = ap (data_of d) h.1 in (h.0, ap (λ y. Some (with_rest [] y)) is, h.2)
-leaf_again Put k rest d old new h =
-    (h.0, puts_weaker (λ v. Some (with_rest rest d) ≡ Some (amqp.json v, rest)) (λ v. Some (with_rest [] d) ≡ Some (amqp.json v, [])) _ new (λ v e. let is : d ≡ amqp.json v = ap (data_of d) e in ap (λ y. Some (with_rest [] y)) is) h.1)
+pub leaf_again : (leaf : Leaf) (type : AMQPType) (k : List ℕ) (rest : List Token) (d : Data) (old new : List ℕ) → IsLeaf leaf type k (Some (d, rest)) rest old new → IsLeaf leaf type k (Some (d, [])) [] old new
+leaf_again (Number s) type k rest d old new h = (h.0, again rest d (option_map number (number_of s.now)) h.1)
+leaf_again (Text s) type k rest d old new h = let is : d ≡ string s.now = ap (data_of d) h.1 in (h.0, ap (λ y. Some (with_rest [] y)) is)
+leaf_again (Decimal x) type k rest d old new h = let is : d ≡ decimal_json x.scale x.value = ap (data_of d) h.1 in (h.0, ap (λ y. Some (with_rest [] y)) is, h.2)
+leaf_again NoEncoding type k rest d old new h = let is : d ≡ h.0 = ap (data_of d) h.1 in (h.0, ap (λ y. Some (with_rest [] y)) is, h.2, h.3, h.4)
+leaf_again Put type k rest d old new h = (
+  h.0,
+  puts_weaker (λ v. (Some (with_rest rest d) ≡ Some (amqp.json v, rest)) × IsNoneUnder type (amqp.json v)) (λ v. (Some (with_rest [] d) ≡ Some (amqp.json v, [])) × IsNoneUnder type (amqp.json v)) _ new
+      (λ v e. let is : d ≡ amqp.json v = ap (data_of d) e.0 in (ap (λ y. Some (with_rest [] y)) is, e.1)) h.1,
+)
 
 -- an object that is put is one that may be under the name of a table's type
-pub put_pending : (p : Parse json.Json) (ts rest : List Token) (old new : List ℕ) → PutsEncodingOf (λ v. IsObject (amqp.json v) p ts rest) old new
-    → (d : Data) × IsObject d p ts rest × ((e : Data) × (d ≡ e) × PutsEncodingOf (λ v. amqp.json v ≡ e) old new)
-put_pending p ts rest old new (w, v, same, is, stored, h) = (amqp.json v, h, (amqp.json v, refl, (w, v, same, is, stored, refl)))
+pub put_pending : (p : Parse json.Json) (ts rest : List Token) (old new : List ℕ) → PutsEncodingOf (λ v. IsObject (amqp.json v) p ts rest × IsNoneUnder types.FieldTable (amqp.json v)) old new
+    → (d : Data) × IsObject d p ts rest × ((e : Data) × (d ≡ e) × (PutsEncodingOf (λ v. amqp.json v ≡ e) old new × IsNoneUnder types.FieldTable e))
+put_pending p ts rest old new (w, v, same, is, stored, h) = (amqp.json v, h.0, (amqp.json v, refl, ((w, v, same, is, stored, refl), h.1)))
+
+-- all but the text of a number is JSON
+abbrev pub IsOtherThanNumber : Leaf → Type 0
+IsOtherThanNumber (Number s) = ⊥
+IsOtherThanNumber leaf = Unit {0}
+
+pub leaf_read : (leaf : Leaf) (type : AMQPType) (k : List ℕ) (read : Option (Data × List Token)) (rest : List Token) (old new : List ℕ) → IsOtherThanNumber leaf → IsLeaf leaf type k read rest old new → (d : Data) × (read ≡ Some (d, rest))
+leaf_read (Number s) type k read rest old new other h = absurd other
+leaf_read (Text s) type k read rest old new other h = (string s.now, h.1)
+leaf_read (Decimal x) type k read rest old new other h = (decimal_json x.scale x.value, h.1)
+leaf_read NoEncoding type k read rest old new other h = (h.0, h.1)
+leaf_read Put type k read rest old new other h = (amqp.json h.1.1, h.1.5.0)
 
 nothing_put : (old new : List ℕ) → new ≡ old → (w : List ℕ) × (new ≡ old ++ w)
 nothing_put old new same = ([], same ∙ sym (append-nil old))
 
-leaf_after : (leaf : Leaf) (k : List ℕ) (read : Option (Data × List Token)) (rest : List Token) (old new : List ℕ) → IsLeaf leaf k read rest old new → (w : List ℕ) × (new ≡ old ++ w)
-leaf_after (Number s) k read rest old new h = nothing_put old new h.0
-leaf_after (Text s) k read rest old new h = nothing_put old new h.0
-leaf_after (Decimal x) k read rest old new h = nothing_put old new h.0
-leaf_after Put k read rest old new h =
+leaf_after : (leaf : Leaf) (type : AMQPType) (k : List ℕ) (read : Option (Data × List Token)) (rest : List Token) (old new : List ℕ) → IsLeaf leaf type k read rest old new → (w : List ℕ) × (new ≡ old ++ w)
+leaf_after (Number s) type k read rest old new h = nothing_put old new h.0
+leaf_after (Text s) type k read rest old new h = nothing_put old new h.0
+leaf_after (Decimal x) type k read rest old new h = nothing_put old new h.0
+leaf_after NoEncoding type k read rest old new h = h.4
+leaf_after Put type k read rest old new h =
     let head = 70 ∷ 0 ∷ 0 ∷ 0 ∷ 0 ∷ [] in
     (head ++ (short_field k ++ h.1.0), h.1.2 ∙ append_assoc (old ++ head) (short_field k) h.1.0 ∙ append_assoc old head (short_field k ++ h.1.0))
 
 kind_after : (kind : Kind) (d : Data) (old new : List ℕ) → IsKind kind d old new → (w : List ℕ) × (new ≡ old ++ w)
-kind_after Table d old new h = (h.0, h.2)
-kind_after (Named type leaf) d old new h = leaf_after leaf (name_of type) (Some (h.0, [])) [] old new h.2
+kind_after Table d old new h = (h.0.0, h.0.2)
+kind_after (Named type leaf) d old new h = leaf_after leaf type (name_of type) (Some (h.0, [])) [] old new h.2
 
-pub last_after : (last : Last) (k : List ℕ) (read : Option (Data × List Token)) (rest : List Token) (old new : List ℕ) → IsLast last k read rest old new → (w : List ℕ) × (new ≡ old ++ w)
-last_after (OfLeaf leaf) k read rest old new h = leaf_after leaf k read rest old new h
-last_after (OfObject o) k read rest old new h = kind_after o.kind h.2.0 old new h.2.2
+pub last_after : (last : Last) (type : AMQPType) (k : List ℕ) (read : Option (Data × List Token)) (rest : List Token) (old new : List ℕ) → IsLast last type k read rest old new → (w : List ℕ) × (new ≡ old ++ w)
+last_after (OfLeaf leaf) type k read rest old new h = leaf_after leaf type k read rest old new h
+last_after (OfObject o) type k read rest old new h = kind_after o.kind h.2.0 old new h.2.2
+last_after NoValue type k read rest old new h = h.4
 
 -- what was put is taken back
 pub back_to : (len : ℕ) (old now : List ℕ) → length old ≡ len → (w : List ℕ) × (now ≡ old ++ w) → take len now ≡ old

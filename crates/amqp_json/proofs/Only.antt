@@ -22,7 +22,7 @@ use Rattle.amqp_value_core.specs.declared.types.amqp_type.AMQPType.{AMQPType}
 use Rattle.amqp_value_core.specs.declared.types.amqp_type.AMQPType.TheVariants as amqp
 use Rattle.amqp_value_core.specs.Names.{name_of}
 use Rattle.amqp_value_core.specs.Values as values
-use Rattle.amqp_value_core.specs.Values.{decimal, void, Tree, scalar, short, long, octets, table, Trees, no_trees, tree, Entries, no_entries, entry}
+use Rattle.amqp_value_core.specs.Values.{decimal, void, Tree, scalar, short, long, octets, table, Trees, no_trees, tree, Entries, no_entries, entry, readable}
 use Rattle.amqp_value_core.specs.Json as core
 use Rattle.amqp_value_core.specs.Json.{is_within, signed_within, unsigned_below, short_text}
 use Rattle.amqp_json.specs.Names.{types, type_named}
@@ -268,9 +268,9 @@ below_less limit (number (unsigned m)) n h =
     grind (arith)
 below_less limit _ n h = absurd (cc h)
 
--- a decimal's scale and number are those of a table, too
-pub decimal_read : (d : Data) (t : Tree) → decimal_in d ≡ Some t → value_of d ≢ None
-decimal_read (object (member a x (member b y no_members))) t h none =
+-- a decimal's scale and number are those of a table, too, which has an encoding
+pub decimal_table : (d : Data) (t : Tree) → decimal_in d ≡ Some t → (u : Tree) × (value_of d ≡ Some u) × (readable u ≡ true)
+decimal_table (object (member a x (member b y no_members))) t h =
     let names = if_some (bytes_eq a (codes "scale") && bytes_eq b (codes "value")) _ t h in
     let each = and_parts (bytes_eq a (codes "scale")) (bytes_eq b (codes "value")) names.0 in
     let k = (bytes_eq-Decides a (codes "scale")).0 each.0 in
@@ -281,15 +281,25 @@ decimal_read (object (member a x (member b y no_members))) t h none =
     let low : nat_lt m.0 (2 ^ 63) ≡ true = grind (arith) in
     let lesser = below_less (2 ^ 32) y n.0 n.1 in
     let lower : nat_lt n.0 (2 ^ 63) ≡ true = grind (arith) in
-    let read : value_of (object (member (codes "scale") (natural m.0) (member (codes "value") (natural n.0) no_members))) ≡ Some (table (entry (codes "scale") (scalar (values.number amqp.LongLongInt m.0)) (entry (codes "value") (scalar (values.number amqp.LongLongInt n.0)) no_entries))) =
-    rw (low, lower) refl in
+    let u = table (entry (codes "scale") (scalar (values.number amqp.LongLongInt m.0)) (entry (codes "value") (scalar (values.number amqp.LongLongInt n.0)) no_entries)) in
+    let read : value_of (object (member (codes "scale") (natural m.0) (member (codes "value") (natural n.0) no_members))) ≡ Some u = rw (low, lower) refl in
     let same : value_of (object (member (codes "scale") (natural m.0) (member (codes "value") (natural n.0) no_members))) ≡ value_of (object (member a x (member b y no_members))) =
     ap (λ u. value_of (object (member (codes "scale") u (member (codes "value") (natural n.0) no_members)))) (below_is (2 ^ 8) x m.0 m.1)
     ∙ ap (λ u. value_of (object (member (codes "scale") x (member (codes "value") u no_members)))) (below_is (2 ^ 32) y n.0 n.1)
     ∙ ap (λ (u : List ℕ). value_of (object (member u x (member (codes "value") y no_members)))) (sym k)
     ∙ ap (λ (u : List ℕ). value_of (object (member a x (member u y no_members)))) (sym j) in
-    absurd (cc (read, same, none))
-decimal_read _ t h none = absurd (cc h)
+    (u, sym same ∙ read, refl)
+decimal_table _ t h = absurd (cc h)
+
+pub decimal_read : (d : Data) (t : Tree) → decimal_in d ≡ Some t → value_of d ≢ None
+decimal_read d t h none = let at = decimal_table d t h in absurd (cc (at.1, none))
+
+pub no_decimal : (d : Data) → value_of d ≡ None → decimal_in d ≡ None
+no_decimal d none = by (decimal_in d) refl
+  where
+    by : (o : Option Tree) → decimal_in d ≡ o → decimal_in d ≡ None
+    by None is = is
+    by (Some t) is = absurd (decimal_read d t is none)
 
 pub is_under : (type : AMQPType) (d : Data) (t : Tree) → value_under type d ≡ Some t → json t ≡ under type d
 is_under amqp.ShortShortInt d t h = signed_under amqp.ShortShortInt w8 d t refl (λ n. refl) h

@@ -1,108 +1,169 @@
--- The pairs of a table with their places, a pair at a time.
-use Rattle.std.proofs.Common.{◌≡◌, ◌<◌, ◌≤◌, ℕ, suc, List, [], ◌∷◌, ◌++◌, length, get_or, drop, drop-cons, false, is_some, Some, None, refl, sym, ap, ◌∙◌, subst, arith}
+-- The pairs of a table by their places, a pair at a time.
+use Rattle.std.proofs.Common.{◌≡◌, ◌<◌, ◌≤◌, ◌+◌, ℕ, suc, List, [], ◌∷◌, ◌++◌, length, drop, drop-cons, true, false, is_some, Option, Some, None, IfSome, refl, sym, ap, ◌∙◌, subst, arith, append_assoc, length-append}
+use Rattle.std.proofs.Math.Logic.{∥∥₁_map}
+use Rattle.std.proofs.Math.Seq.{drop-append_seam}
+use Rattle.std.proofs.lemmas.List.{drop-drop}
+use Rattle.std.specs.Borrow.{Bor}
 use Rattle.std.specs.List.{AllByRecursion}
+use Rattle.std.specs.Slice.{IsItemAt}
 use Rattle.amqp_value_core.specs.Values.{Tree, Entries, no_entries, entry, insert_all}
-use Rattle.amqp_value_core.specs.Grammar.{TableBody}
-use Rattle.amqp_in_place.specs.Refs.{Denotes}
+use Rattle.amqp_value_core.specs.Grammar.{TableBody, short_field, long_field}
+use Rattle.amqp_in_place.specs.Bodies.{HasPairs}
+use Rattle.amqp_in_place.specs.InPlaceResults.{IsLeft}
+use Rattle.amqp_in_place.specs.Places.{IsViewIn, IsPairViewIn}
 use Rattle.amqp_in_place.specs.Walks.{PairStep}
-use Rattle.amqp_json.specs.declared.sorted.PlacedPair.{PlacedPair}
+use Rattle.amqp_in_place.specs.declared.refs.ValueRef.{ValueRef}
+use Rattle.amqp_in_place.specs.declared.refs.ValueRef.TheVariants as at
+use Rattle.amqp_in_place.specs.Refs.{array_body, table_body}
+use Rattle.amqp_json.specs.declared.sorted.SortedPairs.{SortedPairs}
 use Rattle.amqp_json.specs.Json.{members_json, sole_type}
-use Rattle.amqp_json.specs.Sorted.{AreAt, body_len, above_bodies}
-use Rattle.amqp_json.specs.Placed.{steps_of, InOrder}
+use Rattle.amqp_json.specs.Names.{type_named}
+use Rattle.amqp_json.specs.Placed.{BeginsAt, BeginAt, HasPairsAt, InOrder}
+use Rattle.amqp_json.specs.Sorted.{AreLeft}
 use Rattle.amqp_json.proofs.SortedSteps.{AtStep}
 
-pub steps_pushed : (xs : List PlacedPair) (p : PlacedPair) → steps_of (xs ++ p ∷ []) ≡ steps_of xs ++ (p.key, p.value) ∷ []
-steps_pushed [] p = refl
-steps_pushed (x ∷ xs) p = ap (λ (es : List AtStep). (x.key, x.value) ∷ es) (steps_pushed xs p)
+-- ---- what begins at the places so far
 
--- ---- what they refer to
+-- at the places begin the pairs of ps, up to those of qs
+abbrev pub BeginBefore : List ℕ → List ℕ → Entries → Entries → Type 0
+BeginBefore body [] ps qs = ps ≡ qs
+BeginBefore body (x ∷ xs) (entry k v ps) qs = BeginsAt body x k v × BeginBefore body xs ps qs
+BeginBefore _ _ _ _ = ⊥
 
--- keys and values refer to those of ps, up to those of qs
-abbrev pub AreBefore : List AtStep → Entries → Entries → Type 0
-AreBefore [] ps qs = ps ≡ qs
-AreBefore (e ∷ es) (entry k v ps) qs = (e.0.now ≡ k) × Denotes e.1 v × AreBefore es ps qs
-AreBefore _ _ _ = ⊥
+before_more : (body xs : List ℕ) (x : ℕ) (ps : Entries) (k : List ℕ) (v : Tree) (qs : Entries) → BeginsAt body x k v → BeginBefore body xs ps (entry k v qs) → BeginBefore body (xs ++ x ∷ []) ps qs
+before_more body [] x ps k v qs one are = subst (λ (t : Entries). BeginBefore body (x ∷ []) t qs) (sym are) (one, refl)
+before_more body (y ∷ xs) x no_entries k v qs one are = absurd are
+before_more body (y ∷ xs) x (entry j u ps) k v qs one are = (are.0, before_more body xs x ps k v qs one are.1)
 
-before_more : (es : List AtStep) (x : AtStep) (ps : Entries) (k : List ℕ) (v : Tree) (qs : Entries) → x.0.now ≡ k → Denotes x.1 v → AreBefore es ps (entry k v qs) → AreBefore (es ++ x ∷ []) ps qs
-before_more [] x ps k v qs same denotes are = subst (λ (t : Entries). AreBefore (x ∷ []) t qs) (sym are) (same, denotes, refl)
-before_more (e ∷ es) x no_entries k v qs same denotes are = absurd are
-before_more (e ∷ es) x (entry j u ps) k v qs same denotes are = (are.0, are.1, before_more es x ps k v qs same denotes are.2)
+before_none : (body xs : List ℕ) (ps : Entries) → BeginBefore body xs ps no_entries → BeginAt body xs ps
+before_none body [] ps are = subst (BeginAt body []) (sym are) tt
+before_none body (x ∷ xs) no_entries are = absurd are
+before_none body (x ∷ xs) (entry k v ps) are = (are.0, before_none body xs ps are.1)
 
-before_none : (es : List AtStep) (ps : Entries) → AreBefore es ps no_entries → AreAt es ps
-before_none [] ps are = subst (AreAt []) (sym are) tt
-before_none (e ∷ es) no_entries are = absurd are
-before_none (e ∷ es) (entry k v ps) are = (are.0, are.1, before_none es ps are.2)
+-- the first pairs begin at the places, and the others are left
+abbrev pub Placed : List ℕ → List ℕ → List ℕ → Type 0
+Placed body xs left = (ps : Entries) → TableBody body ps → (qs : Entries) × TableBody left qs × BeginBefore body xs ps qs
 
--- a slice of the pairs that are kept refers to the entries
-pub entries_at : (xs ys : List PlacedPair) (ps es : Entries) → xs ≡ ys → es ≡ insert_all no_entries ps → AreAt (steps_of xs) (insert_all no_entries ps) → AreAt (steps_of ys) es
-entries_at xs ys ps es same is are = subst (λ (qs : List PlacedPair). AreAt (steps_of qs) es) same (subst (λ (fs : Entries). AreAt (steps_of xs) fs) (sym is) are)
-
--- the pairs so far
-abbrev pub Placed : List ℕ → List ℕ → List AtStep → Type 0
-Placed all left es = (ps : Entries) → TableBody all ps → (qs : Entries) × TableBody left qs × AreBefore es ps qs
-
-pub placed_first : (all : List ℕ) (es : List AtStep) → es ≡ [] → Placed all all es
-placed_first all es none = λ ps p. (ps, p, subst (λ (t : List AtStep). AreBefore t ps ps) (sym none) refl)
-
-pub placed_next : (all left less : List ℕ) (es : List AtStep) (x : AtStep) → Placed all left es → ((qs : Entries) → TableBody left qs → PairStep qs (Some x) less) → Placed all less (es ++ x ∷ [])
-placed_next all left less es x so step = λ ps p. let at = so ps p in by ps at.0 (step at.0 at.1) at.2
+pub placed_next : (body xs left less : List ℕ) (x : ℕ) (r : Option AtStep) → left ≡ drop x body → Placed body xs left → ((qs : Entries) → TableBody left qs → PairStep qs r less) → is_some r ≡ true → Placed body (xs ++ x ∷ []) less
+placed_next body xs left less x r from so step some = λ ps p. let at = so ps p in by ps at.0 r at.1 (step at.0 at.1) some at.2
   where
-    by : (ps qs : Entries) → PairStep qs (Some x) less → AreBefore es ps qs → (rs : Entries) × TableBody less rs × AreBefore (es ++ x ∷ []) ps rs
-    by ps no_entries given are = absurd given
-    by ps (entry k v rs) given are = (rs, given.2, before_more es x ps k v rs given.0 given.1 are)
+    by : (ps qs : Entries) (r : Option AtStep) → TableBody left qs → PairStep qs r less → is_some r ≡ true → BeginBefore body xs ps qs → (rs : Entries) × TableBody less rs × BeginBefore body (xs ++ x ∷ []) ps rs
+    by ps no_entries None there given some are = absurd cc
+    by ps no_entries (Some y) there given some are = absurd given
+    by ps (entry k v rs) None there given some are = absurd given
+    by ps (entry k v rs) (Some y) there given some are = (rs, given.2, before_more body xs x ps k v rs (rs, subst (λ (s : List ℕ). TableBody s (entry k v rs)) from there) are)
 
-pub placed_over : (all left less : List ℕ) (es : List AtStep) → Placed all left es → ((qs : Entries) → TableBody left qs → PairStep qs None less) → (ps : Entries) → TableBody all ps → AreAt es ps
-placed_over all left less es so step ps p = let at = so ps p in by at.0 (step at.0 at.1) at.2
+pub placed_over : (body xs left less : List ℕ) (r : Option AtStep) → Placed body xs left → ((qs : Entries) → TableBody left qs → PairStep qs r less) → is_some r ≡ false → (ps : Entries) → TableBody body ps → BeginAt body xs ps
+placed_over body xs left less r so step none ps p = let at = so ps p in by at.0 r (step at.0 at.1) none at.2
   where
-    by : (qs : Entries) → PairStep qs None less → AreBefore es ps qs → AreAt es ps
-    by no_entries given are = before_none es ps are
-    by (entry k v rs) given are = absurd given
+    by : (qs : Entries) (r : Option AtStep) → PairStep qs r less → is_some r ≡ false → BeginBefore body xs ps qs → BeginAt body xs ps
+    by no_entries None given none are = before_none body xs ps are
+    by no_entries (Some y) given none are = absurd given
+    by (entry k v rs) None given none are = absurd given
+    by (entry k v rs) (Some y) given none are = absurd cc
 
--- ---- their places
+-- ---- the order of the places
 
 all_pushed : {X : Type 0} (P : X → Type 0) (xs : List X) (x : X) → AllByRecursion P xs → P x → AllByRecursion P (xs ++ x ∷ [])
 all_pushed P [] x all one = (one, tt)
 all_pushed P (y ∷ xs) x all one = (all.0, all_pushed P xs x all.1 one)
 
--- the place of each is below n
-abbrev pub AreBelow : ℕ → List PlacedPair → Type 0
-AreBelow n xs = AllByRecursion (λ (q : PlacedPair). q.place < n) xs
+-- each place is below n
+abbrev pub AreBelow : ℕ → List ℕ → Type 0
+AreBelow n xs = AllByRecursion (λ (q : ℕ). q < n) xs
 
-below_higher : (m n : ℕ) (xs : List PlacedPair) → m ≤ n → AreBelow m xs → AreBelow n xs
+below_higher : (m n : ℕ) (xs : List ℕ) → m ≤ n → AreBelow m xs → AreBelow n xs
 below_higher m n [] few below = tt
 below_higher m n (x ∷ xs) few below = (omega (arith, below.0, few), below_higher m n xs few below.1)
 
-order_pushed : (xs : List PlacedPair) (p : PlacedPair) → InOrder xs → AreBelow p.place xs → InOrder (xs ++ p ∷ [])
+order_pushed : (xs : List ℕ) (p : ℕ) → InOrder xs → AreBelow p xs → InOrder (xs ++ p ∷ [])
 order_pushed [] p order below = (tt, tt)
-order_pushed (x ∷ xs) p order below = (all_pushed (λ (q : PlacedPair). x.place < q.place) xs p order.0 below.0, order_pushed xs p order.1 below.1)
+order_pushed (x ∷ xs) p order below = (all_pushed (λ (q : ℕ). x < q) xs p order.0 below.0, order_pushed xs p order.1 below.1)
 
 -- they are in order, and the next place is above all
-abbrev pub OrderedBelow : ℕ → List PlacedPair → Type 0
+abbrev pub OrderedBelow : ℕ → List ℕ → Type 0
 OrderedBelow n xs = InOrder xs × AreBelow n xs
 
-pub ordered_next : (xs : List PlacedPair) (p : PlacedPair) (m n : ℕ) → p.place ≡ m → m < n → OrderedBelow m xs → OrderedBelow n (xs ++ p ∷ [])
-ordered_next xs p m n is more so =
-    (order_pushed xs p so.0 (subst (λ (i : ℕ). AreBelow i xs) (sym is) so.1), all_pushed (λ (q : PlacedPair). q.place < n) xs p (below_higher m n xs (omega (arith, more)) so.1) (omega (arith, is, more)))
+pub ordered_next : (xs : List ℕ) (m n : ℕ) → m < n → OrderedBelow m xs → OrderedBelow n (xs ++ m ∷ [])
+ordered_next xs m n more so = (order_pushed xs m so.0 so.1, all_pushed (λ (q : ℕ). q < n) xs m (below_higher m n xs (omega (arith, more)) so.1) more)
 
--- ---- the bodies of their values
+-- ---- what is after a pair
 
-pub pushed_above : (es : List AtStep) (x : AtStep) (n : ℕ) → body_len x.1 < n → above_bodies es ≤ n → above_bodies (es ++ x ∷ []) ≤ n
-pushed_above [] x n short few = omega (arith, short)
-pushed_above (e ∷ es) x n short few = let later = pushed_above es x n short (omega (arith, few)) in omega (arith, few, later)
+view_left : (r : ValueRef) (s rest : List ℕ) → IsViewIn s r rest → IsLeft s rest
+view_left (at.FieldArray a) s rest (c, k, few, e) = (c ∷ long_field (array_body a), e)
+view_left (at.FieldTable t) s rest (c, k, few, e) = (c ∷ long_field (table_body t), e)
+view_left (at.LongString b) s rest (c, k, few, e) = (c ∷ long_field b.now, e)
+view_left (at.ByteArray b) s rest (c, k, few, e) = (c ∷ long_field b.now, e)
+view_left _ s rest y = (y.0, y.2)
 
--- ---- more than one
+-- fewer bytes than n are left of s
+abbrev pub LeftOf : List ℕ → List ℕ → Type 0
+LeftOf s left = IsLeft s left × (length left < length s)
 
--- several members aren't under a type's name
-pub several_named : (xs : List PlacedPair) → 1 < length xs → (es : Entries) → AreAt (steps_of xs) es → false ≡ is_some (sole_type (members_json es))
-several_named [] more es are = absurd (omega (arith, more))
-several_named (x ∷ []) more es are = absurd (omega (arith, more))
-several_named (x ∷ y ∷ xs) more no_entries are = absurd are
-several_named (x ∷ y ∷ xs) more (entry k v no_entries) are = absurd are.2
-several_named (x ∷ y ∷ xs) more (entry k v (entry j u es)) are = refl
+pub pair_left : (s left : List ℕ) (r : Option AtStep) → is_some r ≡ true → IfSome r (λ x. IsPairViewIn s x.0.now x.1 left) → LeftOf s left
+pair_left s left None some inside = absurd cc
+pair_left s left (Some x) some (after, e, inside) =
+    let of = view_left x.1 after left inside in
+    let k = short_field x.0.now in
+    let is : s ≡ (k ++ of.0) ++ left = e ∙ ap (λ (t : List ℕ). k ++ t) of.1 ∙ sym (append_assoc k of.0 left) in
+    ((k ++ of.0, is), omega (arith, ap length is, length-append x.0.now of.0, length-append (x.0.now ++ of.0) left))
+
+-- what is left begins at a place of its own
+pub left_at : (body s left : List ℕ) (x n : ℕ) → s ≡ drop x body → IsLeft s left → x + length s ≡ length body → n + length left ≡ length body → left ≡ drop n body
+left_at body s left x n from (w, is) here there =
+    let more : n ≡ x + length w = omega (arith, here, there, ap length is, length-append w left) in
+    sym (ap (λ (m : ℕ). drop m body) more ∙ sym (drop-drop (length w) x body) ∙ ap (drop (length w)) (sym from ∙ is) ∙ drop-append_seam w left)
 
 -- ---- one after another
 
--- from a place on, the pair there is first
-pub steps_from : (xs : List PlacedPair) (i j : ℕ) (p : PlacedPair) → i < length xs → j ≡ suc i → get_or xs i p ≡ p → steps_of (drop i xs) ≡ (p.key, p.value) ∷ steps_of (drop j xs)
-steps_from xs i j p few after is =
-    ap steps_of (drop-cons xs i p few) ∙ ap (λ (q : PlacedPair). (q.key, q.value) ∷ steps_of (drop (suc i) xs)) is ∙ ap (λ (n : ℕ). (p.key, p.value) ∷ steps_of (drop n xs)) (sym after)
+-- the place that is found is the first of those that are left
+pub first_left : (xs ys : List ℕ) (i : ℕ) (x : Bor ℕ) → xs ≡ ys → IsItemAt ys i (Some x) → drop i xs ≡ x.now ∷ drop (i + 1) xs
+first_left xs ys i x same found =
+    let after : suc i ≡ i + 1 = omega arith in
+    subst (λ (l : List ℕ). drop i l ≡ x.now ∷ drop (i + 1) l) (sym same)
+    (drop-cons ys i x.now found.3.0 ∙ ap (λ (y : ℕ). y ∷ drop (suc i) ys) (sym found.1) ∙ ap (λ (n : ℕ). x.now ∷ drop n ys) after)
+
+pub pairs_there : (body xs rest : List ℕ) (x : ℕ) → xs ≡ x ∷ rest → ∥ HasPairsAt body xs ∥₁ → ∥ HasPairs (drop x body) ∥₁
+pairs_there body xs rest x is has = ∥∥₁_map (subst (λ (t : List ℕ). ∥ HasPairsAt body t ∥₁) is has) (λ h. by h.0 h.1)
+  where
+    by : (es : Entries) → BeginAt body (x ∷ rest) es → HasPairs (drop x body)
+    by no_entries are = absurd are
+    by (entry k v es) are = (entry k v are.0.0, are.0.1)
+
+pub others_there : (body xs rest : List ℕ) (x : ℕ) → xs ≡ x ∷ rest → ∥ HasPairsAt body xs ∥₁ → ∥ HasPairsAt body rest ∥₁
+others_there body xs rest x is has = ∥∥₁_map (subst (λ (t : List ℕ). ∥ HasPairsAt body t ∥₁) is has) (λ h. by h.0 h.1)
+  where
+    by : (es : Entries) → BeginAt body (x ∷ rest) es → HasPairsAt body rest
+    by no_entries are = absurd are
+    by (entry k v es) are = (es, are.1)
+
+-- what is left of a table's pairs is its entries
+pub left_of_table : (sorted : SortedPairs) (ps es : Entries) → es ≡ insert_all no_entries ps → AreLeft sorted (insert_all no_entries ps) → AreLeft sorted es
+left_of_table sorted ps es is are = subst (AreLeft sorted) (sym is) are
+
+-- ---- under the name of a type
+
+-- several members aren't
+pub several_named : (body xs : List ℕ) → 1 < length xs → (es : Entries) → BeginAt body xs es → false ≡ is_some (sole_type (members_json es))
+several_named body [] more es are = absurd (omega (arith, more))
+several_named body (x ∷ []) more es are = absurd (omega (arith, more))
+several_named body (x ∷ y ∷ xs) more no_entries are = absurd are
+several_named body (x ∷ y ∷ xs) more (entry k v no_entries) are = absurd are.1
+several_named body (x ∷ y ∷ xs) more (entry k v (entry j u es)) are = refl
+
+-- the only member is, if its key is one
+pub one_named : (body xs left : List ℕ) (x : ℕ) (y : AtStep) → xs ≡ x ∷ [] → ((ps : Entries) → TableBody (drop x body) ps → PairStep ps (Some y) left)
+    → (es : Entries) → BeginAt body xs es → is_some (type_named y.0.now) ≡ is_some (sole_type (members_json es))
+one_named body xs left x y is step es are = by es (subst (λ (ys : List ℕ). BeginAt body ys es) is are)
+  where
+    by : (es : Entries) → BeginAt body (x ∷ []) es → is_some (type_named y.0.now) ≡ is_some (sole_type (members_json es))
+    by no_entries are = absurd are
+    by (entry k v no_entries) are = ap (λ (j : List ℕ). is_some (type_named j)) (step (entry k v are.0.0) are.0.1).0
+    by (entry k v (entry j u es)) are = absurd are.1
+
+pub none_there : (body xs left : List ℕ) (x : ℕ) → xs ≡ x ∷ [] → ((ps : Entries) → TableBody (drop x body) ps → PairStep ps None left) → (es : Entries) → BeginAt body xs es → ⊥
+none_there body xs left x is step es are = by es (subst (λ (ys : List ℕ). BeginAt body ys es) is are)
+  where
+    by : (es : Entries) → BeginAt body (x ∷ []) es → ⊥
+    by no_entries are = absurd are
+    by (entry k v es) are = step (entry k v are.0.0) are.0.1

@@ -1,5 +1,5 @@
 -- The grammar's loops, a turn at a time, under the conversion to data.
-use Rattle.std.proofs.Common.{◌≡◌, ℕ, zero, suc, ◌-◌, ◌<◌, ◌≤◌, List, [], ◌∷◌, ◌++◌, length, Option, Some, None, Result, Ok, Err, IfOk, option_map, option_and_then, refl, ap, ◌∙◌, arith, Bor}
+use Rattle.std.proofs.Common.{◌≡◌, ℕ, zero, suc, ◌-◌, ◌<◌, ◌≤◌, List, [], ◌∷◌, ◌++◌, length, Option, Some, None, Result, Ok, Err, IfOk, option_map, option_and_then, refl, sym, ap, ◌∙◌, arith, Bor}
 use Rattle.json.specs.Token.{Token}
 use Rattle.json.specs.Json as json
 use Rattle.json.specs.Json.{Parse, parse_map, after_end_array, read_key, items_step, items, members, if_last}
@@ -162,6 +162,10 @@ mapped f (Some a) b h = let e : f a ≡ b = cc in (a, refl, e)
 
 pub number_read : (depth : ℕ) (s : List ℕ) (r : List Token) (d : Data) → option_map number (number_of s) ≡ Some d → converted of_json (json.value depth (Token.number s ∷ r)) ≡ Some (d, r)
 number_read depth s r d h = ap (converted of_json) (value_is depth _) ∙ ap (λ o. option_map (λ (x : Data). (x, r)) o) h
+
+-- so is the token of a number, and nothing more
+pub number_is : (depth : ℕ) (s : List ℕ) (r : List Token) (t : Token) (u : List Token) → t ≡ Token.number s → u ≡ r → (d : Data) → option_map number (number_of s) ≡ Some d → converted of_json (json.value depth (t ∷ r)) ≡ Some (d, u)
+number_is depth s r t u is same d h = ap (λ k. converted of_json (json.value depth (k ∷ r))) is ∙ number_read depth s r d h ∙ ap (λ (ts : List Token). Some (d, ts)) (sym same)
 
 -- ---- members
 

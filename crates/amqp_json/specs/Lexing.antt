@@ -1,12 +1,14 @@
 -- For private clauses: the tokens of a text from a place on.
-use Rattle.std.specs.Prelude.{◌≡◌, ℕ, ℤ, FitsSigned, ◌+◌, ◌≤◌, List, [], ◌∷◌, length, take, drop, true, Option, Some, None, ◌⊎◌}
+use Rattle.std.specs.Prelude.{◌≡◌, ℕ, ℤ, FitsSigned, ◌+◌, ◌≤◌, List, [], ◌∷◌, length, take, drop, true, codes, Option, Some, None, ◌⊎◌}
 use Rattle.std.specs.Int.{w64}
+use Rattle.serde_json.specs.Data.{unsigned}
 use Rattle.serde_json.specs.Find.{of_integer}
 use Rattle.serde_json.specs.Read.{number_of}
-use Rattle.json.specs.Token.{Token, number, begin_object, end_object, begin_array, end_array}
+use Rattle.json.specs.Token.{Token, number, key, begin_object, end_object, begin_array, end_array}
 use Rattle.json.specs.Word.{head, is_space, ends_word}
 use Rattle.json.specs.Lex.{between, lex, fresh, after_value, after_comma, may_begin, punctuate}
 use Rattle.json.specs.Lex as spec
+use Rattle.amqp_value_core.specs.declared.types.decimal_value.DecimalValue.{DecimalValue}
 use Rattle.amqp_json.specs.declared.encoding.lexer.Place.{Place}
 use Rattle.amqp_json.specs.declared.encoding.lexer.Place.TheVariants.{Fresh, AfterValue, AfterComma}
 use Rattle.amqp_json.specs.declared.encoding.lexer.Lexer.TheInside.{Inside}
@@ -46,6 +48,21 @@ pub record IsLastInteger (n : ℤ) (ts rest : List Token) : Type 0 where
   pub first : ts ≡ number digits ∷ end_object ∷ rest
   pub denoted : number_of digits ≡ Some (of_integer n)
   pub fits : FitsSigned w64 n
+
+-- the first token is a number that is the integer n
+pub record IsIntegerNext (n : ℤ) (ts rest : List Token) : Type 0 where
+  pub digits : List ℕ
+  pub first : ts ≡ number digits ∷ rest
+  pub denoted : number_of digits ≡ Some (of_integer n)
+  pub fits : FitsSigned w64 n
+
+-- the tokens after the key of a decimal's scale: this, the key of its number, this, and the end of their object
+pub record AreDecimalFields (d : DecimalValue) (ts rest : List Token) : Type 0 where
+  pub scale : List ℕ
+  pub value : List ℕ
+  pub fields : ts ≡ number scale ∷ key (codes "value") ∷ number value ∷ end_object ∷ rest
+  pub scale_denoted : number_of scale ≡ Some (unsigned d.scale)
+  pub value_denoted : number_of value ≡ Some (unsigned d.value)
 
 abbrev pub IsClosing : ℕ → Token → Type 0
 IsClosing c t = ((c ≡ 125) × (t ≡ end_object)) ⊎ ((c ≡ 93) × (t ≡ end_array))

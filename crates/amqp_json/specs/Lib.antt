@@ -21,3 +21,4 @@ pub mod Puts
 pub mod Buffers
 pub mod Ascending
 pub mod Lexing
+pub mod Decimals

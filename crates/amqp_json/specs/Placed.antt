@@ -1,16 +1,40 @@
--- For private clauses: the pairs of a table with their places.
-use Rattle.std.specs.Prelude.{ℕ, ◌<◌, List, [], ◌∷◌}
-use Rattle.std.specs.Borrow.{Bor}
+-- For private clauses: the pairs of a table by their places, the offsets in its body at which they
+-- begin.
+use Rattle.std.specs.Prelude.{ℕ, ◌<◌, List, [], ◌∷◌, take, drop}
 use Rattle.std.specs.List.{AllByRecursion}
-use Rattle.amqp_in_place.specs.declared.refs.ValueRef.{ValueRef}
-use Rattle.amqp_json.specs.declared.sorted.PlacedPair.{PlacedPair}
+use Rattle.std.specs.declared.cmp.Ordering.{Ordering}
+use Rattle.std.specs.Ordering.{nat_cmp, ordering_then}
+use Rattle.std.specs.Cmp.Lexicographic.{slice_cmp}
+use Rattle.amqp_value_core.specs.Values.{Tree, Entries, no_entries, entry}
+use Rattle.amqp_value_core.specs.Grammar.{TableBody}
 
--- their keys and values
-abbrev pub steps_of : List PlacedPair → List (Bor (List ℕ) × ValueRef)
-steps_of [] = []
-steps_of (p ∷ ps) = (p.key, p.value) ∷ steps_of ps
+-- at the place begins a pair of this key and this value
+abbrev pub BeginsAt : List ℕ → ℕ → List ℕ → Tree → Type 0
+BeginsAt body place k v = (others : Entries) × TableBody (drop place body) (entry k v others)
 
--- the place of each is below those of all later ones
-abbrev pub InOrder : List PlacedPair → Type 0
+-- at the places begin pairs of these keys and values
+abbrev pub BeginAt : List ℕ → List ℕ → Entries → Type 0
+BeginAt body [] no_entries = Unit {0}
+BeginAt body (place ∷ places) (entry k v es) = BeginsAt body place k v × BeginAt body places es
+BeginAt _ _ _ = ⊥
+
+-- at each of the places begins a pair
+abbrev pub HasPairsAt : List ℕ → List ℕ → Type 0
+HasPairsAt body places = (es : Entries) × BeginAt body places es
+
+-- the key that the bytes begin with, after its length
+abbrev pub first_key : List ℕ → List ℕ
+first_key [] = []
+first_key (count ∷ named) = take count named
+
+abbrev pub key_at : List ℕ → ℕ → List ℕ
+key_at body place = first_key (drop place body)
+
+-- by key, and of equal keys the later place first
+abbrev pub latest_first : List ℕ → ℕ → ℕ → Ordering
+latest_first body x y = ordering_then (slice_cmp nat_cmp (key_at body x) (key_at body y)) (nat_cmp y x)
+
+-- each place is below all later ones
+abbrev pub InOrder : List ℕ → Type 0
 InOrder [] = Unit {0}
-InOrder (p ∷ ps) = AllByRecursion (λ (q : PlacedPair). p.place < q.place) ps × InOrder ps
+InOrder (place ∷ places) = AllByRecursion (λ (later : ℕ). place < later) places × InOrder places

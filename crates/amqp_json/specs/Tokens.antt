@@ -31,6 +31,10 @@ use Rattle.amqp_json.specs.declared.direct.forms.Object.TheVariants.{Table, Name
 abbrev pub Passes : {A : Type 0} → {E : Type 0} → Result (Unit {0}) E → Option (A × List Token) → List Token → Type 0
 Passes r read rest = MatchResult r (λ _. option_map (λ p. p.1) read ≡ Some rest) (λ _. read ≡ None)
 
+-- what is read at the start of some tokens ends where `rest` follows
+abbrev pub Ends : {A : Type 0} → Option (A × List Token) → List Token → Type 0
+Ends read rest = option_map (λ p. p.1) read ≡ Some rest
+
 -- d is the JSON of no value, and no string
 abbrev pub IsUnread : Data → Type 0
 IsUnread d = (value_of d ≡ None) × (as_str d ≡ None)
@@ -147,10 +151,15 @@ BecomesTable (Some k) ms = (d : Data) → IsTableObject (put k d ms)
 abbrev pub IsTableEnd : Parse Json → Members → List Token → FieldTable → List Token → Type 0
 IsTableEnd value old ts t rest = IsObjectOfMembers value old ts (members_json (table_view t)) rest × EntriesStored (table_view t) × IsTableObject (members_json (table_view t))
 
+-- an object that is no value has the members that it has with those at the start of ts after `old`, and
+-- no name of a type is the only key; `rest` follows
+abbrev pub IsNoTable : Parse Json → Members → List Token → List Token → Type 0
+IsNoTable value old ts rest = (ms : Members) × IsObjectOfMembers value old ts ms rest × IsTableObject ms × (entries_of ms ≡ None)
+
 abbrev pub IsTableError : JsonError → Parse Json → Members → List Token → List Token → Type 0
 IsTableError OutOfMemory value old ts rest = Unit {0}
 IsTableError (Syntax at) value old ts rest = EndsNowhere value old ts
-IsTableError (NotAValue at) value old ts rest = (ms : Members) × IsObjectOfMembers value old ts ms rest × IsTableObject ms × (entries_of ms ≡ None)
+IsTableError (NotAValue at) value old ts rest = IsNoTable value old ts rest
 
 abbrev pub IsTableRead : Result (Unit {0}) JsonError → FieldTable → Parse Json → Members → List Token → List Token → Type 0
 IsTableRead r t value old ts rest = MatchResult r (λ _. IsTableEnd value old ts t rest) (λ e. IsTableError e value old ts rest)

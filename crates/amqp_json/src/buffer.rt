@@ -118,7 +118,7 @@ fn write_whole_value(buffer: &mut [u8], value: ValueRef<'_>) -> Result<usize, Wr
 
 /// Writes the JSON text as `write_whole_json` does, also if the keys of a table don't ascend.
 ///
-/// Then memory for the text is allocated, and for such a table 48 bytes for each of its pairs;
+/// Then memory for the text is allocated, and for such a table 8 bytes for each of its pairs;
 /// `NeedsMemory` means that memory ran out. By measurements it uses stack for at most `limits.depth`
 /// levels; docs/PROMISES.md has what `amqpv_to_json` takes for one.
 pub fn write_sorted_json<'a>(

@@ -7,13 +7,12 @@ ghost use Rattle.amqp_value_core.specs.Texts.{text, body, pairs};
 ghost use Rattle.amqp_in_place.specs.Bodies.{HasEntries};
 ghost use Rattle.amqp_in_place.specs.Refs.{Denotes, array_body, table_body};
 ghost use Rattle.amqp_json.specs.Converts.{IsReadAs};
-ghost use Rattle.amqp_json.specs.Sorted.{AreAt};
-ghost use Rattle.amqp_json.specs.Placed.{steps_of};
+ghost use Rattle.amqp_json.specs.Sorted.{AreLeft};
 
 use crate::encoding::Stop;
 use crate::encoding::put::{fill_length, put_head, put_key, put_plain};
 use crate::keys::keys_rise;
-use crate::sorted::{PlacedPair, sorted_pairs};
+use crate::sorted::SortedPairs;
 use amqp_in_place::{ArrayRef, TableRef, ValueRef, read_in_place_unlimited};
 use std::alloc::Global;
 
@@ -127,8 +126,8 @@ fn put_entries(
     if keys_rise(table) {
         return put_pairs(alloc, out, table, depth);
     }
-    let pairs = sorted_pairs(alloc, table)?;
-    put_sorted(alloc, out, pairs.as_slice(), depth)
+    let sorted = SortedPairs::new(alloc, table)?;
+    put_sorted(alloc, out, sorted, depth)
 }
 
 #[cycle(canonical)]
@@ -154,15 +153,15 @@ fn put_pairs(
 fn put_sorted(
     alloc: Global,
     out: &mut Vec<u8>,
-    sorted: &[PlacedPair<'_>],
+    sorted: SortedPairs<'_>,
     depth: usize,
 ) -> Result<(), Stop>
-    ensures { OnOk result ((es : Entries) → AreAt (steps_of sorted.now) es
+    ensures { OnOk result ((es : Entries) → AreLeft sorted.entry es
         → out.new.items ≡ out.old.items ++ pairs es) }
 {
-    for pair in sorted {
-        put_key(out, pair.key)?;
-        put_value(alloc, out, pair.value, depth)?;
+    for (key, value) in sorted {
+        put_key(out, key)?;
+        put_value(alloc, out, value, depth)?;
     }
     Ok(())
 }

@@ -13,7 +13,7 @@ use std::alloc::Global;
 /// Converts the encoding at the start of the bytes to JSON text without spaces, and returns the
 /// remaining bytes too. The value is read as `read_in_place` does, and the text is written from it
 /// in place. Only the text is allocated, the digits of the bytes at hand that are written in
-/// hexadecimal, and, while a table whose keys don't ascend is written, 48 bytes for each of its
+/// hexadecimal, and, while a table whose keys don't ascend is written, 8 bytes for each of its
 /// pairs. By measurements it uses stack for at most `limits.depth` levels; docs/PROMISES.md has what
 /// one takes.
 #[tactic(auto, using(amq_protocol_types::proofs::ParsingLaws::found_all))]

@@ -18,10 +18,10 @@ ghost use Rattle.amqp_json.specs.declared.error.JsonError.TheVariants as json_er
 ghost use Rattle.amqp_json.specs.InMemory.{IsStored, AreStoredTrees, EntriesStored};
 
 mod entry;
-mod faults;
 mod forms;
 
 use crate::error::{JsonError, ValueError};
+use crate::faults::{least, mark, note};
 use crate::names::type_of_name;
 use crate::numerals::number;
 use crate::pass::{next_key, pass_end, pass_items};
@@ -29,7 +29,6 @@ use crate::reading::{long_long_int, long_text};
 use amqp_value_core::types::{AMQPType, FieldArray, FieldTable};
 use amqp_value_core::value::AMQPValue;
 use entry::place;
-use faults::{least, mark, note};
 use forms::{
     Object, Slots, clear_forms, no_forms, number_forms, object_forms, place_plain, plain_forms,
     set_empty, set_named, set_table, value_in,

@@ -2,7 +2,7 @@
 
 // The tactic at the function names the lemma that the value is read, whatever follows its encoding.
 
-ghost use Rattle.std.specs.Prelude.{◌≡◌, IfOk, IfErr, length};
+ghost use Rattle.std.specs.Prelude.{◌≡◌, IfOk, IfErr, IfSome, length};
 ghost use Rattle.amqp_value_core.specs.Values.{Tree};
 ghost use Rattle.amqp_value_core.specs.Texts.{text};
 ghost use Rattle.amqp_value_core.specs.View.{view};
@@ -26,10 +26,7 @@ const UNLIMITED: Limits = Limits {
 };
 
 /// Converts a JSON text to the canonical encoding of its value, which it reads as `from_json` does.
-/// The value is allocated only if the text isn't encoded as its tokens come: if it is rejected, has a
-/// value that is none before another one of its key, or under `DecimalValue` an object that begins
-/// with a scale and has not just a number after it, or the number first and more than 512 bytes as a
-/// table.
+/// The value is allocated only if an encoding of it would have 2^32 bytes or more.
 pub fn encoding_of_json(alloc: Global, json: &str) -> Result<Vec<u8>, EncodeError>
     ensures encoding { IfOk result (λ bytes. IsEncodingOf json.now bytes.items) }
     ensures only { IfOk result (λ bytes. (v : Tree) → IsStored v → JsonTextMeans json.now v
@@ -39,12 +36,10 @@ pub fn encoding_of_json(alloc: Global, json: &str) -> Result<Vec<u8>, EncodeErro
     ensures refused { IfErr result (IsRefused json.now) }
     ensures within { IfErr result (λ e. IsErrorWithin e (length json.now)) }
 {
-    match direct_encoding(alloc, json) {
-        Ok(bytes) => return Ok(bytes),
-        Err(Stop::OutOfMemory) => return Err(EncodeError::OutOfMemory),
-        Err(Stop::NotHere) => {}
+    if let Some(bytes) = direct_encoding(alloc, json)? {
+        return Ok(bytes);
     }
-    // Most texts that are rejected are no JSON: then no value is made.
+    // Most texts that aren't encoded so are no JSON: then no value is made.
     check_syntax(alloc, json)?;
     let value = from_json(alloc, json)?;
     encoding_of(alloc, &value)
@@ -52,19 +47,26 @@ pub fn encoding_of_json(alloc: Global, json: &str) -> Result<Vec<u8>, EncodeErro
 
 // The canonical encoding without the value in memory, if the text is encoded so.
 #[inline(never)]
-fn direct_encoding(alloc: Global, json: &str) -> Result<Vec<u8>, Stop>
-    ensures encoding { IfOk result (λ bytes. IsEncodingOf json.now bytes.items) }
-    ensures only { IfOk result (λ bytes. (v : Tree) → IsStored v → JsonTextMeans json.now v
-        → bytes.items ≡ text v) }
-    ensures read_back { IfOk result (λ bytes. (v : Tree) → IsStored v → JsonTextMeans json.now v
-        → IsReadAs bytes.items v) }
+fn direct_encoding(alloc: Global, json: &str) -> Result<Option<Vec<u8>>, EncodeError>
+    ensures encoding { IfOk result (λ found. IfSome found (λ bytes. IsEncodingOf json.now bytes.items)) }
+    ensures only { IfOk result (λ found. IfSome found (λ bytes. (v : Tree) → IsStored v
+        → JsonTextMeans json.now v → bytes.items ≡ text v)) }
+    ensures read_back { IfOk result (λ found. IfSome found (λ bytes. (v : Tree) → IsStored v
+        → JsonTextMeans json.now v → IsReadAs bytes.items v)) }
+    ensures refused { IfErr result (IsRefused json.now) }
+    ensures within { IfErr result (λ e. IsErrorWithin e (length json.now)) }
 {
-    let bytes = encoding_of_text(alloc, json)?;
+    let Some(bytes) = encoding_of_text(alloc, json)? else {
+        return Ok(None);
+    };
     if is_canonical(bytes.as_slice(), UNLIMITED) {
-        return Ok(bytes);
+        return Ok(Some(bytes));
     }
-    let canonical = canonical_of(alloc, bytes.as_slice())?;
-    Ok(canonical)
+    match canonical_of(alloc, bytes.as_slice()) {
+        Ok(canonical) => Ok(Some(canonical)),
+        Err(Stop::OutOfMemory) => Err(EncodeError::OutOfMemory),
+        Err(Stop::NotHere | Stop::NotAValue | Stop::NoEncoding) => Ok(None),
+    }
 }
 
 // The canonical encoding of a value, if it has one that is read as it.

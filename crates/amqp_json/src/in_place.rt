@@ -10,12 +10,11 @@ ghost use Rattle.amqp_in_place.specs.Bodies.{HasEntries};
 ghost use Rattle.amqp_in_place.specs.Refs.{Denotes, array_body, table_body};
 ghost use Rattle.amqp_json.specs.Json.{json, members_json};
 ghost use Rattle.amqp_json.specs.Adds.{Adds};
-ghost use Rattle.amqp_json.specs.Sorted.{AreAt};
-ghost use Rattle.amqp_json.specs.Placed.{steps_of};
+ghost use Rattle.amqp_json.specs.Sorted.{AreLeft};
 
 use crate::keys::{keys_rise, needs_type_name};
 use crate::owned::write_owned;
-use crate::sorted::{PlacedPair, pairs_need_type_name, sorted_pairs};
+use crate::sorted::SortedPairs;
 use crate::tokens::{begin_named, decimal, digits, integer, long_string, natural};
 use amqp_in_place::{ArrayRef, TableRef, ValueRef};
 use amqp_value_core::types::AMQPType;
@@ -116,9 +115,8 @@ fn write_unordered(
     ensures ok { OnOk result ((es : Entries) → HasEntries (table_body table.entry) es → Adds (json (table_tree es)) out.old.tokens out.new.tokens) }
     ensures before { out.new.before ≡ out.old.before }
 {
-    let pairs = sorted_pairs(alloc, table)?;
-    let sorted = pairs.as_slice();
-    if pairs_need_type_name(sorted) {
+    let sorted = SortedPairs::new(alloc, table)?;
+    if sorted.need_type_name() {
         begin_named(out)?;
         out.begin_object()?;
         write_sorted(alloc, out, sorted, depth)?;
@@ -134,16 +132,16 @@ fn write_unordered(
 fn write_sorted(
     alloc: Global,
     out: &mut Writer,
-    sorted: &[PlacedPair<'_>],
+    sorted: SortedPairs<'_>,
     depth: usize,
 ) -> Result<(), AllocError>
-    ensures ok { OnOk result ((es : Entries) → AreAt (steps_of sorted.now) es
+    ensures ok { OnOk result ((es : Entries) → AreLeft sorted.entry es
         → out.new.tokens ≡ out.old.tokens ++ members_tokens (members_outline (members_json es))) }
     ensures before { out.new.before ≡ out.old.before }
 {
-    for pair in sorted {
-        out.key(pair.key)?;
-        write_value(alloc, out, pair.value, depth)?;
+    for (key, value) in sorted {
+        out.key(key)?;
+        write_value(alloc, out, value, depth)?;
     }
     out.end_object()
 }

@@ -11,6 +11,7 @@ mod direct;
 mod encode;
 mod encoding;
 mod error;
+mod faults;
 mod in_place;
 mod keys;
 pub mod laws;

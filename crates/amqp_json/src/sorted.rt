@@ -1,66 +1,183 @@
 //! The pairs of a table in the order of their keys, for keys that don't ascend.
 
-ghost use Rattle.std.specs.Prelude.{◌≡◌, ◌≤◌, length, is_some, IfOk};
+ghost use Rattle.std.specs.Prelude.{◌≡◌, ◌≤◌, is_some, length, take, drop, IfSome, IfOk};
+ghost use Rattle.std.specs.Int.{w32, w64, from_be_bytes};
+ghost use Rattle.std.specs.Ordering.{nat_cmp};
+ghost use Rattle.std.specs.Cmp.Lexicographic.{slice_cmp};
+ghost use Rattle.amqp_value_core.specs.Inputs.{IsBytes};
 ghost use Rattle.amqp_value_core.specs.Values.{Entries, no_entries, insert_all};
 ghost use Rattle.amqp_value_core.specs.Grammar.{TableBody};
 ghost use Rattle.amqp_in_place.specs.Refs.{table_body};
 ghost use Rattle.amqp_json.specs.Json.{members_json, sole_type};
-ghost use Rattle.amqp_json.specs.Sorted.{AreAt, above_bodies};
-ghost use Rattle.amqp_json.specs.Placed.{steps_of, InOrder};
+ghost use Rattle.amqp_json.specs.Placed.{BeginAt, HasPairsAt, InOrder, key_at, latest_first};
 
 use crate::names::type_of_name;
 use amqp_in_place::{TableRef, ValueRef};
 use std::alloc::{AllocError, Global};
-use std::cmp::Reverse;
+use std::cmp::Ordering;
 
-/// A pair of a table, and how many pairs are before it there.
-#[derive(Clone, Copy)]
-pub(crate) struct PlacedPair<'a> {
-    pub(crate) key: &'a str,
-    pub(crate) value: ValueRef<'a>,
-    place: usize,
+/// An iterator over the pairs of a table in the order of their keys: of equal keys over the last.
+#[derive(Drop)]
+pub(crate) struct SortedPairs<'a> {
+    table: TableRef<'a>,
+    places: Vec<usize>,
+    given: usize,
+    ghost begin: { ∥ HasPairsAt (table_body table) (drop given places.items) ∥₁ },
 }
 
-/// The pairs in the order of their keys: of equal keys the last.
+impl<'a> SortedPairs<'a> {
+    ghost use Rattle.amqp_json.specs.Sorted.{AreLeft};
+
+    /// The pairs of the table.
+    pub(crate) fn new(alloc: Global, table: TableRef<'a>) -> Result<SortedPairs<'a>, AllocError>
+        ensures entries { IfOk result (λ pairs. (ps : Entries) → TableBody (table_body table.entry) ps
+            → AreLeft pairs (insert_all no_entries ps)) }
+        ensures table { IfOk result (λ pairs. pairs.table ≡ table.entry) }
+    {
+        let places = sorted_places(alloc, table)?;
+        Ok(SortedPairs {
+            table,
+            places,
+            given: 0,
+        })
+    }
+
+    /// Whether the JSON of the pairs would be taken for a value of another type.
+    #[inline(never)]
+    pub(crate) fn need_type_name(&self) -> bool
+        ensures { (es : Entries) → AreLeft self.now es
+            → result ≡ is_some (sole_type (members_json es)) }
+    {
+        let [place] = self.places_left() else {
+            return false;
+        };
+        match self.table.iter_from(*place).next() {
+            Some((key, _)) => type_of_name(key).is_some(),
+            None => false,
+        }
+    }
+
+    #[inline(always)]
+    fn places_left(&self) -> &[usize]
+        ensures { result.now ≡ drop self.now.given self.now.places.items }
+    {
+        self.places.get(self.given..).unwrap_or_default()
+    }
+}
+
+impl<'a> Iterator for SortedPairs<'a> {
+    ghost use Rattle.std.specs.Prelude.{◌<◌, ◌-◌};
+    ghost use Rattle.std.specs.Iterator.{at_most};
+    ghost use Rattle.amqp_json.specs.Sorted.{AreLeft, SortedStep, body_len};
+
+    type Item = (&'a str, ValueRef<'a>);
+
+    ghost next_gives = { λ s r t.
+        ((es : Entries) → AreLeft s es → SortedStep es r t)
+        × IfSome r (λ x. body_len x.1 < length (table_body s.table))
+        × (t.table ≡ s.table) };
+
+    ghost remaining = { λ s. at_most (length s.places.items - s.given) };
+
+    fn next(&mut self) -> Option<(&'a str, ValueRef<'a>)> {
+        let place = *self.places.get(self.given)?;
+        self.given += 1;
+        self.table.iter_from(place).next()
+    }
+}
+
+// The places of the pairs in the order of their keys: of equal keys that of the last pair.
 // Not inlined, so that what it holds is off the stack while the values are written.
 #[inline(never)]
-pub(crate) fn sorted_pairs<'a>(
-    alloc: Global,
-    table: TableRef<'a>,
-) -> Result<Vec<PlacedPair<'a>>, AllocError>
-    ensures entries { IfOk result (λ pairs. (ps : Entries) → TableBody (table_body table.entry) ps
-        → AreAt (steps_of pairs.items) (insert_all no_entries ps)) }
-    ensures bodies { IfOk result (λ pairs. above_bodies (steps_of pairs.items) ≤ length (table_body table.entry)) }
+fn sorted_places(alloc: Global, table: TableRef<'_>) -> Result<Vec<usize>, AllocError>
+    ensures { IfOk result (λ places. (ps : Entries) → TableBody (table_body table.entry) ps
+        → BeginAt (table_body table.entry) places.items (insert_all no_entries ps)) }
 {
-    let mut pairs = placed_pairs(alloc, table)?;
-    pairs.sort_unstable_by_key(|pair| (pair.key, Reverse(pair.place)));
-    pairs.dedup_by_key(|pair| pair.key);
-    Ok(pairs)
+    let body = table.as_bytes();
+    let mut places = pair_places(alloc, table)?;
+    places.sort_unstable_by(|a, b| latest_first(body, *a, *b));
+    places.dedup_by(|a, b| key_at(body, *a) == key_at(body, *b));
+    Ok(places)
 }
 
-// The pairs as they are written. Memory is asked for once.
-fn placed_pairs<'a>(alloc: Global, table: TableRef<'a>) -> Result<Vec<PlacedPair<'a>>, AllocError>
-    ensures pairs { IfOk result (λ pairs. (ps : Entries) → TableBody (table_body table.entry) ps
-        → AreAt (steps_of pairs.items) ps) }
-    ensures order { IfOk result (λ pairs. InOrder pairs.items) }
-    ensures bodies { IfOk result (λ pairs. above_bodies (steps_of pairs.items) ≤ length (table_body table.entry)) }
+// The offsets in the table's bytes at which its pairs begin. Memory is asked for once.
+fn pair_places(alloc: Global, table: TableRef<'_>) -> Result<Vec<usize>, AllocError>
+    ensures pairs { IfOk result (λ places. (ps : Entries) → TableBody (table_body table.entry) ps
+        → BeginAt (table_body table.entry) places.items ps) }
+    ensures order { IfOk result (λ places. InOrder places.items) }
 {
-    let mut pairs = Vec::with_capacity(alloc, table.iter().count())?;
-    for (key, value) in table.iter() {
-        let place = pairs.len();
-        pairs.push(PlacedPair { key, value, place })?;
+    let len = table.as_bytes().len();
+    let mut places = Vec::with_capacity(alloc, table.iter().count())?;
+    let mut pairs = table.iter();
+    let mut place = 0;
+    'pairs: while pairs.next().is_some() {
+        places.push(place)?;
+        place = len - pairs.as_bytes().len();
     }
-    Ok(pairs)
+    Ok(places)
 }
 
-/// Whether the JSON of the pairs would be taken for a value of another type.
-#[inline(never)]
-pub(crate) fn pairs_need_type_name(pairs: &[PlacedPair<'_>]) -> bool
-    ensures { (es : Entries) → AreAt (steps_of pairs.now) es
-        → result ≡ is_some (sole_type (members_json es)) }
+// By key, and of equal keys the later pair first.
+#[inline(always)]
+fn latest_first(body: &[u8], a: usize, b: usize) -> Ordering
+    ensures { result ≡ latest_first body.now a b }
 {
-    match pairs {
-        [pair] => type_of_name(pair.key).is_some(),
-        _ => false,
+    order_of_keys(key_at(body, a), key_at(body, b)).then(b.cmp(&a))
+}
+
+// By their bytes: mostly the first eight tell, as numbers.
+#[inline(always)]
+fn order_of_keys(a: &[u8], b: &[u8]) -> Ordering
+    ensures { result ≡ slice_cmp nat_cmp a.now b.now }
+{
+    match (front_of(a), front_of(b)) {
+        (Some(x), Some(y)) if x != y => x.cmp(&y),
+        _ => order_of_short_keys(a, b),
+    }
+}
+
+// By their bytes: mostly the first four tell.
+#[inline(always)]
+fn order_of_short_keys(a: &[u8], b: &[u8]) -> Ordering
+    ensures { result ≡ slice_cmp nat_cmp a.now b.now }
+{
+    match (short_front_of(a), short_front_of(b)) {
+        (Some(x), Some(y)) if x != y => x.cmp(&y),
+        _ => a.cmp(b),
+    }
+}
+
+// The first eight bytes of a key as a number, if it has as many.
+#[inline(always)]
+fn front_of(key: &[u8]) -> Option<u64>
+    ensures number { IfSome result (λ n. (8 ≤ length key.now) × (n ≡ from_be_bytes w64 (take 8 key.now))) }
+    ensures bytes { IfSome result (λ _. IsBytes (take 8 key.now)) }
+{
+    match key.first_chunk::<8>() {
+        Some(front) => Some(u64::from_be_bytes(*front)),
+        None => None,
+    }
+}
+
+// The first four.
+#[inline(always)]
+fn short_front_of(key: &[u8]) -> Option<u32>
+    ensures number { IfSome result (λ n. (4 ≤ length key.now) × (n ≡ from_be_bytes w32 (take 4 key.now))) }
+    ensures bytes { IfSome result (λ _. IsBytes (take 4 key.now)) }
+{
+    match key.first_chunk::<4>() {
+        Some(front) => Some(u32::from_be_bytes(*front)),
+        None => None,
+    }
+}
+
+// The key of the pair at a place, by its length only.
+#[inline(always)]
+fn key_at(body: &[u8], place: usize) -> &[u8]
+    ensures { result.now ≡ key_at body.now place }
+{
+    match body.get(place..).unwrap_or_default() {
+        [count, named @ ..] => named.get(..usize::from(*count)).unwrap_or(named),
+        [] => &[],
     }
 }

@@ -1,7 +1,7 @@
 //! JSON texts to bytes: those of the value that is read from each.
 
 use amq_protocol_types::generation::{WriteContext, gen_value};
-use amqp_json::{encoding_of_json, from_json};
+use amqp_json::{EncodeError, encoding_of_json, from_json};
 use std::alloc::Global;
 use std::test::Fail;
 
@@ -229,4 +229,72 @@ fn other_texts_have_no_encoding(rt: HostRuntime) {
         "{\"DecimalValue\":{}}",
     ];
     assert!(rt; have_none(rt.alloc(), &texts));
+}
+
+// whether a text is refused by both, for the same reason and at the same byte
+fn is_refused_alike(alloc: Global, text: &str) -> bool {
+    let Err(expected) = from_json(alloc, text) else {
+        return false;
+    };
+    match encoding_of_json(alloc, text) {
+        Err(EncodeError::Json(e)) => e == expected,
+        _ => false,
+    }
+}
+
+#[test]
+fn refusals_are_those_of_from_json(rt: HostRuntime) -> Result<(), Fail> {
+    let texts = [
+        "1.5",
+        " [1, 2.5, {\"a\": 3.5}]",
+        "[9223372036854775808,[1e3]]",
+        "{\"b\":[1,{\"c\":1.5}],\"a\":1.5}",
+        "{\"b\":1,\"a\":1.5,\"c\":2.5,\"a\":2}",
+        "{\"\\u0041\":1, \"b\" : 1.5}",
+        "[\"\\n\", 1.5]",
+        "{\"LongUInt\":-1}",
+        "{\"LongUInt\": 1.5 }",
+        "{\"LongUInt\":[1, 2]}",
+        "{\"LongUInt\":[1, 2.5]}",
+        "{\"LongUInt\": 1.5,\"a\":1}",
+        "{\"LongUInt\":[1, 2.5],\"a\":1.5}",
+        "{\"LongUInt\": true,\"LongUInt\": \"a\"}",
+        "{\"FieldTable\": {\"LongUInt\": 1.5}}",
+        "{\"FieldTable\": {\"LongUInt\": 1.5}, \"a\":1}",
+        "{\"FieldTable\": {\"FieldTable\": {\"FieldTable\": {\"a\": 1}}}}",
+        "{\"FieldTable\": {\"FieldTable\": {\"a\": 1.5}}}",
+        "{\"FieldTable\": {\"a\": 1}}",
+        "{\"FieldTable\": 1}",
+        "{\"DecimalValue\": {\"scale\":1,\"value\":-1}}",
+        "{\"DecimalValue\": {\"scale\":1,\"value\":1.5}}",
+        "{\"Float\":\"0\"}",
+        "[{\"ShortString\":\"\"}, 1.5]",
+        "{\"a\":{\"ShortString\":\"\"},\"b\": 1.5}",
+        "{\"LongInt\": {\"ShortString\":\"\"}}",
+        "[1.5 2]",
+        "{\"a\":1.5,}",
+        "[1.5",
+    ];
+    for text in texts {
+        if !is_refused_alike(rt.alloc(), text) {
+            panic!(rt; "{text}");
+        }
+    }
+    Ok(())
+}
+
+#[test]
+fn a_last_value_counts(rt: HostRuntime) -> Result<(), Fail> {
+    let texts = [
+        "{\"a\":1.5,\"a\":1}",
+        "[{\"b\":[1.5,2],\"a\":1,\"b\":{},\"a\":[2]}]",
+        "{\"LongUInt\":1.5,\"LongUInt\":1}",
+        "{\"LongUInt\":1.5,\"a\":2,\"LongUInt\":1}",
+        "{\"LongUInt\":[1.5],\"a\":2.5,\"LongUInt\":1,\"a\":null}",
+        "{\"a\":{\"ShortString\":\"x\"},\"a\":1}",
+        "{\"LongUInt\":[{\"ShortString\":\"\"}],\"LongUInt\":1}",
+        "{\"LongUInt\":{\"ShortString\":\"\"},\"a\":2,\"LongUInt\":1}",
+    ];
+    assert!(rt; are_encoded(rt.alloc(), &texts)?);
+    Ok(())
 }

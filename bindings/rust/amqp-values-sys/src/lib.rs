@@ -606,10 +606,11 @@ extern "C" {
     ///
     /// The most bytes of memory that they hold at once, also while realloc has its old block and the new one, by what
     /// amqpv_measure_value counts: amqpv_canonical 145 for each byte, or 4 for each byte and 860 for each value;
-    /// amqpv_to_json 28 for each byte, and none if the keys of each table ascend; amqpv_from_json and
-    /// amqpv_from_json_or_problem 14 for each byte of the text, and 173 of one of which they make a tree;
-    /// amqpv_first_warnings and amqpv_first_warnings_in_table 50 for each byte, or 39 for each value and 248 for each
-    /// level. What isn't read takes no more than these for each byte. An allocator adds some for each block.
+    /// amqpv_to_json 12 for each byte, and none if the keys of each table ascend; amqpv_from_json and
+    /// amqpv_from_json_or_problem 12 for each byte of the text and 59,000 more, but 173 for each byte if the encoding
+    /// would have 2^32 bytes or more; amqpv_first_warnings and amqpv_first_warnings_in_table 50 for each byte, or 39
+    /// for each value and 248 for each level. What isn't read takes no more than is stated by bytes alone. An allocator
+    /// adds some for each block.
     ///
     /// They never return AMQPV_INVALID. The buffer after the bytes that are written stays unchanged.
     ///
@@ -639,7 +640,7 @@ extern "C" {
     /// `count` becomes how many bytes were written (AMQPV_OK), how many more the field that is being read needs
     /// (AMQPV_MORE), or which capacity is needed (AMQPV_NO_ROOM), else 0. Also returns AMQPV_UNKNOWN_TAG,
     /// AMQPV_MALFORMED, AMQPV_TOO_LARGE or AMQPV_NO_MEMORY. It writes to the buffer without allocating, unless the keys
-    /// of a table don't ascend by their bytes, each once: then it allocates room for the text, and for such a table 48
+    /// of a table don't ascend by their bytes, each once: then it allocates room for the text, and for such a table 8
     /// bytes for each of its pairs. A text of more than 4,096 bytes is found twice, first to learn whether it fits.
     pub fn amqpv_to_json(
         bytes: *const u8,
@@ -662,9 +663,8 @@ extern "C" {
     /// `count` becomes how many bytes were written (AMQPV_OK), or which capacity is needed (AMQPV_NO_ROOM), else 0.
     /// Also returns AMQPV_NOT_JSON, AMQPV_NO_MEMORY, or AMQPV_NO_ENCODING if the value contains a ShortString, which
     /// has no type tag, or if a length is too large for its field. It allocates the encoding, and where a table's keys
-    /// don't ascend another and 48 bytes for each of its pairs. It allocates a tree too of JSON that is rejected, of a
-    /// text in which a key comes twice and the value that doesn't count is none, and of one with an object under
-    /// DecimalValue that has a key twice, or another key.
+    /// don't ascend another and 8 bytes for each of its pairs. If the encoding would have 2^32 bytes or more, it
+    /// allocates a tree.
     pub fn amqpv_from_json(
         text: *const u8,
         length: usize,

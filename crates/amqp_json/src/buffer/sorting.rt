@@ -8,15 +8,14 @@ ghost use Rattle.amqp_in_place.specs.Bodies.{HasEntries};
 ghost use Rattle.amqp_in_place.specs.Refs.{Denotes, array_body, table_body};
 ghost use Rattle.amqp_json.specs.Json.{json, members_json};
 ghost use Rattle.amqp_json.specs.Puts.{PutsJson};
-ghost use Rattle.amqp_json.specs.Sorted.{AreAt};
-ghost use Rattle.amqp_json.specs.Placed.{steps_of};
+ghost use Rattle.amqp_json.specs.Sorted.{AreLeft};
 
 use super::leaves::put_leaf;
 use super::opening::begin;
 use super::place::Place;
 use super::printing::put_token;
 use crate::keys::{keys_rise, needs_type_name};
-use crate::sorted::{PlacedPair, pairs_need_type_name, sorted_pairs};
+use crate::sorted::SortedPairs;
 use amqp_in_place::{ArrayRef, TableRef, ValueRef};
 use amqp_value_core::types::AMQPType;
 use json::Token;
@@ -114,9 +113,8 @@ fn put_unordered(
     ensures { IfOk result (λ end. (es : Entries) → HasEntries (table_body table.entry) es
         → PutsJson buffer.old place buffer.new end (json (table_tree es))) }
 {
-    let pairs = sorted_pairs(alloc, table)?;
-    let sorted = pairs.as_slice();
-    if pairs_need_type_name(sorted) {
+    let sorted = SortedPairs::new(alloc, table)?;
+    if sorted.need_type_name() {
         let inner = begin(buffer, place, AMQPType::FieldTable);
         let end = put_sorted(alloc, buffer, inner, sorted)?;
         return Ok(put_token(buffer, end, Token::EndObject));
@@ -130,15 +128,15 @@ fn put_sorted(
     alloc: Global,
     buffer: &mut [u8],
     place: Place,
-    sorted: &[PlacedPair<'_>],
+    sorted: SortedPairs<'_>,
 ) -> Result<Place, AllocError>
-    ensures { IfOk result (λ end. (es : Entries) → AreAt (steps_of sorted.now) es
+    ensures { IfOk result (λ end. (es : Entries) → AreLeft sorted.entry es
         → PutsJson buffer.old place buffer.new end (object (members_json es))) }
 {
     let mut end = put_token(buffer, place, Token::BeginObject);
-    for pair in sorted {
-        let keyed = put_token(buffer, end, Token::Key(pair.key));
-        end = put_value(alloc, buffer, keyed, pair.value)?;
+    for (key, value) in sorted {
+        let keyed = put_token(buffer, end, Token::Key(key));
+        end = put_value(alloc, buffer, keyed, value)?;
     }
     Ok(put_token(buffer, end, Token::EndObject))
 }

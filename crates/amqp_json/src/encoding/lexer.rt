@@ -1,7 +1,7 @@
-//! The tokens of a text: from its bytes up to the first string with an escape, and from there by
-//! `json::Reader`. What isn't JSON, or no integer, is left to those who read the text again.
+//! The tokens of a text: from its bytes up to the first string with an escape, number with a fraction
+//! or an exponent, or what is no JSON, and from there by `json::Reader`.
 
-ghost use Rattle.std.specs.Prelude.{◌≡◌, ◌≢◌, cond, pos, neg_ℤ, FitsSigned, ◌≤◌, ◌<◌, ◌+◌, ◌-◌, ◌||◌, ◌∷◌, [], length, take, drop, true, false, Some, None, IfOk, OnOk, IfSome, MatchOption, option_map};
+ghost use Rattle.std.specs.Prelude.{◌≡◌, ◌≢◌, cond, pos, neg_ℤ, FitsSigned, ◌≤◌, ◌<◌, ◌+◌, ◌-◌, ◌||◌, ◌∷◌, [], length, take, drop, true, false, Some, None, IfOk, IfErr, OnOk, IfSome, MatchOption, option_map};
 ghost use Rattle.std.specs.Bool.{OnTrue};
 ghost use Rattle.std.specs.List.{prefix_len};
 ghost use Rattle.std.specs.Char.{is_ascii_digit};
@@ -12,10 +12,12 @@ ghost use Rattle.json.specs.Token.{Token as SpecToken, string, key, begin_object
 ghost use Rattle.json.specs.Lex.{token, between, lex, after_value, punctuate, tokens};
 ghost use Rattle.json.specs.Json.{read_key, after_end_array};
 ghost use Rattle.json.specs.Reads.{token_of};
-ghost use Rattle.amqp_json.specs.Lexing.{tokens_left, IsVisible, BeginsWith, IsClosing, IsOpening, IsNamed, BeginsWithInteger, IsLastInteger};
+ghost use Rattle.amqp_json.specs.Encodes.{OnNotAValue};
+ghost use Rattle.amqp_json.specs.Lexing.{tokens_left, IsVisible, BeginsWith, IsClosing, IsOpening, IsNamed, BeginsWithInteger, IsLastInteger, IsIntegerNext, AreDecimalFields};
 
 use super::Stop;
 use crate::buffer::plain::plain_end;
+use amqp_value_core::types::DecimalValue;
 use json::{Reader, Scratch, Token};
 use std::marker::Model;
 
@@ -42,10 +44,12 @@ struct Next {
 pub(crate) struct Lexer<'a> {
     text: &'a str,
     next: Next,
-    // It goes on from the first string with an escape.
+    // It goes on from the first token that isn't read from the bytes.
     reader: Option<Reader<'a>>,
     // What that needs, until it is there.
     scratch: Option<&'a mut Scratch>,
+    // Not in the errors, so that results are small.
+    fault: usize,
 }
 
 impl<'a> Model for Lexer<'a> {
@@ -279,6 +283,36 @@ fn signed(is_negative: bool, size: u64) -> Option<i64>
     Some(-n)
 }
 
+// An integer, where a value may begin.
+#[inline(always)]
+fn integer_next(text: &str, next: &mut Next) -> Option<i64>
+    ensures { IfSome result (λ n. IsIntegerNext n (tokens_left next.old.place (drop next.old.at text.now))
+        (tokens_left next.new.place (drop next.new.at text.now))) }
+{
+    if let Place::AfterValue = next.place {
+        return None;
+    }
+    integer(text, next)
+}
+
+// What is after the key of a decimal's scale, if it is exactly what a decimal has.
+#[inline(never)]
+fn decimal_fields(text: &str, next: &mut Next) -> Option<DecimalValue>
+    ensures { IfSome result (λ d. AreDecimalFields d (tokens_left next.old.place (drop next.old.at text.now))
+        (tokens_left next.new.place (drop next.new.at text.now))) }
+{
+    let scale = u8::try_from(integer_next(text, next)?).ok()?;
+    if key(text, next)? != "value" {
+        return None;
+    }
+    let value = u32::try_from(integer_next(text, next)?).ok()?;
+    if byte_at(text.as_bytes(), next.at) != b'}' {
+        return None;
+    }
+    close(text, next, Token::EndObject)?;
+    Some(DecimalValue { scale, value })
+}
+
 // Whether the text has a name here, and nothing of a longer one.
 #[inline(always)]
 fn has_name(bytes: &[u8], at: usize, name: &[u8]) -> bool
@@ -365,15 +399,26 @@ fn token_at<'a>(text: &'a str, next: &mut Next) -> Option<Token<'a>>
     }
 }
 
-// The reader of the text from a string on.
+// Whether the tokens are those of a text that begins here. After a comma that is said only of what may
+// be left to the reader.
+#[inline(always)]
+fn begins_text(text: &str, from: Next) -> bool
+    ensures { result ≡ true → tokens_left from.place (drop from.at text.now) ≡ tokens (drop from.at text.now) }
+{
+    match from.place {
+        Place::Fresh => true,
+        Place::AfterValue => false,
+        Place::AfterComma => matches!(byte_at(text.as_bytes(), from.at), b'"' | b'-'..=b'9'),
+    }
+}
+
+// The reader of the text from here on.
 #[inline(always)]
 fn reader_from<'a>(text: &'a str, from: Next, scratch: &'a mut Scratch) -> Result<Reader<'a>, Stop>
-    ensures { IfOk result (λ reader. reader ≡ tokens_left from.place (drop from.at text.now)) }
+    ensures ok { IfOk result (λ reader. reader ≡ tokens_left from.place (drop from.at text.now)) }
+    ensures refused { IfErr result (λ e. OnNotAValue e ⊥) }
 {
-    if let Place::AfterValue = from.place {
-        return Err(Stop::NotHere);
-    }
-    if byte_at(text.as_bytes(), from.at) != b'"' {
+    if !begins_text(text, from) {
         return Err(Stop::NotHere);
     }
     let left = text.get(from.at..text.len()).ok_or(Stop::NotHere)?;
@@ -391,7 +436,7 @@ fn is_end(text: &str, from: Next) -> bool
 }
 
 impl<'a> Lexer<'a> {
-    /// The text's tokens. Nothing is put into `scratch` unless a string has an escape.
+    /// The text's tokens. `scratch` is for those that `json::Reader` reads.
     #[inline(always)]
     pub(crate) fn new(text: &'a str, scratch: &'a mut Scratch) -> Lexer<'a>
         ensures { result ≡ tokens text.now }
@@ -404,13 +449,39 @@ impl<'a> Lexer<'a> {
             },
             reader: None,
             scratch: Some(scratch),
+            fault: 0,
         }
+    }
+
+    /// The byte at which the next token begins.
+    #[inline(always)]
+    pub(crate) fn offset(&self) -> usize {
+        match &self.reader {
+            None => self.next.at,
+            // The text goes on by the reader from there.
+            Some(reader) => self.next.at.saturating_add(reader.offset()),
+        }
+    }
+
+    /// The byte at which that begins which is no value.
+    #[inline(always)]
+    pub(crate) fn fault(&self) -> usize {
+        self.fault
+    }
+
+    /// Notes the byte at which that begins which is no value.
+    #[inline(always)]
+    pub(crate) fn set_fault(&mut self, at: usize)
+        ensures { self.new ≡ self.old }
+    {
+        self.fault = at;
     }
 
     /// The next token.
     #[inline(always)]
     pub(crate) fn next(&mut self) -> Result<Token<'a>, Stop>
-        ensures { IfOk result (λ t. self.old ≡ token_of t ∷ self.new) }
+        ensures ok { IfOk result (λ t. self.old ≡ token_of t ∷ self.new) }
+        ensures refused { IfErr result (λ e. OnNotAValue e ⊥) }
     {
         if self.reader.is_none()
             && let Some(token) = token_at(self.text, &mut self.next)
@@ -420,10 +491,11 @@ impl<'a> Lexer<'a> {
         self.next_by_reader()
     }
 
-    // The next token by the reader, which goes on from here if it is a string.
+    // The next token by the reader, which goes on from here.
     #[inline(never)]
     fn next_by_reader(&mut self) -> Result<Token<'a>, Stop>
-        ensures { IfOk result (λ t. self.old ≡ token_of t ∷ self.new) }
+        ensures ok { IfOk result (λ t. self.old ≡ token_of t ∷ self.new) }
+        ensures refused { IfErr result (λ e. OnNotAValue e ⊥) }
     {
         if self.reader.is_none() {
             let scratch = self.scratch.take().ok_or(Stop::NotHere)?;
@@ -438,9 +510,10 @@ impl<'a> Lexer<'a> {
     /// The next token of an array's items, or none at its end.
     #[inline(always)]
     pub(crate) fn next_item(&mut self) -> Result<Option<Token<'a>>, Stop>
-        ensures { IfOk result (λ item. MatchOption item
+        ensures ok { IfOk result (λ item. MatchOption item
             (after_end_array self.old ≡ Some self.new)
             (λ t. (self.old ≡ token_of t ∷ self.new) × (after_end_array self.old ≡ None))) }
+        ensures refused { IfErr result (λ e. OnNotAValue e ⊥) }
     {
         let token = self.next()?;
         match token {
@@ -452,7 +525,8 @@ impl<'a> Lexer<'a> {
     /// The next key, or none at the object's end.
     #[inline(always)]
     pub(crate) fn next_key(&mut self) -> Result<Option<&'a str>, Stop>
-        ensures { IfOk result (λ k. read_key self.old ≡ Some (option_map (λ s. s.now) k, self.new)) }
+        ensures ok { IfOk result (λ k. read_key self.old ≡ Some (option_map (λ s. s.now) k, self.new)) }
+        ensures refused { IfErr result (λ e. OnNotAValue e ⊥) }
     {
         if self.reader.is_none()
             && let Some(key) = key(self.text, &mut self.next)
@@ -465,7 +539,8 @@ impl<'a> Lexer<'a> {
     // The key that a token is, or none if it is the object's end.
     #[inline(never)]
     fn key_of_token(&mut self) -> Result<Option<&'a str>, Stop>
-        ensures { IfOk result (λ k. read_key self.old ≡ Some (option_map (λ s. s.now) k, self.new)) }
+        ensures ok { IfOk result (λ k. read_key self.old ≡ Some (option_map (λ s. s.now) k, self.new)) }
+        ensures refused { IfErr result (λ e. OnNotAValue e ⊥) }
     {
         match self.next()? {
             Token::Key(key) => Ok(Some(key)),
@@ -515,10 +590,27 @@ impl<'a> Lexer<'a> {
         Some(n)
     }
 
+    /// What is after the key of a decimal's scale: this, the key of its number, this, and the end of
+    /// their object. Nothing is taken if what is next is something else, or isn't read from the
+    /// bytes.
+    #[inline(always)]
+    pub(crate) fn decimal_fields(&mut self) -> Option<DecimalValue>
+        ensures { MatchOption result (self.new ≡ self.old) (λ d. AreDecimalFields d self.old self.new) }
+    {
+        if self.reader.is_some() {
+            return None;
+        }
+        let mut next = self.next;
+        let d = decimal_fields(self.text, &mut next)?;
+        self.next = next;
+        Some(d)
+    }
+
     /// Whether no token is left.
     #[inline(never)]
     pub(crate) fn end(&mut self) -> Result<(), Stop>
-        ensures { OnOk result (self.old ≡ []) }
+        ensures ok { OnOk result (self.old ≡ []) }
+        ensures refused { IfErr result (λ e. OnNotAValue e ⊥) }
     {
         let is_at_end = match &mut self.reader {
             Some(reader) => reader.next().is_none(),

@@ -1,24 +1,21 @@
-use Rattle.std.proofs.Common.{◌≡◌, ◌+◌, ◌++◌, true, length, get_or, drop, sym, ap, ◌∙◌, rules, arith}
+use Rattle.std.proofs.Common.{◌≡◌, ◌+◌, ◌++◌, true, length, sym, ap, ◌∙◌, arith}
 use Rattle.std.proofs.lemmas.Result.{on_ok_weaker}
 use Rattle.amqp_value_core.specs.Texts.{body, pairs}
 use Rattle.amqp_value_core.proofs.GrammarLaws.{rising_pairs}
 use Rattle.amqp_in_place.specs.Suffix.{values_left, pairs_left}
 use Rattle.amqp_json.proofs.CanonicalSteps.{item_put, pair_put, entry_put}
 use Rattle.amqp_json.proofs.Encodes.{length_filled}
-use Rattle.amqp_json.proofs.PlacedSteps.{steps_from}
-use Rattle.amqp_json.proofs.SortedSteps.{AtStep}
-use Rattle.amqp_json.specs.Placed.{steps_of}
 use Rattle.amqp_json.proofs.canonical.+canonical.Goals as goal
 
 pub put_array-returns : goal.put_array-returns
 put_array-returns t c =
     let place : c.len-at.result + 1 ≡ length c.args.out.now.items + 1 = grind arith in
-    on_ok_weaker c.fill_length.result (λ done vs all. (length_filled 65 (c.len-at.result + 1) _ _ _ _ (body vs) place c.in_ok-put_head.ensures (c.in_ok-put_items.ensures vs all) done.0).1) c.fill_length.ensures
+    on_ok_weaker c.fill_length.result (λ done vs all. (length_filled 65 (c.len-at.result + 1) _ _ _ _ (body vs) place c.in_ok-put_head.ensures.ok (c.in_ok-put_items.ensures vs all) done.0).1) c.fill_length.ensures.ok
 
 pub put_table-returns : goal.put_table-returns
 put_table-returns t c =
     let place : c.len-at.result + 1 ≡ length c.args.out.now.items + 1 = grind arith in
-    on_ok_weaker c.fill_length.result (λ done es has. (length_filled 70 (c.len-at.result + 1) _ _ _ _ (pairs es) place c.in_ok-put_head.ensures (c.in_ok-put_entries.ensures es has) done.0).1) c.fill_length.ensures
+    on_ok_weaker c.fill_length.result (λ done es has. (length_filled 70 (c.len-at.result + 1) _ _ _ _ (pairs es) place c.in_ok-put_head.ensures.ok (c.in_ok-put_entries.ensures es has) done.0).1) c.fill_length.ensures.ok
 
 pub put_entries-returns-then-keys_rise : goal.put_entries-returns-then-keys_rise
 put_entries-returns-then-keys_rise t c =
@@ -38,13 +35,8 @@ put_pairs-loop-key-preserved t c all are =
     let at = l.invariant all are in
     pair_put l.out.items c.put_key.new.out.items c.put_value.new.out.items _ at.0 (c.in-Some.key, c.in-Some.value) (pairs_left c.next.new.self) (c.in-Some.ensures.steps.0 at.0 at.1) c.in_ok-put_key.ensures.ok c.in_ok-put_value.ensures at.2
 
-pub put_sorted-loop-pair-preserved : goal.put_sorted-loop-pair-preserved
-put_sorted-loop-pair-preserved t c all are =
-    let l = c.loop-pair in
-    let p = c.pair-item.result in
-    let e : AtStep = (p.key, p.value) in
-    let sorted = c.args.sorted.now in
-    let is : get_or sorted l.pair-index p ≡ p = search rules in
+pub put_sorted-loop-key-preserved : goal.put_sorted-loop-key-preserved
+put_sorted-loop-key-preserved t c all are =
+    let l = c.loop-key in
     let at = l.invariant all are in
-    entry_put l.out.items c.put_key.new.out.items c.put_value.new.out.items _ at.0 (steps_of (drop l.pair-index sorted)) e (steps_of (drop (l.pair-index + 1) sorted))
-    (steps_from sorted l.pair-index (l.pair-index + 1) p c.loop-pair-test.true (omega arith) is) at.1 c.in_ok-put_key.ensures.ok c.in_ok-put_value.ensures at.2
+    entry_put l.out.items c.put_key.new.out.items c.put_value.new.out.items _ at.0 (c.in-Some.key, c.in-Some.value) c.next.new.self (c.in-Some.ensures.steps.0 at.0 at.1) c.in_ok-put_key.ensures.ok c.in_ok-put_value.ensures at.2

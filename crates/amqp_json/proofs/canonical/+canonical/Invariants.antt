@@ -1,11 +1,10 @@
-use Rattle.std.proofs.Common.{◌≡◌, ◌+◌, ◌*◌, ◌++◌, drop}
+use Rattle.std.proofs.Common.{◌≡◌, ◌+◌, ◌*◌, ◌++◌}
 use Rattle.amqp_value_core.specs.Values.{Trees, Entries}
 use Rattle.amqp_value_core.specs.Grammar.{ArrayBody, TableBody}
 use Rattle.amqp_value_core.specs.Texts.{body, pairs}
 use Rattle.amqp_in_place.specs.Refs.{array_body, table_body}
 use Rattle.amqp_in_place.specs.Suffix.{values_left, pairs_left}
-use Rattle.amqp_json.specs.Sorted.{AreAt}
-use Rattle.amqp_json.specs.Placed.{steps_of}
+use Rattle.amqp_json.specs.Sorted.{AreLeft}
 use Rattle.amqp_json.proofs.canonical.+canonical.Given as goal
 
 abbrev pub decreases-put_value : goal.decreases-put_value
@@ -42,7 +41,7 @@ invariant-put_pairs-loop-key l =
     (rest : Entries) × TableBody (pairs_left l.key-iterator) rest × (l.out.items ++ pairs rest ≡ l.fn.out.items ++ pairs all)
 
 -- with the pairs that are left, all are there
-abbrev pub invariant-put_sorted-loop-pair : goal.invariant-put_sorted-loop-pair
-invariant-put_sorted-loop-pair l =
-    (all : Entries) → AreAt (steps_of l.fn.sorted) all →
-    (rest : Entries) × AreAt (steps_of (drop l.pair-index l.fn.sorted)) rest × (l.out.items ++ pairs rest ≡ l.fn.out.items ++ pairs all)
+abbrev pub invariant-put_sorted-loop-key : goal.invariant-put_sorted-loop-key
+invariant-put_sorted-loop-key l =
+    (all : Entries) → AreLeft l.fn.sorted all →
+    (rest : Entries) × AreLeft l.key-iterator rest × (l.out.items ++ pairs rest ≡ l.fn.out.items ++ pairs all)

@@ -1,11 +1,10 @@
-use Rattle.std.proofs.Common.{◌≡◌, ◌+◌, ◌∷◌, [], ◌++◌, true, get_or, drop, sym, ◌∙◌, rules, arith}
+use Rattle.std.proofs.Common.{◌≡◌, ◌∷◌, [], ◌++◌, true, sym, ◌∙◌, rules, arith}
 use Rattle.std.proofs.lemmas.Result.{on_ok_weaker}
 use Rattle.json.specs.Token.{begin_object, key}
 use Rattle.amqp_in_place.specs.Suffix.{values_left, pairs_left}
 use Rattle.amqp_json.proofs.Steps.{item_added, member_added, named_table, plain_table, named_entries, plain_entries}
-use Rattle.amqp_json.specs.Placed.{steps_of}
-use Rattle.amqp_json.proofs.SortedSteps.{AtStep, entry_added}
-use Rattle.amqp_json.proofs.PlacedSteps.{steps_from, entries_at}
+use Rattle.amqp_json.proofs.SortedSteps.{entry_added}
+use Rattle.amqp_json.proofs.PlacedSteps.{left_of_table}
 use Rattle.amqp_json.proofs.in_place.+in_place.Goals as goal
 
 pub write_array-loop-item-preserved : goal.write_array-loop-item-preserved
@@ -44,36 +43,29 @@ write_table-returns-clause-ok t c =
     plain_table _ c.begin_object-2.new.self.tokens c.write_pairs-2.new.out.tokens has.0 es
     (sym (c.needs_type_name.ensures has.0 has.1) ∙ c.if-needs_type_name.false) (c.keys_rise.ensures.rise rise has.0 has.1) has.2 opened (e has.0 has.1)) c.write_pairs-2.ensures.ok
 
-pub write_sorted-loop-pair-preserved : goal.write_sorted-loop-pair-preserved
-write_sorted-loop-pair-preserved t c =
-    let l = c.loop-pair in
-    let p = c.pair-item.result in
-    let e : AtStep = (p.key, p.value) in
-    let sorted = c.args.sorted.now in
-    let is : get_or sorted l.pair-index p ≡ p = search rules in
-    let from = steps_from sorted l.pair-index (l.pair-index + 1) p c.loop-pair-test.true (omega arith) is in
-    let named : c.key.new.self.tokens ≡ l.out.tokens ++ key p.key.now ∷ [] = search rules in
+pub write_sorted-loop-key-preserved : goal.write_sorted-loop-key-preserved
+write_sorted-loop-key-preserved t c =
+    let l = c.loop-key in
+    let named : c.key.new.self.tokens ≡ l.out.tokens ++ key c.in-Some.key.now ∷ [] = search rules in
     let kept : c.key.new.self.before ≡ l.out.before = c.key.ensures.room.0 in (
       c.write_value.ensures.before ∙ kept ∙ l.invariant.0,
       λ all are.
           let at = l.invariant.1 all are in
-          entry_added l.out.tokens c.key.new.self.tokens c.write_value.new.out.tokens _ at.0 (steps_of (drop l.pair-index sorted)) e (steps_of (drop (l.pair-index + 1) sorted)) from at.1 named c.in_ok-write_value.ensures.ok at.2,
+          entry_added l.out.tokens c.key.new.self.tokens c.write_value.new.out.tokens _ at.0 (c.in-Some.key, c.in-Some.value) c.next.new.self (c.in-Some.ensures.steps.0 at.0 at.1) named c.in_ok-write_value.ensures.ok at.2,
     )
 
-pub write_unordered-returns-then-pairs_need_type_name-clause-ok : goal.write_unordered-returns-then-pairs_need_type_name-clause-ok
-write_unordered-returns-then-pairs_need_type_name-clause-ok t c =
-    let same : c.in_ok-pairs.pairs.items ≡ c.as_slice-sorted.result.now = search rules in
+pub write_unordered-returns-then-need_type_name-clause-ok : goal.write_unordered-returns-then-need_type_name-clause-ok
+write_unordered-returns-then-need_type_name-clause-ok t c =
     let opened : c.begin_object.new.self.tokens ≡ c.begin_named.new.out.tokens ++ begin_object ∷ [] = search rules in
     on_ok_weaker c.end_object.result (λ e es has.
-    let are = entries_at _ _ has.0 es same has.2 (c.in_ok-pairs.ensures.entries has.0 has.1) in
+    let are = left_of_table c.in_ok-sorted.sorted has.0 es has.2 (c.in_ok-sorted.ensures.entries has.0 has.1) in
     named_entries _ c.begin_named.new.out.tokens c.begin_object.new.self.tokens c.write_sorted.new.out.tokens c.end_object.new.self.tokens es
-    (sym (c.pairs_need_type_name.ensures es are) ∙ c.if-pairs_need_type_name.true) c.in_ok-begin_named.ensures.ok opened (c.in_ok-write_sorted.ensures.ok es are) e) c.end_object.ensures.ok
+    (sym (c.need_type_name.ensures es are) ∙ c.if-need_type_name.true) c.in_ok-begin_named.ensures.ok opened (c.in_ok-write_sorted.ensures.ok es are) e) c.end_object.ensures.ok
 
 pub write_unordered-returns-clause-ok : goal.write_unordered-returns-clause-ok
 write_unordered-returns-clause-ok t c =
-    let same : c.in_ok-pairs.pairs.items ≡ c.as_slice-sorted.result.now = search rules in
     let opened : c.begin_object-2.new.self.tokens ≡ c.args.out.now.tokens ++ begin_object ∷ [] = search rules in
     on_ok_weaker c.write_sorted-2.result (λ e es has.
-    let are = entries_at _ _ has.0 es same has.2 (c.in_ok-pairs.ensures.entries has.0 has.1) in
+    let are = left_of_table c.in_ok-sorted.sorted has.0 es has.2 (c.in_ok-sorted.ensures.entries has.0 has.1) in
     plain_entries _ c.begin_object-2.new.self.tokens c.write_sorted-2.new.out.tokens es
-    (sym (c.pairs_need_type_name.ensures es are) ∙ c.if-pairs_need_type_name.false) opened (e es are)) c.write_sorted-2.ensures.ok
+    (sym (c.need_type_name.ensures es are) ∙ c.if-need_type_name.false) opened (e es are)) c.write_sorted-2.ensures.ok

@@ -1,4 +1,4 @@
-use Rattle.std.proofs.Common.{◌≡◌, ◌+◌, ◌*◌, ◌++◌, drop}
+use Rattle.std.proofs.Common.{◌≡◌, ◌+◌, ◌*◌, ◌++◌}
 use Rattle.json.specs.Tree.{json_tokens, items_tokens, members_tokens}
 use Rattle.serde_json.specs.Written.{outline, items_outline, members_outline}
 use Rattle.amqp_value_core.specs.Values.{Trees, Entries, array}
@@ -6,8 +6,7 @@ use Rattle.amqp_value_core.specs.Grammar.{ArrayBody, TableBody}
 use Rattle.amqp_in_place.specs.Refs.{array_body, table_body}
 use Rattle.amqp_in_place.specs.Suffix.{values_left, pairs_left}
 use Rattle.amqp_json.specs.Json.{json, items_json, members_json}
-use Rattle.amqp_json.specs.Sorted.{AreAt}
-use Rattle.amqp_json.specs.Placed.{steps_of}
+use Rattle.amqp_json.specs.Sorted.{AreLeft}
 use Rattle.amqp_json.proofs.in_place.+in_place.Given as goal
 
 abbrev pub decreases-write_array : goal.decreases-write_array
@@ -45,9 +44,9 @@ invariant-write_pairs-loop-key l =
     × (l.out.tokens ++ members_tokens (members_outline (members_json rest)) ≡ l.fn.out.tokens ++ members_tokens (members_outline (members_json all))))
 
 -- with the tokens of the pairs that are left, the object's are there
-abbrev pub invariant-write_sorted-loop-pair : goal.invariant-write_sorted-loop-pair
-invariant-write_sorted-loop-pair l =
+abbrev pub invariant-write_sorted-loop-key : goal.invariant-write_sorted-loop-key
+invariant-write_sorted-loop-key l =
     (l.out.before ≡ l.fn.out.before)
-    × ((all : Entries) → AreAt (steps_of l.fn.sorted) all →
-    (rest : Entries) × AreAt (steps_of (drop l.pair-index l.fn.sorted)) rest
+    × ((all : Entries) → AreLeft l.fn.sorted all →
+    (rest : Entries) × AreLeft l.key-iterator rest
     × (l.out.tokens ++ members_tokens (members_outline (members_json rest)) ≡ l.fn.out.tokens ++ members_tokens (members_outline (members_json all))))

@@ -1,19 +1,15 @@
-use Rattle.std.proofs.Common.{◌≡◌, ◌+◌, ◌∷◌, [], List, ℕ, length, drop, get_or, true, sym, ap, ◌∙◌, subst, refl, rules, arith}
+use Rattle.std.proofs.Common.{◌≡◌, ◌∷◌, [], List, ℕ, length, true, sym, ap, ◌∙◌, subst, refl, rules, arith}
 use Rattle.std.specs.Borrow.{Bor}
-use Rattle.std.proofs.Math.ListN.{drop_of_length-le}
 use Rattle.json.specs.Token.{begin_array, begin_object}
-use Rattle.amqp_value_core.specs.Values.{Entries}
 use Rattle.amqp_value_core.specs.Grammar.{ArrayBody, TableBody}
 use Rattle.amqp_in_place.specs.declared.refs.ValueRef.{ValueRef}
 use Rattle.amqp_in_place.specs.Refs.{array_body, table_body}
 use Rattle.amqp_in_place.specs.Suffix.{values_left, pairs_left}
-use Rattle.amqp_json.specs.declared.sorted.PlacedPair.{PlacedPair}
-use Rattle.amqp_json.specs.Sorted.{AreAt, above_bodies}
-use Rattle.amqp_json.specs.Placed.{steps_of}
+use Rattle.amqp_json.specs.declared.sorted.SortedPairs.{SortedPairs}
+use Rattle.amqp_json.specs.Sorted.{AreLeft}
 use Rattle.amqp_json.proofs.Ascents.{no_container}
 use Rattle.amqp_json.proofs.Filling.{item_put, items_end, pair_put, pairs_end, named_put, plain_puts_ok, entry_put, entries_end, named_entries_put, plain_entries_put, array_put_ok, table_put_ok, left_of, left_of_pair}
-use Rattle.amqp_json.proofs.PlacedSteps.{steps_from}
-use Rattle.amqp_json.proofs.SortedSteps.{AtStep}
+use Rattle.amqp_json.proofs.PlacedSteps.{left_of_table}
 use Rattle.amqp_json.proofs.buffer.sorting.+sorting.Goals as goal
 
 -- ---- an array
@@ -65,40 +61,34 @@ put_pairs-returns t c = λ ps body.
 
 -- ---- the pairs of a table in the order of their keys
 
-pub put_sorted-loop-pair-init : goal.put_sorted-loop-pair-init
-put_sorted-loop-pair-init t c = (omega arith, λ all are. (begin_object ∷ [], all, are, c.put_token-end.ensures, refl))
+pub put_sorted-loop-key-init : goal.put_sorted-loop-key-init
+put_sorted-loop-key-init t c =
+    let same : c.into_iter-key-iterator.result ≡ c.args.sorted = search rules in
+    (ap (λ (s : SortedPairs). s.table) same, λ all are. (begin_object ∷ [], all, subst (λ (s : SortedPairs). AreLeft s all) (sym same) are, c.put_token-end.ensures, refl))
 
-pub put_sorted-loop-pair-preserved : goal.put_sorted-loop-pair-preserved
-put_sorted-loop-pair-preserved t c =
-    let l = c.loop-pair in
-    let p = c.pair-item.result in
-    let e : AtStep = (p.key, p.value) in
-    let sorted = c.args.sorted.now in
-    let is : get_or sorted l.pair-index p ≡ p = search rules in
-    let from = steps_from sorted l.pair-index (l.pair-index + 1) p c.loop-pair-test.true (omega arith) is in (
-      omega (arith, ap above_bodies from, l.invariant.0),
+pub put_sorted-loop-key-preserved : goal.put_sorted-loop-key-preserved
+put_sorted-loop-key-preserved t c =
+    let l = c.loop-key in (
+      c.in-Some.ensures.steps.2 ∙ l.invariant.0,
       λ all are.
           let at = l.invariant.1 all are in
-          entry_put _ _ _ _ _ _ _ _ at.0 _ at.1 (steps_of (drop l.pair-index sorted)) (steps_of (drop (l.pair-index + 1) sorted)) e from at.2 at.3 c.put_token-keyed.ensures c.in_ok-end.ensures at.4,
+          entry_put _ _ _ _ _ _ _ _ at.0 _ at.1 (c.in-Some.key, c.in-Some.value) c.next.new.self (c.in-Some.ensures.steps.0 at.1 at.2) at.3 c.put_token-keyed.ensures c.in_ok-end.ensures at.4,
     )
 
 pub put_sorted-returns : goal.put_sorted-returns
 put_sorted-returns t c = λ es are.
-    let sorted = c.args.sorted.now in
-    let at = c.loop-pair.invariant.1 es are in
-    entries_end _ _ _ _ _ _ at.0 _ at.1 (steps_of (drop c.loop-pair.pair-index sorted)) (ap steps_of (drop_of_length-le sorted (omega (arith, c.loop-pair-test.false)))) at.2 at.3 c.put_token.ensures at.4
+    let at = c.loop-key.invariant.1 es are in
+    entries_end _ _ _ _ _ _ at.0 _ at.1 c.next.new.self (c.in-None.ensures.steps.0 at.1 at.2) at.3 c.put_token.ensures at.4
 
-pub put_unordered-returns-then-pairs_need_type_name : goal.put_unordered-returns-then-pairs_need_type_name
-put_unordered-returns-then-pairs_need_type_name t c = λ es has.
-    let same : c.in_ok-pairs.pairs.items ≡ c.as_slice-sorted.result.now = search rules in
-    let are = subst (λ (ps : List PlacedPair). AreAt (steps_of ps) es) same (subst (λ (fs : Entries). AreAt (steps_of c.in_ok-pairs.pairs.items) fs) (sym has.2) (c.in_ok-pairs.ensures.entries has.0 has.1)) in
-    named_entries_put _ _ _ _ _ _ _ _ es (sym (c.pairs_need_type_name.ensures es are) ∙ c.if-pairs_need_type_name.true) c.begin-inner.ensures.tokens (c.in_ok-end.ensures es are) c.put_token.ensures
+pub put_unordered-returns-then-need_type_name : goal.put_unordered-returns-then-need_type_name
+put_unordered-returns-then-need_type_name t c = λ es has.
+    let are = left_of_table c.in_ok-sorted.sorted has.0 es has.2 (c.in_ok-sorted.ensures.entries has.0 has.1) in
+    named_entries_put _ _ _ _ _ _ _ _ es (sym (c.need_type_name.ensures es are) ∙ c.if-need_type_name.true) c.begin-inner.ensures.tokens (c.in_ok-end.ensures es are) c.put_token.ensures
 
 pub put_unordered-returns : goal.put_unordered-returns
 put_unordered-returns t c =
-    let same : c.in_ok-pairs.pairs.items ≡ c.as_slice-sorted.result.now = search rules in
-    plain_entries_put _ _ _ c.put_sorted-2.result (steps_of c.as_slice-sorted.result.now) (table_body c.args.table) (λ es are. sym (c.pairs_need_type_name.ensures es are) ∙ c.if-pairs_need_type_name.false)
-    (λ es has. subst (λ (ps : List PlacedPair). AreAt (steps_of ps) es) same (subst (λ (fs : Entries). AreAt (steps_of c.in_ok-pairs.pairs.items) fs) (sym has.2) (c.in_ok-pairs.ensures.entries has.0 has.1))) c.put_sorted-2.ensures
+    plain_entries_put _ _ _ c.put_sorted-2.result c.in_ok-sorted.sorted (table_body c.args.table) (λ es are. sym (c.need_type_name.ensures es are) ∙ c.if-need_type_name.false)
+    (λ es has. left_of_table c.in_ok-sorted.sorted has.0 es has.2 (c.in_ok-sorted.ensures.entries has.0 has.1)) c.put_sorted-2.ensures
 
 -- ---- a table
 

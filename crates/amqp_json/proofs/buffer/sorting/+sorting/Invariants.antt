@@ -1,4 +1,4 @@
-use Rattle.std.proofs.Common.{◌≡◌, ◌+◌, ◌*◌, ◌≤◌, ◌++◌, List, length, drop}
+use Rattle.std.proofs.Common.{◌≡◌, ◌+◌, ◌*◌, ◌≤◌, ◌++◌, List, length}
 use Rattle.json.specs.Token.{Token}
 use Rattle.json.specs.Tree.{json_tokens, items_tokens, members_tokens}
 use Rattle.serde_json.specs.Data.{object}
@@ -9,8 +9,7 @@ use Rattle.amqp_in_place.specs.Refs.{array_body, table_body}
 use Rattle.amqp_in_place.specs.Suffix.{values_left, pairs_left}
 use Rattle.amqp_json.specs.Json.{json, items_json, members_json}
 use Rattle.amqp_json.specs.Puts.{PutsTokens}
-use Rattle.amqp_json.specs.Sorted.{AreAt, body_len, above_bodies}
-use Rattle.amqp_json.specs.Placed.{steps_of}
+use Rattle.amqp_json.specs.Sorted.{body_len, AreLeft}
 use Rattle.amqp_json.proofs.buffer.sorting.+sorting.Given as goal
 
 -- a call has a shorter body than its caller, or as long a one and less to do
@@ -30,7 +29,7 @@ abbrev pub decreases-put_pairs : goal.decreases-put_pairs
 decreases-put_pairs l = 4 * length (table_body l.table) + 1
 
 abbrev pub decreases-put_sorted : goal.decreases-put_sorted
-decreases-put_sorted l = 4 * above_bodies (steps_of l.sorted.now)
+decreases-put_sorted l = 4 * length (table_body l.sorted.table)
 
 -- with the tokens of the values that are left, the array's are there
 abbrev pub invariant-put_array-loop-item : goal.invariant-put_array-loop-item
@@ -49,9 +48,9 @@ invariant-put_pairs-loop-key l =
     × (done ++ members_tokens (members_outline (members_json rest)) ≡ json_tokens (outline (object (members_json all)))))
 
 -- with the tokens of the pairs that are left, the object's are there
-abbrev pub invariant-put_sorted-loop-pair : goal.invariant-put_sorted-loop-pair
-invariant-put_sorted-loop-pair l =
-    (above_bodies (steps_of (drop l.pair-index l.fn.sorted)) ≤ above_bodies (steps_of l.fn.sorted))
-    × ((all : Entries) → AreAt (steps_of l.fn.sorted) all →
-    (done : List Token) × (rest : Entries) × AreAt (steps_of (drop l.pair-index l.fn.sorted)) rest × PutsTokens l.fn.buffer l.fn.place l.buffer l.end done
+abbrev pub invariant-put_sorted-loop-key : goal.invariant-put_sorted-loop-key
+invariant-put_sorted-loop-key l =
+    (l.key-iterator.table ≡ l.fn.sorted.table)
+    × ((all : Entries) → AreLeft l.fn.sorted all →
+    (done : List Token) × (rest : Entries) × AreLeft l.key-iterator rest × PutsTokens l.fn.buffer l.fn.place l.buffer l.end done
     × (done ++ members_tokens (members_outline (members_json rest)) ≡ json_tokens (outline (object (members_json all)))))

@@ -7,8 +7,8 @@ use Rattle.amqp_value_core.specs.declared.types.amqp_type.AMQPType.TheVariants a
 use Rattle.amqp_json.proofs.Encodes.{double_put}
 use Rattle.amqp_json.proofs.encoding.named.put_double_of.Goals as goal
 
-pub returns : goal.returns
-returns c =
+pub returns-clause-ok : goal.returns-clause-ok
+returns-clause-ok c =
     let b = c.in-Some.bytes in
     let is : c.from_be_bytes.result ≡ from_be_bytes w64 b = search rules in
     let low : c.from_be_bytes.result < 2 ^ 64 = search rules in

@@ -19,9 +19,9 @@ pub(crate) fn note<'a>(
     Ok(())
 }
 
-// Notes that the key has a value.
+/// Notes that the key has a value.
 #[inline(never)]
-fn forget(bad: &mut BTreeMap<&str, usize>, name: &str)
+pub(crate) fn forget(bad: &mut BTreeMap<&str, usize>, name: &str)
     ensures { IsForgotten bad.old.entries name.now bad.new.entries }
 {
     drop(bad.remove(name));

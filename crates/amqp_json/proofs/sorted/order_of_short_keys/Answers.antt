@@ -1,0 +1,16 @@
+use Rattle.std.proofs.Common.{◌≢◌, ℕ, take, sym, ap, ◌∙◌, arith, tests}
+use Rattle.std.specs.Int.{w32, from_be_bytes}
+use Rattle.std.specs.Ordering.{nat_cmp}
+use Rattle.amqp_json.proofs.Fronts.{short_fronts_decide}
+use Rattle.amqp_json.proofs.sorted.order_of_short_keys.Goals as goal
+
+pub returns-in-Some-Some : goal.returns-in-Some-Some
+returns-in-Some-Some c =
+    let s = c.in-Some-Some in
+    let a = c.args.a.now in
+    let b = c.args.b.now in
+    let other : s.x ≢ s.y = grind (arith, tests) in
+    let x = s.ensures.number.1 in
+    let y = s.ensures'.number.1 in
+    c.cmp.ensures ∙ ap (λ (n : ℕ). nat_cmp n s.y) x ∙ ap (nat_cmp (from_be_bytes w32 (take 4 a))) y
+    ∙ sym (short_fronts_decide a b s.ensures.bytes s.ensures'.bytes s.ensures.number.0 s.ensures'.number.0 (λ e. other (x ∙ e ∙ sym y)))
