@@ -1,7 +1,7 @@
 /*
  * Makes each call that allocates over each input, for tests/counts/run: at_once FOLDER. Prints a line for each: the call, the
  * input, how many bytes it has, values and levels if these are counted, and the most bytes that were held at once, while
- * realloc has its old block and the new one too; and `tree` after a text of which a tree is made.
+ * realloc has its old block and the new one too.
  *
  * An input is a value's encoding, whose JSON is read too. If its name begins with `JSON` it is a text, which is rejected if that
  * is `JSON of no value`, and with `malformed` no value. Each call is made again without the last byte, and with another one,
@@ -76,18 +76,6 @@ static void need(int is_well, const char *name) {
     }
 }
 
-/* Whether a tree is made of a text: it is JSON that is rejected, or what comes first in it isn't encoded as its tokens come. */
-static int has_tree(const char *name, const uint8_t *given, size_t given_length) {
-    amqpv_problem problem;
-    size_t count;
-    amqpv_result result = amqpv_from_json_or_problem((const char *)given, given_length, AMQPV_JSON_NESTING, (uint8_t *)buffer,
-                                                     MOST_TEXT, &count, &problem);
-    if (result == AMQPV_OK) {
-        return strstr(name, "after no value") != NULL || strstr(name, "after a scale that comes twice") != NULL;
-    }
-    return result == AMQPV_NO_ENCODING || (result == AMQPV_NOT_JSON && problem.kind == AMQPV_PROBLEM_NO_VALUE);
-}
-
 static amqpv_result try_bytes(const call *it, const char *name, const uint8_t *given, size_t given_length) {
     amqpv_measure measure;
     size_t taken;
@@ -97,8 +85,7 @@ static amqpv_result try_bytes(const call *it, const char *name, const uint8_t *g
     }
     count_anew();
     amqpv_result result = it->make(given, given_length);
-    printf(" %" PRIu64, most_moving);
-    printf("%s\n", it->count == NULL && has_tree(name, given, given_length) ? " | tree" : "");
+    printf(" %" PRIu64 "\n", most_moving);
     need(held == 0, name);
     return result;
 }

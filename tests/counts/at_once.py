@@ -1,7 +1,7 @@
 """The most memory that each call which allocates holds at once: what the header states, and inputs of which much is made.
 
 The header has it for each byte, value and level that amqpv_measure_value counts, or for each byte of a text. No input may take
-more, and each number of it is nearly needed by some input.
+more, and each number of it is nearly needed by some input, but that of an encoding of 2^32 bytes, which no input has.
 """
 
 import re
@@ -26,33 +26,32 @@ ODD = b"t\7"
 
 
 class Most(NamedTuple):
-    """The most memory of calls: by the bytes alone; by bytes, values and levels; by the bytes of which a tree is made."""
+    """The most memory of calls: by the bytes alone, and what is added; by bytes, values and levels."""
 
     alone: int
+    added: int = 0
     byte: int = 0
     value: int = 0
     level: int = 0
-    tree: int = 0
 
-    def of(self, counts: Sequence[int], has_tree: bool) -> int:
+    def of(self, counts: Sequence[int]) -> int:
         """What may be held of something with that many bytes and, if these are counted, values and levels."""
-        if has_tree:
-            return self.tree * counts[0]
-        by_bytes, by_all = self.alone * counts[0], sum(most * count for most, count in zip(self[1:4], counts))
-        return min(by_bytes, by_all) if any(self[1:4]) and len(counts) > 1 else by_bytes
+        by_bytes, for_each = self.alone * counts[0] + self.added, self[2:]
+        by_all = sum(most * count for most, count in zip(for_each, counts))
+        return min(by_bytes, by_all) if any(for_each) and len(counts) > 1 else by_bytes
 
 
 FOR_EACH = r"(\d+) for each (byte|value|level)"
-OF_TREE = r" of the text, and (\d+) of one of which they make a tree"
-STATED = re.compile(rf"(amqpv_\w+(?: and amqpv_\w+)*) {FOR_EACH}((?:(?:, or | and ){FOR_EACH})*)(?:{OF_TREE})?")
+ADDED = r" of the text and ([\d,]+) more"
+STATED = re.compile(rf"(amqpv_\w+(?: and amqpv_\w+)*) {FOR_EACH}((?:(?:, or | and ){FOR_EACH})*)(?:{ADDED})?")
 
 
 def stated() -> dict[tuple[str, ...], Most]:
     """What the header states, of each call or of several."""
     text, figures = " ".join(HEADER.read_text().replace("\n * ", " ").split()), {}
-    for names, alone, _, others, *_, of_tree in STATED.findall(text):
+    for names, alone, _, others, *_, added in STATED.findall(text):
         more = {kind: int(figure) for figure, kind in re.findall(FOR_EACH, others)}
-        more |= {"tree": int(of_tree)} if of_tree else {}
+        more |= {"added": int(added.replace(",", ""))} if added else {}
         figures[tuple(names.split(" and "))] = Most(int(alone), **more)
     return figures
 
@@ -94,8 +93,9 @@ TEXTS: dict[str, str] = {
     "arrays": "[]", "arrays of a zero": "[0]", "arrays of five": "[0,0,0,0,0]",
     "arrays in arrays": "[" * 126 + "]" * 126, "objects in objects": '{"":' * 126 + "0" + "}" * 126,
     "objects in objects, of a letter": '{"a":' * 126 + "0" + "}" * 126, "spaces": " " * 99 + "0",
+    "objects in objects, first of no value": '{"":-0,"":' * 125 + "0" + "}" * 125,
 }  # fmt: skip
-# Values that are encoded as their tokens come, each in a way of its own: no tree is made of them, nor of what follows.
+# Values that are read as their tokens come, each in a way of its own: no tree is made of them, nor of what follows.
 FIRST: dict[str, str] = {
     "spaces": ' { "a" : 0 , "b" : [ true , "c" ] } , { "LongInt" : -1 } , { "Float" : "00000000" } , { } , [ ] , null ',
     "lines": '\n{\r\n\t"a":\t0,\n\t"b":\r[\ntrue\n,\t"c"\r]\n}\n,\n[\n{\n}\n,\n{\n"LongInt"\n:\n-1\n}\n]\n',
@@ -109,13 +109,26 @@ FIRST: dict[str, str] = {
     "tables under their type": '{"FieldTable":{"LongInt":1}},' + '{"FieldTable":' * 5 + '{"Void":[]}' + "}" * 5,
     "keys that fall and come twice": '{"b":[{"d":1,"c":2}],"a":{"b":1,"a":2},"b":3}',
     "objects of equal keys in objects": '{"":0,"":' * 125 + "0" + "}" * 125,
+    "short strings that don't count": '{"a":{"ShortString":"x"},"b":[{"ShortString":""},1],"a":1,"b":{}},{"ShortString":"","ShortString":1,"a":2,"ShortString":3}',
     "a long key and a long string": '{"' + "k" * 255 + '":"' + "x" * 256 + '"}',
+}  # fmt: skip
+# What comes first in an array that is rejected for it, each for a reason of its own: no tree is made to learn it.
+REJECTED: dict[str, str] = {
+    "no encoding in an object": '{"a":{"ShortString":""}}', "no encoding and no value": '{"ShortString":""},-0',
+    "a long key of no encoding": '{"' + "k" * 256 + '":{"ShortString":""}}', "an array of a type": '{"Void":[]}',
+    "no value of a type": '{"Void":[-0]}', "a string of a type": '{"Void":"a"}', "a number of a type": '{"LongInt":-0}',
+    "no value of a type, and another key": '{"LongInt":[-0],"a":1}', "a table under its type": '{"FieldTable":{"a":1}}',
+    "no value of a type under a table's": '{"FieldTable":{"LongInt":[-0]}}',
 }  # fmt: skip
 # The JSON of no value.
 NO_VALUE = '{"Void":0}'
-# What is before the last member of an object, which keeps until its end where others are that are none.
+# The JSON of a value that has no encoding.
+SHORT_STRING = '{"ShortString":""}'
+# What is before the last member of an object, which keeps until its end where others are that are none or have no encoding.
 BEFORE = {
     "of no value": '{"":-0,"":', "of no value of a type": '{"LongInt":-0,"":',
+    "of no encoding and of no value": '{"":{"ShortString":""},"":-0,"":',
+    "of no encoding": '{"":{"ShortString":""},"":', "of no encoding of a type": '{"LongInt":{"ShortString":""},"":',
     "of sixteen of no value": "{" + "".join(f'"{chr(112 - n)}":-0,' for n in range(16)) + '"":',
 }  # fmt: skip
 # A decimal with a key twice.
@@ -202,8 +215,10 @@ def texts(n: int) -> Iterator[tuple[str, str]]:
         yield f"JSON of no value, {name}", f"[{','.join(items)},{NO_VALUE}]"
         yield f"JSON, {name}, after no value", f'[{{"":{NO_VALUE},"":0}},{",".join(items)}]'
         yield f"JSON, {name}, after the name of a type", f'[{{"LongInt":0,"":0}},{",".join(items)}]'
-        # (of which a tree is made, as after no value)
         yield f"JSON, {name}, after a scale that comes twice", f'[{TWICE},{",".join(items)}]'
+        yield f"JSON of no value that is encoded, {name}", f"[{','.join(items)},{SHORT_STRING}]"
+        yield f"JSON of no value that is encoded, {name} after it", f"[{SHORT_STRING},{','.join(items)}]"
+        yield f"JSON, {name}, after a ShortString", f'[{{"":{SHORT_STRING},"":0}},{",".join(items)}]'
     for name, first in BEFORE.items():
         levels = min(126, n // 2 // (len(first) + 1))
         yield from before_last(f"objects {name}", first * levels, "}" * levels)
@@ -213,6 +228,10 @@ def texts(n: int) -> Iterator[tuple[str, str]]:
     objects = ",".join(['{"":0}'] * (n // 7))
     for name, first in FIRST.items():
         yield f"JSON, {name} first", f" [{first},{objects}]\n"
+    for name, first in REJECTED.items():
+        yield f"JSON of no value, {name} first", f"[{first},{objects}]"
+    # (which is no JSON)
+    yield "JSON of no value, not closed", f"[{objects}"
     for name, of_table in tables(n):
         yield f"JSON, keys {name}", "{" + ",".join(f'"{it.decode()}":0' for it in of_table) + "}"
         yield f"JSON of no value, keys {name}", "{" + ",".join(f'"{it.decode()}":{NO_VALUE}' for it in of_table) + "}"
@@ -236,28 +255,24 @@ def inputs() -> Iterator[tuple[str, bytes]]:
 
 
 class Held(NamedTuple):
-    """A call, the shape of its input, how many bytes that has, perhaps values and levels, and the most bytes that were held.
-
-    And whether it is a text of which a tree is made.
-    """
+    """A call, the shape of its input, how many bytes that has, perhaps values and levels, and the most bytes that were held."""
 
     call: str
     shape: str
     counts: list[int]
     most: int
-    has_tree: bool
 
 
 def held(line: str) -> Held:
     """A line that at_once.c prints."""
-    call, name, numbers, *tree = line.split(" | ")
+    call, name, numbers = line.split(" | ")
     *counts, most = map(int, numbers.split())
-    return Held(call, re.sub(r", \d+ bytes$", "", name), counts, most, bool(tree))
+    return Held(call, re.sub(r", \d+ bytes$", "", name), counts, most)
 
 
 def over(found: list[Held], most: Most) -> dict[str, str]:
     """The shapes of which more is held than may be, each with the last that is."""
-    limits = [(it, most.of(it.counts, it.has_tree)) for it in found]
+    limits = [(it, most.of(it.counts)) for it in found]
     return {
         it.shape: f"{it.most:,} bytes of memory for {it.counts[0]:,}, over {limit:,}"
         for it, limit in limits
@@ -273,4 +288,4 @@ def parts(most: Most) -> list[str]:
 def is_needed(found: list[Held], most: Most, part: str) -> bool:
     """Whether some input takes more than with a bit less of a number."""
     less = most._replace(**{part: int(getattr(most, part) * NEAR)})
-    return any(it.most > less.of(it.counts, it.has_tree) for it in found)
+    return any(it.most > less.of(it.counts) for it in found)

@@ -340,10 +340,22 @@ def damaged(make: Random, text: bytes) -> bytes:
 
 
 # The keys of objects in which any may come again, and what is under them.
-AGAIN = ["LongInt", "DecimalValue", "FieldTable", "ByteArray", "Void", "scale", "value", "a", "", "k" * 256]
+AGAIN = [
+    "LongInt",
+    "DecimalValue",
+    "FieldTable",
+    "ByteArray",
+    "ShortString",
+    "Void",
+    "scale",
+    "value",
+    "a",
+    "",
+    "k" * 256,
+]
 UNDER = [
     "-0", "1.5", "0", "1", "256", "4294967296", "18446744073709551616", "null", '"\\n"', '"0"', '"ff"', "[]", "{}", "[-0,0]",
-    '{"":-0}', '{"scale":0,"value":0}',
+    '{"":-0}', '{"scale":0,"value":0}', '{"ShortString":""}', '[{"ShortString":"a"},0]', '{"a":{"ShortString":"\\n"}}',
 ]  # fmt: skip
 
 

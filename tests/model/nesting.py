@@ -103,6 +103,11 @@ def not_an_entry(opened: str, form: str, depth: int) -> bytes:
     return f'{{"b":{inner}null{closed[::-1]},"b":null}}'.encode()
 
 
+def without_encoding(opened: str, form: str, depth: int) -> bytes:
+    """A text that nests no deeper: each object begins so, with an object in it that is a value without an encoding."""
+    return not_an_entry(opened, form, depth - 1)
+
+
 def type_tags(form: str, depth: int) -> bytes:
     """The type tags of a value that the program makes by itself, the innermost first."""
     return (form * depth)[:depth].encode()
@@ -168,6 +173,8 @@ TEXTS: dict[str, Make] = {
     "under types": under_types,
     "after no value": partial(not_an_entry, '{"b":-0,"b":'),
     "after no value of a type": partial(not_an_entry, '{"LongInt":-0,"b":'),
+    "after no encoding": partial(without_encoding, '{"b":{"ShortString":""},"b":'),
+    "after no encoding of a type": partial(without_encoding, '{"LongInt":{"ShortString":""},"b":'),
     "after no bytes": partial(not_an_entry, '{"ByteArray":"0","b":'),
     "after no table": partial(not_an_entry, '{"FieldTable":-0,"b":'),
     "in what is no decimal": partial(not_an_entry, '{"DecimalValue":'),
