@@ -13,6 +13,7 @@ mod Steps
 mod SortedSteps
 mod PlacedSteps
 mod Latest
+mod FewSteps
 mod Fronts
 mod OwnedSteps
 mod Copies

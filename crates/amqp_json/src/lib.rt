@@ -12,6 +12,7 @@ mod encode;
 mod encoding;
 mod error;
 mod faults;
+mod few_places;
 mod in_place;
 mod keys;
 pub mod laws;

@@ -11,6 +11,7 @@ ghost use Rattle.amqp_in_place.specs.Refs.{table_body};
 ghost use Rattle.amqp_json.specs.Json.{members_json, sole_type};
 ghost use Rattle.amqp_json.specs.Placed.{BeginAt, HasPairsAt, InOrder, key_at, latest_first};
 
+use crate::few_places::few_places;
 use crate::names::type_of_name;
 use amqp_in_place::{TableRef, ValueRef};
 use std::alloc::{AllocError, Global};
@@ -93,6 +94,16 @@ fn sorted_places(alloc: Global, table: TableRef<'_>) -> Result<Vec<usize>, Alloc
     ensures { IfOk result (λ places. (ps : Entries) → TableBody (table_body table.entry) ps
         → BeginAt (table_body table.entry) places.items (insert_all no_entries ps)) }
 {
+    match few_places(table) {
+        Some(few) => Vec::from_slice(alloc, &few),
+        None => many_places(alloc, table),
+    }
+}
+
+fn many_places(alloc: Global, table: TableRef<'_>) -> Result<Vec<usize>, AllocError>
+    ensures { IfOk result (λ places. (ps : Entries) → TableBody (table_body table.entry) ps
+        → BeginAt (table_body table.entry) places.items (insert_all no_entries ps)) }
+{
     let body = table.as_bytes();
     let mut places = pair_places(alloc, table)?;
     places.sort_unstable_by(|a, b| latest_first(body, *a, *b));
@@ -127,7 +138,7 @@ fn latest_first(body: &[u8], a: usize, b: usize) -> Ordering
 
 // By their bytes: mostly the first eight tell, as numbers.
 #[inline(always)]
-fn order_of_keys(a: &[u8], b: &[u8]) -> Ordering
+pub(crate) fn order_of_keys(a: &[u8], b: &[u8]) -> Ordering
     ensures { result ≡ slice_cmp nat_cmp a.now b.now }
 {
     match (front_of(a), front_of(b)) {
@@ -173,7 +184,7 @@ fn short_front_of(key: &[u8]) -> Option<u32>
 
 // The key of the pair at a place, by its length only.
 #[inline(always)]
-fn key_at(body: &[u8], place: usize) -> &[u8]
+pub(crate) fn key_at(body: &[u8], place: usize) -> &[u8]
     ensures { result.now ≡ key_at body.now place }
 {
     match body.get(place..).unwrap_or_default() {

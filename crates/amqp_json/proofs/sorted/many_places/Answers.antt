@@ -7,7 +7,7 @@ use Rattle.amqp_value_core.specs.Values.{no_entries, insert_all}
 use Rattle.amqp_in_place.specs.Refs.{table_body}
 use Rattle.amqp_json.specs.Placed.{BeginAt, latest_first}
 use Rattle.amqp_json.proofs.Latest.{latest_ranks, same_key, latest_at}
-use Rattle.amqp_json.proofs.sorted.sorted_places.Goals as goal
+use Rattle.amqp_json.proofs.sorted.many_places.Goals as goal
 
 pub returns : goal.returns
 returns c ps p =
