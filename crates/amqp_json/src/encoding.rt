@@ -280,8 +280,8 @@ fn put_items(
     }
 }
 
-// Reads the items that are left after one of which no encoding is put, for which reason the array isn't.
-// What is put of them is cut off with that.
+// Reads the items that are left after one of which no encoding is put, and returns why the array's isn't:
+// as the first, or since a later one is no value. What is put of them is cut off with the array.
 #[cycle(encode)]
 #[cold]
 #[inline(never)]

@@ -6,7 +6,8 @@ ghost use Rattle.amqp_value_core.specs.Grammar.{TableBody};
 ghost use Rattle.amqp_in_place.specs.Refs.{table_body};
 ghost use Rattle.amqp_json.specs.Placed.{BeginAt, IsAboveAll, IsAtFirst, IsBelowFirst, with_place};
 
-use crate::sorted::{key_at, order_of_keys};
+use crate::key_order::order_of_keys;
+use crate::sorted::key_at;
 use amqp_in_place::TableRef;
 use arrayvec::{ArrayVec, CapacityError};
 use std::cmp::Ordering;

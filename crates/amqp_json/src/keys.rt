@@ -8,6 +8,7 @@ ghost use Rattle.amqp_in_place.specs.Refs.{table_body};
 ghost use Rattle.amqp_in_place.specs.Canonicals.{IsAbove};
 ghost use Rattle.amqp_json.specs.Json.{members_json, sole_type};
 
+use crate::key_order::is_below;
 use crate::names::type_of_name;
 use amqp_in_place::TableRef;
 
@@ -25,7 +26,7 @@ pub(crate) fn keys_rise(table: TableRef<'_>) -> bool
     let mut previous = first.as_bytes();
     for (key, _) in pairs {
         let key = key.as_bytes();
-        if !(previous < key) {
+        if !is_below(previous, key) {
             return false;
         }
         previous = key;
@@ -40,7 +41,7 @@ pub(crate) fn is_above(previous: Option<&[u8]>, key: &[u8]) -> bool
     ensures no { result ≡ false → IsAbove previous.entry key.now → ⊥ }
 {
     match previous {
-        Some(previous) => previous < key,
+        Some(previous) => is_below(previous, key),
         None => true,
     }
 }

@@ -14,6 +14,7 @@ mod error;
 mod faults;
 mod few_places;
 mod in_place;
+mod key_order;
 mod keys;
 pub mod laws;
 mod names;

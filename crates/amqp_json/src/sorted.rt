@@ -1,10 +1,6 @@
 //! The pairs of a table in the order of their keys, for keys that don't ascend.
 
-ghost use Rattle.std.specs.Prelude.{◌≡◌, ◌≤◌, is_some, length, take, drop, IfSome, IfOk};
-ghost use Rattle.std.specs.Int.{w32, w64, from_be_bytes};
-ghost use Rattle.std.specs.Ordering.{nat_cmp};
-ghost use Rattle.std.specs.Cmp.Lexicographic.{slice_cmp};
-ghost use Rattle.amqp_value_core.specs.Inputs.{IsBytes};
+ghost use Rattle.std.specs.Prelude.{◌≡◌, is_some, length, drop, IfSome, IfOk};
 ghost use Rattle.amqp_value_core.specs.Values.{Entries, no_entries, insert_all};
 ghost use Rattle.amqp_value_core.specs.Grammar.{TableBody};
 ghost use Rattle.amqp_in_place.specs.Refs.{table_body};
@@ -12,6 +8,7 @@ ghost use Rattle.amqp_json.specs.Json.{members_json, sole_type};
 ghost use Rattle.amqp_json.specs.Placed.{BeginAt, HasPairsAt, InOrder, key_at, latest_first};
 
 use crate::few_places::few_places;
+use crate::key_order::order_of_keys;
 use crate::names::type_of_name;
 use amqp_in_place::{TableRef, ValueRef};
 use std::alloc::{AllocError, Global};
@@ -100,6 +97,7 @@ fn sorted_places(alloc: Global, table: TableRef<'_>) -> Result<Vec<usize>, Alloc
     }
 }
 
+// Those of any number of pairs: all are found first.
 fn many_places(alloc: Global, table: TableRef<'_>) -> Result<Vec<usize>, AllocError>
     ensures { IfOk result (λ places. (ps : Entries) → TableBody (table_body table.entry) ps
         → BeginAt (table_body table.entry) places.items (insert_all no_entries ps)) }
@@ -134,52 +132,6 @@ fn latest_first(body: &[u8], a: usize, b: usize) -> Ordering
     ensures { result ≡ latest_first body.now a b }
 {
     order_of_keys(key_at(body, a), key_at(body, b)).then(b.cmp(&a))
-}
-
-// By their bytes: mostly the first eight tell, as numbers.
-#[inline(always)]
-pub(crate) fn order_of_keys(a: &[u8], b: &[u8]) -> Ordering
-    ensures { result ≡ slice_cmp nat_cmp a.now b.now }
-{
-    match (front_of(a), front_of(b)) {
-        (Some(x), Some(y)) if x != y => x.cmp(&y),
-        _ => order_of_short_keys(a, b),
-    }
-}
-
-// By their bytes: mostly the first four tell.
-#[inline(always)]
-fn order_of_short_keys(a: &[u8], b: &[u8]) -> Ordering
-    ensures { result ≡ slice_cmp nat_cmp a.now b.now }
-{
-    match (short_front_of(a), short_front_of(b)) {
-        (Some(x), Some(y)) if x != y => x.cmp(&y),
-        _ => a.cmp(b),
-    }
-}
-
-// The first eight bytes of a key as a number, if it has as many.
-#[inline(always)]
-fn front_of(key: &[u8]) -> Option<u64>
-    ensures number { IfSome result (λ n. (8 ≤ length key.now) × (n ≡ from_be_bytes w64 (take 8 key.now))) }
-    ensures bytes { IfSome result (λ _. IsBytes (take 8 key.now)) }
-{
-    match key.first_chunk::<8>() {
-        Some(front) => Some(u64::from_be_bytes(*front)),
-        None => None,
-    }
-}
-
-// The first four.
-#[inline(always)]
-fn short_front_of(key: &[u8]) -> Option<u32>
-    ensures number { IfSome result (λ n. (4 ≤ length key.now) × (n ≡ from_be_bytes w32 (take 4 key.now))) }
-    ensures bytes { IfSome result (λ _. IsBytes (take 4 key.now)) }
-{
-    match key.first_chunk::<4>() {
-        Some(front) => Some(u32::from_be_bytes(*front)),
-        None => None,
-    }
 }
 
 // The key of the pair at a place, by its length only.

@@ -2,7 +2,7 @@ use Rattle.std.proofs.Common.{◌≢◌, ℕ, take, sym, ap, ◌∙◌, arith, t
 use Rattle.std.specs.Int.{w32, from_be_bytes}
 use Rattle.std.specs.Ordering.{nat_cmp}
 use Rattle.amqp_json.proofs.Fronts.{short_fronts_decide}
-use Rattle.amqp_json.proofs.sorted.order_of_short_keys.Goals as goal
+use Rattle.amqp_json.proofs.key_order.order_of_short_keys.Goals as goal
 
 pub returns-in-Some-Some : goal.returns-in-Some-Some
 returns-in-Some-Some c =
