@@ -15,6 +15,8 @@ pytestmark = pytest.mark.usefixtures("library")
 
 MANY = 20_000
 NESTINGS = [*range(8), 127, 128, 2**32 - 1]
+# How keys begin: also with four and with eight bytes that are the same, as which they are compared.
+FRONTS = [b"", b"x-", b"x-fi", b"x-first-", b"x-first-death-"]
 # A string, also one that the text ends in, or a bracket.
 STRING_OR_BRACKET = re.compile(rb'"(?:[^"\\]|\\.)*(?:"|\\?\Z)|[][{}]', re.DOTALL)
 Made = bytes | type[Exception] | av.Problem | None
@@ -76,6 +78,18 @@ def test_random_values_both_ways(seed: int) -> None:
         assert av.to_json(data) == text, data.hex()
         assert av.from_json(text) == write(value), text
         assert av.from_json(other) == write(value), other
+
+
+def test_tables_of_few_and_of_many_keys(seed: int) -> None:
+    """Up to 16 keys are sorted as they are found, more together: in both ways of equal keys the last counts."""
+    make = Random(seed)
+    for count in [*range(2, 40)] * 50:
+        keys = [make.choice(FRONTS) + bytes(make.choices(b"abc", k=make.randrange(4))) for _ in range(count)]
+        body = b"".join(bytes([len(it)]) + it + b"b" + make.randbytes(1) for it in keys)
+        data = b"F" + len(body).to_bytes(4, "big") + body
+        value = read(data)[0]
+        assert av.to_json(data) == compact(value), data.hex()
+        assert av.canonical(data) == write(value), data.hex()
 
 
 def test_texts_that_may_mean_none(seed: int) -> None:
