@@ -112,6 +112,12 @@ const FALLING: &[Piece] = &[Bytes(b"F\0\0\0\x06\x01bV\x01aV")];
 /// Another, whose JSON has more than four times its bytes, so that it is sorted twice.
 const SORTED_TWICE: &[Piece] = &[Bytes(b"F\0\0\0\x0c\x01cb\x05\x01bb\x06\x01ab\x07")];
 
+/// Seventeen keys that fall: one more than are sorted without memory.
+const MANY_FALLING: &[Piece] = &[
+    Bytes(b"F\0\0\0\x33\x01qV\x01pV\x01oV\x01nV\x01mV\x01lV\x01kV\x01jV"),
+    Bytes(b"\x01iV\x01hV\x01gV\x01fV\x01eV\x01dV\x01cV\x01bV\x01aV"),
+];
+
 /// An array of 4000 Voids, and its JSON.
 const VOIDS: &[Piece] = &[Bytes(b"A\0\0\x0f\xa0"), Times(4000, b"V")];
 
@@ -433,10 +439,11 @@ fn of_texts() -> &'static [Case] {
     "from_value" MEMORY [OfText(TextCall::FromValue, ONE_NUMBER_JSON), OfText(TextCall::FromValue, VOIDS_JSON)]
     "json_of_encoding" MEMORY [
         OfText(TextCall::JsonOfEncoding, ONE_NUMBER), OfText(TextCall::JsonOfEncoding, VOIDS),
-        OfText(TextCall::JsonOfEncoding, FALLING),
+        OfText(TextCall::JsonOfEncoding, FALLING), OfText(TextCall::JsonOfEncoding, MANY_FALLING),
     ]
     "write_sorted_json" SORTED [
         OfText(TextCall::WriteSortedJson, FALLING), OfText(TextCall::WriteSortedJson, SORTED_TWICE),
+        OfText(TextCall::WriteSortedJson, MANY_FALLING),
     ]
     "encoding_of_json" ENCODE [
         OfText(TextCall::EncodingOfJson, ONE_NUMBER_JSON), OfText(TextCall::EncodingOfJson, VOIDS_JSON),

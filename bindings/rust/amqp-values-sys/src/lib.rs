@@ -640,8 +640,9 @@ extern "C" {
     /// `count` becomes how many bytes were written (AMQPV_OK), how many more the field that is being read needs
     /// (AMQPV_MORE), or which capacity is needed (AMQPV_NO_ROOM), else 0. Also returns AMQPV_UNKNOWN_TAG,
     /// AMQPV_MALFORMED, AMQPV_TOO_LARGE or AMQPV_NO_MEMORY. It writes to the buffer without allocating, unless the keys
-    /// of a table don't ascend by their bytes, each once: then it allocates room for the text, and for such a table 8
-    /// bytes for each of its pairs. A text of more than 4,096 bytes is found twice, first to learn whether it fits.
+    /// of a table don't ascend by their bytes, each once: then it allocates room for the text, and for such a table at
+    /// most 8 bytes for each of its pairs. A text of more than 4,096 bytes is found twice, first to learn whether it
+    /// fits.
     pub fn amqpv_to_json(
         bytes: *const u8,
         length: usize,
@@ -663,8 +664,8 @@ extern "C" {
     /// `count` becomes how many bytes were written (AMQPV_OK), or which capacity is needed (AMQPV_NO_ROOM), else 0.
     /// Also returns AMQPV_NOT_JSON, AMQPV_NO_MEMORY, or AMQPV_NO_ENCODING if the value contains a ShortString, which
     /// has no type tag, or if a length is too large for its field. It allocates the encoding, and where a table's keys
-    /// don't ascend another and 8 bytes for each of its pairs. If the encoding would have 2^32 bytes or more, it
-    /// allocates a tree.
+    /// don't ascend another and at most 8 bytes for each of its pairs. If the encoding would have 2^32 bytes or more,
+    /// it allocates a tree.
     pub fn amqpv_from_json(
         text: *const u8,
         length: usize,
