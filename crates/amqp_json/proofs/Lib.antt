@@ -38,6 +38,7 @@ mod Named
 mod Unread
 mod Refused
 mod CanonicalSteps
+mod Exchanges
 pub mod Lanes
 mod Lexing
 mod Decimals

@@ -13,6 +13,7 @@ pub mod Tokens
 pub mod Converts
 -- for private clauses: encodings that are put after other bytes
 pub mod Encodes
+pub mod Exchanged
 -- for private clauses: what is written of a value, and a table's pairs by their keys
 pub mod Adds
 pub mod Sorted

@@ -188,9 +188,9 @@ IsPlaced o k d old new = MatchOption o ((members_json new ≡ put k d (members_j
 -- ---- a map of the places at which members begin that aren't those of entries
 
 -- a place is at that key now
-abbrev pub IsNoted : List (Bor (List ℕ) × ℕ) → Bor (List ℕ) → ℕ → List (Bor (List ℕ) × ℕ) → Type 0
+abbrev pub IsNoted : {P : Type 0} → List (Bor (List ℕ) × P) → Bor (List ℕ) → P → List (Bor (List ℕ) × P) → Type 0
 IsNoted old k at new = new ≡ insert_entry by_key old k at
 
 -- none is at that key any more
-abbrev pub IsForgotten : List (Bor (List ℕ) × ℕ) → List ℕ → List (Bor (List ℕ) × ℕ) → Type 0
+abbrev pub IsForgotten : {P : Type 0} → List (Bor (List ℕ) × P) → List ℕ → List (Bor (List ℕ) × P) → Type 0
 IsForgotten old k new = new ≡ remove_entry (at_key k) old

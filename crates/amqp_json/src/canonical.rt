@@ -1,16 +1,17 @@
-//! From an encoding that was read in place to the canonical one of its value.
+//! From an encoding to the canonical one of its value.
 
 ghost use Rattle.std.specs.Prelude.{◌≡◌, ◌++◌, OnOk, IfOk};
 ghost use Rattle.amqp_value_core.specs.Values.{Tree, Trees, Entries, array as array_tree, table as table_tree};
 ghost use Rattle.amqp_value_core.specs.Grammar.{Wire, ArrayBody, TableBody};
-ghost use Rattle.amqp_value_core.specs.Texts.{text, body, pairs};
+ghost use Rattle.amqp_value_core.specs.Texts.{text, body, pairs, Fits};
 ghost use Rattle.amqp_in_place.specs.Bodies.{HasEntries};
 ghost use Rattle.amqp_in_place.specs.Refs.{Denotes, array_body, table_body};
-ghost use Rattle.amqp_json.specs.Converts.{IsReadAs};
+ghost use Rattle.amqp_json.specs.Exchanged.{value_put, values_put, entries_put};
 ghost use Rattle.amqp_json.specs.Sorted.{AreLeft};
 
 use crate::encoding::Stop;
-use crate::encoding::put::{fill_length, put_head, put_key, put_plain};
+use crate::encoding::put::{fill_length, put_head, put_key};
+use crate::integers::{Integers, put_leaf};
 use crate::keys::keys_rise;
 use crate::sorted::SortedPairs;
 use amqp_in_place::{ArrayRef, TableRef, ValueRef, read_in_place_unlimited};
@@ -18,17 +19,62 @@ use std::alloc::Global;
 
 const MAX_DEPTH: usize = 127;
 
-/// The canonical encoding of the value that an encoding is one of.
-pub(crate) fn canonical_of(alloc: Global, bytes: &[u8]) -> Result<Vec<u8>, Stop>
-    ensures text { IfOk result (λ out. (v : Tree) → Wire bytes.now v → out.items ≡ text v) }
-    ensures read_back { IfOk result (λ out. (v : Tree) → Wire bytes.now v
-        → IsReadAs out.items v) }
+/// The canonical encoding of the value that an encoding is one of, for a text of that many bytes. With what it
+/// is given it holds at most 8 bytes for each of the text's.
+pub(crate) fn canonical_of(
+    alloc: Global,
+    bytes: Vec<u8>,
+    text_len: usize,
+) -> Result<Vec<u8>, Stop>
+    ensures text { IfOk result (λ out. (v : Tree) → Wire bytes.items v → out.items ≡ text v) }
+    ensures encoding { IfOk result (λ out. (v : Tree) → Wire bytes.items v → Wire out.items v) }
+{
+    // Two encodings of this many bytes, with the places of pairs, take less than 8 for each byte of the text.
+    let most = text_len.saturating_mul(27) / 8;
+    if bytes.len() > most {
+        return canonical_by_exchange(alloc, bytes);
+    }
+    let mut bytes = bytes;
+    if bytes.capacity() > most {
+        bytes.shrink_to_fit();
+    }
+    sorted_encoding(alloc, bytes.as_slice(), bytes.len(), Integers::Kept)
+}
+
+// The canonical encoding, without another that is as large beside the one that is given: so many bytes are
+// mostly those of LongLongInts of one digit, of which an encoding that has ShortShortInts for them takes less.
+#[inline(never)]
+fn canonical_by_exchange(alloc: Global, bytes: Vec<u8>) -> Result<Vec<u8>, Stop>
+    ensures text { IfOk result (λ out. (v : Tree) → Wire bytes.items v → out.items ≡ text v) }
+    ensures encoding { IfOk result (λ out. (v : Tree) → Wire bytes.items v → Wire out.items v) }
+{
+    let len = bytes.len();
+    let small = sorted_encoding(alloc, bytes.as_slice(), len - len / 4, Integers::Exchanged)?;
+    drop(bytes);
+    let Ok(_) = u32::try_from(small.len()) else {
+        return Err(Stop::NotHere);
+    };
+    sorted_encoding(alloc, small.as_slice(), len, Integers::Exchanged)
+}
+
+// The canonical encoding of the value that an encoding is one of, with integers put so, in a vector of that
+// capacity at first.
+fn sorted_encoding(
+    alloc: Global,
+    bytes: &[u8],
+    capacity: usize,
+    integers: Integers,
+) -> Result<Vec<u8>, Stop>
+    ensures text { IfOk result (λ out. (v : Tree) → Wire bytes.now v
+        → out.items ≡ text (value_put integers v)) }
+    ensures encoding { IfOk result (λ out. (v : Tree) → Wire bytes.now v → Fits (value_put integers v)
+        → Wire out.items (value_put integers v)) }
 {
     let Ok((value, _)) = read_in_place_unlimited(bytes) else {
         return Err(Stop::NotHere);
     };
-    let mut out = Vec::with_capacity(alloc, bytes.len())?;
-    put_value(alloc, &mut out, value, MAX_DEPTH)?;
+    let mut out = Vec::with_capacity(alloc, capacity)?;
+    put_value(alloc, &mut out, value, integers, MAX_DEPTH)?;
     Ok(out)
 }
 
@@ -38,25 +84,26 @@ fn put_value(
     alloc: Global,
     out: &mut Vec<u8>,
     value: ValueRef<'_>,
+    integers: Integers,
     depth: usize,
 ) -> Result<(), Stop>
     ensures { OnOk result ((v : Tree) → Denotes value.entry v
-        → out.new.items ≡ out.old.items ++ text v) }
+        → out.new.items ≡ out.old.items ++ text (value_put integers v)) }
 {
     match value {
         ValueRef::FieldArray(array) => {
             if depth == 0 {
                 return Err(Stop::NotHere);
             }
-            put_array(alloc, out, array, depth - 1)
+            put_array(alloc, out, array, integers, depth - 1)
         }
         ValueRef::FieldTable(table) => {
             if depth == 0 {
                 return Err(Stop::NotHere);
             }
-            put_table(alloc, out, table, depth - 1)
+            put_table(alloc, out, table, integers, depth - 1)
         }
-        _ => put_plain(out, value),
+        _ => put_leaf(out, value, integers),
     }
 }
 
@@ -66,14 +113,15 @@ fn put_array(
     alloc: Global,
     out: &mut Vec<u8>,
     array: ArrayRef<'_>,
+    integers: Integers,
     depth: usize,
 ) -> Result<(), Stop>
     ensures { OnOk result ((vs : Trees) → ArrayBody (array_body array.entry) vs
-        → out.new.items ≡ out.old.items ++ text (array_tree vs)) }
+        → out.new.items ≡ out.old.items ++ text (array_tree (values_put integers vs))) }
 {
     let at = out.len() + 1;
     put_head(out, b'A')?;
-    put_items(alloc, out, array, depth)?;
+    put_items(alloc, out, array, integers, depth)?;
     fill_length(out, at)
 }
 
@@ -83,13 +131,14 @@ fn put_items(
     alloc: Global,
     out: &mut Vec<u8>,
     array: ArrayRef<'_>,
+    integers: Integers,
     depth: usize,
 ) -> Result<(), Stop>
     ensures { OnOk result ((vs : Trees) → ArrayBody (array_body array.entry) vs
-        → out.new.items ≡ out.old.items ++ body vs) }
+        → out.new.items ≡ out.old.items ++ body (values_put integers vs)) }
 {
     for item in array.iter() {
-        put_value(alloc, out, item, depth)?;
+        put_value(alloc, out, item, integers, depth)?;
     }
     Ok(())
 }
@@ -100,14 +149,15 @@ fn put_table(
     alloc: Global,
     out: &mut Vec<u8>,
     table: TableRef<'_>,
+    integers: Integers,
     depth: usize,
 ) -> Result<(), Stop>
     ensures { OnOk result ((es : Entries) → HasEntries (table_body table.entry) es
-        → out.new.items ≡ out.old.items ++ text (table_tree es)) }
+        → out.new.items ≡ out.old.items ++ text (table_tree (entries_put integers es))) }
 {
     let at = out.len() + 1;
     put_head(out, b'F')?;
-    put_entries(alloc, out, table, depth)?;
+    put_entries(alloc, out, table, integers, depth)?;
     fill_length(out, at)
 }
 
@@ -118,16 +168,17 @@ fn put_entries(
     alloc: Global,
     out: &mut Vec<u8>,
     table: TableRef<'_>,
+    integers: Integers,
     depth: usize,
 ) -> Result<(), Stop>
     ensures { OnOk result ((es : Entries) → HasEntries (table_body table.entry) es
-        → out.new.items ≡ out.old.items ++ pairs es) }
+        → out.new.items ≡ out.old.items ++ pairs (entries_put integers es)) }
 {
     if keys_rise(table) {
-        return put_pairs(alloc, out, table, depth);
+        return put_pairs(alloc, out, table, integers, depth);
     }
     let sorted = SortedPairs::new(alloc, table)?;
-    put_sorted(alloc, out, sorted, depth)
+    put_sorted(alloc, out, sorted, integers, depth)
 }
 
 #[cycle(canonical)]
@@ -136,14 +187,15 @@ fn put_pairs(
     alloc: Global,
     out: &mut Vec<u8>,
     table: TableRef<'_>,
+    integers: Integers,
     depth: usize,
 ) -> Result<(), Stop>
     ensures { OnOk result ((ps : Entries) → TableBody (table_body table.entry) ps
-        → out.new.items ≡ out.old.items ++ pairs ps) }
+        → out.new.items ≡ out.old.items ++ pairs (entries_put integers ps)) }
 {
     for (key, value) in table.iter() {
         put_key(out, key)?;
-        put_value(alloc, out, value, depth)?;
+        put_value(alloc, out, value, integers, depth)?;
     }
     Ok(())
 }
@@ -154,14 +206,15 @@ fn put_sorted(
     alloc: Global,
     out: &mut Vec<u8>,
     sorted: SortedPairs<'_>,
+    integers: Integers,
     depth: usize,
 ) -> Result<(), Stop>
     ensures { OnOk result ((es : Entries) → AreLeft sorted.entry es
-        → out.new.items ≡ out.old.items ++ pairs es) }
+        → out.new.items ≡ out.old.items ++ pairs (entries_put integers es)) }
 {
     for (key, value) in sorted {
         put_key(out, key)?;
-        put_value(alloc, out, value, depth)?;
+        put_value(alloc, out, value, integers, depth)?;
     }
     Ok(())
 }

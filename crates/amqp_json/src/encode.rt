@@ -62,7 +62,7 @@ fn direct_encoding(alloc: Global, json: &str) -> Result<Option<Vec<u8>>, EncodeE
     if is_canonical(bytes.as_slice(), UNLIMITED) {
         return Ok(Some(bytes));
     }
-    match canonical_of(alloc, bytes.as_slice()) {
+    match canonical_of(alloc, bytes, json.len()) {
         Ok(canonical) => Ok(Some(canonical)),
         Err(Stop::OutOfMemory) => Err(EncodeError::OutOfMemory),
         Err(Stop::NotHere | Stop::NotAValue | Stop::NoEncoding) => Ok(None),

@@ -96,9 +96,7 @@ pub(crate) fn encoding_of_text(alloc: Global, text: &str) -> Result<Option<Vec<u
 {
     let mut scratch = Scratch::new(alloc);
     let mut reader = Lexer::new(text, &mut scratch);
-    // An encoding has at most 4.5 bytes for each byte of the text, and 4.5 more: two doublings suffice.
-    let capacity = text.len() / 8 + text.len() + 2;
-    match encoding_of_tokens(alloc, &mut reader, capacity) {
+    match encoding_of_tokens(alloc, &mut reader, most_len(text)) {
         Ok(bytes) => Ok(Some(bytes)),
         Err(Stop::OutOfMemory) => Err(EncodeError::OutOfMemory),
         Err(Stop::NotHere) => Ok(None),
@@ -108,6 +106,14 @@ pub(crate) fn encoding_of_text(alloc: Global, text: &str) -> Result<Option<Vec<u
             Err(EncodeError::Json(JsonError::NotAValue(at)))
         }
     }
+}
+
+// At most how many bytes an encoding of a text has. Asked for at once, none is held twice while a vector grows: seven more
+// than the text for each byte that may end a value, and 4.5 for each of the text's, as numbers of one digit take.
+fn most_len(text: &str) -> usize {
+    let ends = text.bytes().filter(|it| matches!(it, b',' | b']' | b'}'));
+    let by_ends = ends.count().saturating_mul(7).saturating_add(text.len());
+    by_ends.min(text.len().saturating_mul(9) / 2).saturating_add(9)
 }
 
 // An encoding of the value whose tokens are those of a text, in a vector of that capacity at first.

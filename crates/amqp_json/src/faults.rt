@@ -8,10 +8,10 @@ use std::collections::BTreeMap;
 
 /// Notes where the value of a key begins.
 #[inline(never)]
-pub(crate) fn note<'a>(
-    bad: &mut BTreeMap<&'a str, usize>,
+pub(crate) fn note<'a, P: Drop>(
+    bad: &mut BTreeMap<&'a str, P>,
     name: &'a str,
-    at: usize,
+    at: P,
 ) -> Result<(), AllocError>
     ensures { OnOk result (IsNoted bad.old.entries name.entry at bad.new.entries) }
 {
@@ -21,7 +21,7 @@ pub(crate) fn note<'a>(
 
 /// Notes that the key has a value.
 #[inline(never)]
-pub(crate) fn forget(bad: &mut BTreeMap<&str, usize>, name: &str)
+pub(crate) fn forget<P: Drop>(bad: &mut BTreeMap<&str, P>, name: &str)
     ensures { IsForgotten bad.old.entries name.now bad.new.entries }
 {
     drop(bad.remove(name));
@@ -50,7 +50,7 @@ pub(crate) fn mark<'a>(
 
 /// The first of the places, if there is one.
 #[inline(never)]
-pub(crate) fn least(bad: &BTreeMap<&str, usize>) -> Option<usize>
+pub(crate) fn least<P: Copy + Ord>(bad: &BTreeMap<&str, P>) -> Option<P>
     ensures none { result ≡ None → bad.now.entries ≡ [] }
     ensures some { IfSome result (λ _. bad.now.entries ≢ []) }
 {

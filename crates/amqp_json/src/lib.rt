@@ -14,6 +14,7 @@ mod error;
 mod faults;
 mod few_places;
 mod in_place;
+mod integers;
 mod key_order;
 mod keys;
 pub mod laws;

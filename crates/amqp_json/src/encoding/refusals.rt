@@ -1,10 +1,11 @@
 //! The members of a table that aren't put, as long as no later value of their key is.
 
-ghost use Rattle.std.specs.Prelude.{◌≡◌, ◌≢◌, [], None, OnOk, IfSome};
-ghost use Rattle.amqp_json.specs.Encodes.{AreMarked, IsReason};
+ghost use Rattle.std.specs.Prelude.{◌≡◌, ◌≢◌, [], None, OnOk, IfErr, IfSome};
+ghost use Rattle.amqp_json.specs.Encodes.{AreMarked, IsReason, OnNotAValue};
 
+use super::Stop;
 use crate::faults::{forget, least, note};
-use std::alloc::{AllocError, Global};
+use std::alloc::Global;
 use std::collections::BTreeMap;
 
 /// Why a member of a table isn't put.
@@ -19,10 +20,10 @@ pub(crate) enum Refusal {
 /// The keys of which the last value isn't put.
 #[derive(Drop)]
 pub(crate) struct Refusals<'a> {
-    /// Those of no entries, and where their values begin.
-    bad: BTreeMap<&'a str, usize>,
+    /// Those of no entries, and where their values begin: in four bytes, as a text may have many.
+    bad: BTreeMap<&'a str, u32>,
     /// Those whose value has no encoding. One may be among the others, too.
-    unencoded: BTreeMap<&'a str, usize>,
+    unencoded: BTreeMap<&'a str, u32>,
 }
 
 impl<'a> Refusals<'a> {
@@ -36,11 +37,12 @@ impl<'a> Refusals<'a> {
         }
     }
 
-    /// Notes why the value of a key isn't put, or that it is.
+    /// Notes why the value of a key isn't put, or that it is. A byte of 2^32 or later isn't noted.
     #[inline(never)]
-    pub(crate) fn mark(&mut self, name: &'a str, found: Option<Refusal>) -> Result<(), AllocError>
-        ensures { OnOk result (AreMarked found name.entry self.old.bad.entries self.new.bad.entries
+    pub(crate) fn mark(&mut self, name: &'a str, found: Option<Refusal>) -> Result<(), Stop>
+        ensures ok { OnOk result (AreMarked found name.entry self.old.bad.entries self.new.bad.entries
             self.old.unencoded.entries self.new.unencoded.entries) }
+        ensures refused { IfErr result (λ e. OnNotAValue e ⊥) }
     {
         match found {
             None => {
@@ -48,10 +50,15 @@ impl<'a> Refusals<'a> {
                 forget(&mut self.unencoded, name);
                 Ok(())
             }
-            Some(Refusal::NotAnEntry(at)) => note(&mut self.bad, name, at),
+            Some(Refusal::NotAnEntry(at)) => {
+                let Ok(at) = u32::try_from(at) else {
+                    return Err(Stop::NotHere);
+                };
+                Ok(note(&mut self.bad, name, at)?)
+            }
             Some(Refusal::NoEncoding) => {
                 forget(&mut self.bad, name);
-                note(&mut self.unencoded, name, 0)
+                Ok(note(&mut self.unencoded, name, 0)?)
             }
         }
     }
@@ -63,7 +70,7 @@ impl<'a> Refusals<'a> {
         ensures some { IfSome result (λ reason. IsReason reason self.now.bad.entries self.now.unencoded.entries) }
     {
         if let Some(at) = least(&self.bad) {
-            return Some(Refusal::NotAnEntry(at));
+            return Some(Refusal::NotAnEntry(at as usize));
         }
         let _ = least(&self.unencoded)?;
         Some(Refusal::NoEncoding)

@@ -461,7 +461,7 @@ put_rest-members-init t c =
     let k = c.args.first.0 in
     let next = option_map (λ (b : Bor (List ℕ)). b.now) c.args.key in
     let map = c.new-refusals in
-    (λ before d stored is table. rest_first (value c.args.depth) before c.args.out.now.items c.args.first.1 _ _ _ _ k d next c.args.reader.now map.ensures.bad map.ensures.unencoded c.in_ok-mark.ensures stored is table, omega arith)
+    (λ before d stored is table. rest_first (value c.args.depth) before c.args.out.now.items c.args.first.1 _ _ _ _ k d next c.args.reader.now map.ensures.bad map.ensures.unencoded c.in_ok-mark.ensures.ok stored is table, omega arith)
 
 pub put_rest-members-preserved : goal.put_rest-members-preserved
 put_rest-members-preserved t c =
@@ -477,7 +477,7 @@ put_rest-members-preserved t c =
           let all = put c.args.first.0.now d (members_json before) in
           let ts = next_token (option_map (λ (b : Bor (List ℕ)). b.now) c.args.key) ∷ c.args.reader.now in
           let left = subst (λ (n : Option (Bor (List ℕ))). RestLeft p before all ts l.refusals.bad.entries l.refusals.unencoded.entries (option_map (λ b. b.now) n) l.reader c.args.out.now.items l.out.items) c.in-Some.is (l.invariant.0 before d stored is table) in
-          rest_next p before c.args.out.now.items all ts c.in_ok-found.found k _ _ _ _ _ l.reader r c.next_key.new.self l.out.items c.put_member.new.out.items left found c.in_ok-mark-2.ensures taken after,
+          rest_next p before c.args.out.now.items all ts c.in_ok-found.found k _ _ _ _ _ l.reader r c.next_key.new.self l.out.items c.put_member.new.out.items left found c.in_ok-mark-2.ensures.ok taken after,
       omega (arith, less, taken, l.invariant.1),
     )
 
