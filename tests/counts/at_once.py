@@ -131,6 +131,14 @@ BEFORE = {
     "of no encoding": '{"":{"ShortString":""},"":', "of no encoding of a type": '{"LongInt":{"ShortString":""},"":',
     "of sixteen of no value": "{" + "".join(f'"{chr(112 - n)}":-0,' for n in range(16)) + '"":',
 }  # fmt: skip
+# What an array has again and again that comes before a lower key, so that its encoding is made twice: of more than 27 bytes for
+# 8 of the text by way of a smaller one, otherwise beside another that is as large.
+BEFORE_LOWER = {
+    "zeros": "0", "zeros and numbers below zero": "0,-1", "a zero and two numbers below zero": "0,-1,-1", "arrays of a zero": "[0]",
+    "numbers of three digits": "128", "tables of keys that fall": '{"a":0,"":0}',
+}  # fmt: skip
+# How many bytes the texts have of which most memory is taken besides.
+LARGE = 100_000
 # A decimal with a key twice.
 TWICE = '{"DecimalValue":{"scale":0,"scale":0,"value":0}}'
 
@@ -240,8 +248,21 @@ def texts(n: int) -> Iterator[tuple[str, str]]:
     yield "JSON, a byte array", '{"ByteArray":"' + "ff" * (n // 2) + '"}'
 
 
+def large_texts(n: int) -> Iterator[tuple[str, str]]:
+    """Texts of so many bytes, of which most is taken for each byte, or besides."""
+    for name, items in BEFORE_LOWER.items():
+        yield f"JSON, {name} before a lower key", f'{{"b":[{",".join([items] * (n // (len(items) + 1)))}],"a":0}}'
+    for name, of_keys in (("in order", short_keys(n // 8)), ("in reverse", short_keys(n // 8)[::-1])):
+        yield f"JSON of no value, keys of no value {name}", "{" + "".join(f'"{it}":-0,' for it in of_keys) + '"\\n":-0}'
+        of_few = short_keys(94)[1:] if name == "in order" else short_keys(94)[:0:-1]
+        members = '"\\n":-0,' + "".join(f'"{it}":-0,' for it in of_few)
+        yield f"JSON of no value, as many of no value at each level {name}", f'{{{members}"":' * 126 + "-0" + "}" * 126
+
+
 def inputs() -> Iterator[tuple[str, bytes]]:
     """The name and the bytes of each input."""
+    for name, text in large_texts(LARGE):
+        yield f"{name}, {len(text)} bytes", text.encode()
     for n in SIZES:
         for name, content in encodings(n):
             yield f"{name}, {n} bytes", field(b"A", content)

@@ -17,6 +17,8 @@ MANY = 20_000
 NESTINGS = [*range(8), 127, 128, 2**32 - 1]
 # How keys begin: also with four and with eight bytes that are the same, as which they are compared.
 FRONTS = [b"", b"x-", b"x-fi", b"x-first-", b"x-first-death-"]
+# Numbers next to which the bytes of a ShortShortInt are no longer those of a LongLongInt, or it has no such number.
+NEAR_SHORT = ["0", "1", "127", "-1", "-127", "-128", "128", "-129"]
 # A string, also one that the text ends in, or a bracket.
 STRING_OR_BRACKET = re.compile(rb'"(?:[^"\\]|\\.)*(?:"|\\?\Z)|[][{}]', re.DOTALL)
 Made = bytes | type[Exception] | av.Problem | None
@@ -90,6 +92,19 @@ def test_tables_of_few_and_of_many_keys(seed: int) -> None:
         value = read(data)[0]
         assert av.to_json(data) == compact(value), data.hex()
         assert av.canonical(data) == write(value), data.hex()
+
+
+def test_many_short_numbers_before_a_lower_key(seed: int) -> None:
+    """An encoding of over 27 bytes for 8 of the text is sorted with LongLongInts and ShortShortInts in each other's place."""
+    make = Random(seed)
+    odd = [*NEAR_SHORT, *(f'{{"ShortShortInt":{it}}}' for it in NEAR_SHORT[:-2]), '{"b":1,"a":{"ShortShortInt":1}}', '{"a":1,"a":-1}']
+    for _ in range(500):
+        items = [str(make.randrange(10)) for _ in range(400)] + make.choices(odd, k=8)
+        make.shuffle(items)
+        text = f'{{"b":[{",".join(items)}],"a":{make.choice(odd)}}}'.encode()
+        wanted = write(value_of_json(parsed(text)))
+        assert len(wanted) * 8 > len(text) * 27
+        assert av.from_json(text) == wanted, text
 
 
 def test_texts_that_may_mean_none(seed: int) -> None:

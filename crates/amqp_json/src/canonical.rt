@@ -21,11 +21,7 @@ const MAX_DEPTH: usize = 127;
 
 /// The canonical encoding of the value that an encoding is one of, for a text of that many bytes. With what it
 /// is given it holds at most 8 bytes for each of the text's.
-pub(crate) fn canonical_of(
-    alloc: Global,
-    bytes: Vec<u8>,
-    text_len: usize,
-) -> Result<Vec<u8>, Stop>
+pub(crate) fn canonical_of(alloc: Global, bytes: Vec<u8>, text_len: usize) -> Result<Vec<u8>, Stop>
     ensures text { IfOk result (λ out. (v : Tree) → Wire bytes.items v → out.items ≡ text v) }
     ensures encoding { IfOk result (λ out. (v : Tree) → Wire bytes.items v → Wire out.items v) }
 {

@@ -27,6 +27,7 @@ mod object;
 mod plain;
 pub(crate) mod put;
 mod refusals;
+mod room;
 
 use crate::conversion_error::EncodeError;
 use crate::error::{JsonError, ValueError};
@@ -44,6 +45,7 @@ use object::{Object, TABLE};
 use plain::put_integer;
 use put::{fill_length, put_boolean, put_head, put_key, put_short_key, put_text, put_void};
 use refusals::{Refusal, Refusals};
+use room::make_room;
 use std::alloc::{AllocError, Global};
 
 /// Why no encoding was put.
@@ -96,7 +98,9 @@ pub(crate) fn encoding_of_text(alloc: Global, text: &str) -> Result<Option<Vec<u
 {
     let mut scratch = Scratch::new(alloc);
     let mut reader = Lexer::new(text, &mut scratch);
-    match encoding_of_tokens(alloc, &mut reader, most_len(text)) {
+    // An encoding has at most 4.5 bytes for each byte of the text, and 4.5 more: two doublings suffice.
+    let capacity = text.len() / 8 + text.len() + 2;
+    match encoding_of_tokens(alloc, &mut reader, capacity) {
         Ok(bytes) => Ok(Some(bytes)),
         Err(Stop::OutOfMemory) => Err(EncodeError::OutOfMemory),
         Err(Stop::NotHere) => Ok(None),
@@ -106,14 +110,6 @@ pub(crate) fn encoding_of_text(alloc: Global, text: &str) -> Result<Option<Vec<u
             Err(EncodeError::Json(JsonError::NotAValue(at)))
         }
     }
-}
-
-// At most how many bytes an encoding of a text has. Asked for at once, none is held twice while a vector grows: seven more
-// than the text for each byte that may end a value, and 4.5 for each of the text's, as numbers of one digit take.
-fn most_len(text: &str) -> usize {
-    let ends = text.bytes().filter(|it| matches!(it, b',' | b']' | b'}'));
-    let by_ends = ends.count().saturating_mul(7).saturating_add(text.len());
-    by_ends.min(text.len().saturating_mul(9) / 2).saturating_add(9)
 }
 
 // An encoding of the value whose tokens are those of a text, in a vector of that capacity at first.
@@ -286,8 +282,8 @@ fn put_items(
     }
 }
 
-// Reads the items that are left after one of which no encoding is put, and returns why the array's isn't:
-// as the first, or since a later one is no value. What is put of them is cut off with the array.
+// Reads the items that are left after one of which no encoding is put, and returns why none of the array is:
+// as of the first, or since a later one is no value. What is put of them is cut off with the array.
 #[cycle(encode)]
 #[cold]
 #[inline(never)]
@@ -544,6 +540,7 @@ fn put_rest<'a>(
         (next_token (option_map (λ s. s.now) key.entry) ∷ reader.old) reader.new
         × Extends out.old.items out.new.items)) }
 {
+    make_room(reader, out)?;
     let mut refusals = Refusals::new(alloc);
     refusals.mark(first.0, Some(first.1))?;
     let mut next = key;

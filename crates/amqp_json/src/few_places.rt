@@ -15,8 +15,8 @@ use std::cmp::Ordering;
 /// The most places that are sorted so.
 pub(crate) const FEW: usize = 16;
 
-/// The places of the pairs in the order of their keys, of equal keys that of the last pair, unless
-/// they have more keys.
+/// The places of the pairs in the order of their keys, of equal keys that of the last pair, if there
+/// are at most 16 keys.
 pub(crate) fn few_places(table: TableRef<'_>) -> Option<ArrayVec<usize, FEW>>
     ensures { IfSome result (λ few. (ps : Entries) → TableBody (table_body table.entry) ps
         → BeginAt (table_body table.entry) few.items (insert_all no_entries ps)) }

@@ -50,6 +50,8 @@ pub(crate) struct Lexer<'a> {
     scratch: Option<&'a mut Scratch>,
     // Not in the errors, so that results are small.
     fault: usize,
+    // Whether it was asked for what is left.
+    is_left_told: bool,
 }
 
 impl<'a> Model for Lexer<'a> {
@@ -450,6 +452,7 @@ impl<'a> Lexer<'a> {
             reader: None,
             scratch: Some(scratch),
             fault: 0,
+            is_left_told: false,
         }
     }
 
@@ -475,6 +478,17 @@ impl<'a> Lexer<'a> {
         ensures { self.new ≡ self.old }
     {
         self.fault = at;
+    }
+
+    /// What is left of the text, when it is asked for first.
+    pub(crate) fn left_once(&mut self) -> Option<&'a str>
+        ensures { self.new ≡ self.old }
+    {
+        if self.is_left_told {
+            return None;
+        }
+        self.is_left_told = true;
+        self.text.get(self.offset()..)
     }
 
     /// The next token.

@@ -458,10 +458,22 @@ put_members-returns-in-Some-2-clause-refused t c =
 
 pub put_rest-members-init : goal.put_rest-members-init
 put_rest-members-init t c =
+    let p = value c.args.depth in
     let k = c.args.first.0 in
+    let old = c.args.out.now.items in
     let next = option_map (λ (b : Bor (List ℕ)). b.now) c.args.key in
     let map = c.new-refusals in
-    (λ before d stored is table. rest_first (value c.args.depth) before c.args.out.now.items c.args.first.1 _ _ _ _ k d next c.args.reader.now map.ensures.bad map.ensures.unencoded c.in_ok-mark.ensures.ok stored is table, omega arith)
+    let marks = c.mark.new.self in
+    let made = c.make_room.ensures in
+    let same : length c.make_room.new.reader ≡ length c.args.reader.now = ap length made.reader in (
+      λ before d stored is table.
+          let all = put k.now d (members_json before) in
+          let ts = next_token next ∷ c.args.reader.now in
+          let first = rest_first p before old c.args.first.1 _ _ _ _ k d next c.args.reader.now map.ensures.bad map.ensures.unencoded c.in_ok-mark.ensures.ok stored is table in
+          subst (λ (out : List ℕ). RestLeft p before all ts marks.bad.entries marks.unencoded.entries next c.make_room.new.reader old out) (sym made.out)
+          (subst (λ (now : List Token). RestLeft p before all ts marks.bad.entries marks.unencoded.entries next now old old) (sym made.reader) first),
+      omega (arith, same),
+    )
 
 pub put_rest-members-preserved : goal.put_rest-members-preserved
 put_rest-members-preserved t c =
