@@ -1,7 +1,7 @@
 /*
  * Makes each call that allocates over each input, for tests/counts/run: at_once FOLDER. Prints a line for each: the call, the
- * input, how many bytes it has, values and levels if these are counted, and the most bytes that were held at once, while
- * realloc has its old block and the new one too.
+ * input, whether it is done or rejected, how many bytes it has, values and levels if these are counted, and the most bytes
+ * that were held at once, while realloc has its old block and the new one too.
  *
  * An input is a value's encoding, whose JSON is read too. If its name begins with `JSON` it is a text, which is rejected if that
  * is `JSON of no value`, and with `malformed` no value. Each call is made again without the last byte, and with another one,
@@ -76,23 +76,28 @@ static void need(int is_well, const char *name) {
     }
 }
 
+static int is_done(amqpv_result result) {
+    return result == AMQPV_OK || result == AMQPV_NONE;
+}
+
 static amqpv_result try_bytes(const call *it, const char *name, const uint8_t *given, size_t given_length) {
     amqpv_measure measure;
     size_t taken;
-    printf("%s | %s | %zu", it->name, name, given_length);
-    if (it->count != NULL && it->count(given, given_length, UINT32_MAX, DEPTH, &measure, &taken) == AMQPV_OK) {
-        printf(" %zu %zu", measure.values, measure.levels);
-    }
+    int is_counted =
+        it->count != NULL && it->count(given, given_length, UINT32_MAX, DEPTH, &measure, &taken) == AMQPV_OK;
     count_anew();
     amqpv_result result = it->make(given, given_length);
+    printf("%s | %s | %s | %zu", it->name, name, is_done(result) ? "done" : "rejected", given_length);
+    if (is_counted) {
+        printf(" %zu %zu", measure.values, measure.levels);
+    }
     printf(" %" PRIu64 "\n", most_moving);
     need(held == 0, name);
     return result;
 }
 
-static void try_call(const call *it, const char *name, uint8_t *given, size_t given_length, int is_done) {
-    amqpv_result result = try_bytes(it, name, given, given_length);
-    need((result == AMQPV_OK || result == AMQPV_NONE) == is_done, name);
+static void try_call(const call *it, const char *name, uint8_t *given, size_t given_length, int wants_done) {
+    need(is_done(try_bytes(it, name, given, given_length)) == wants_done, name);
     try_bytes(it, name, given, given_length - 1);
     given[given_length - 1] ^= 0x77;
     try_bytes(it, name, given, given_length);

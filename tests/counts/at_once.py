@@ -43,16 +43,36 @@ class Most(NamedTuple):
 
 FOR_EACH = r"(\d+) for each (byte|value|level)"
 ADDED = r" of the text and ([\d,]+) more"
-STATED = re.compile(rf"(amqpv_\w+(?: and amqpv_\w+)*) {FOR_EACH}((?:(?:, or | and ){FOR_EACH})*)(?:{ADDED})?")
+IF_REJECTED = r", or (\d+) for each byte and ([\d,]+) more if it is rejected"
+STATED = re.compile(
+    rf"(amqpv_\w+(?: and amqpv_\w+)*) {FOR_EACH}((?:(?:, or | and ){FOR_EACH})*)(?:{ADDED}(?:{IF_REJECTED})?)?"
+)
 
 
-def stated() -> dict[tuple[str, ...], Most]:
+class Stated(NamedTuple):
+    """The most memory of calls that are done, and of calls that reject their input."""
+
+    done: Most
+    rejected: Most
+
+    def of(self, it: "Held") -> Most:
+        """That of a call."""
+        return self.rejected if it.is_rejected else self.done
+
+
+def number(text: str) -> int:
+    """A number, which may have commas."""
+    return int(text.replace(",", ""))
+
+
+def stated() -> dict[tuple[str, ...], Stated]:
     """What the header states, of each call or of several."""
     text, figures = " ".join(HEADER.read_text().replace("\n * ", " ").split()), {}
-    for names, alone, _, others, *_, added in STATED.findall(text):
+    for names, alone, _, others, *_, added, of_rejected, more_of_rejected in STATED.findall(text):
         more = {kind: int(figure) for figure, kind in re.findall(FOR_EACH, others)}
-        more |= {"added": int(added.replace(",", ""))} if added else {}
-        figures[tuple(names.split(" and "))] = Most(int(alone), **more)
+        done = Most(int(alone), number(added) if added else 0, **more)
+        rejected = Most(int(of_rejected), number(more_of_rejected)) if of_rejected else done
+        figures[tuple(names.split(" and "))] = Stated(done, rejected)
     return figures
 
 
@@ -249,14 +269,24 @@ def texts(n: int) -> Iterator[tuple[str, str]]:
 
 
 def large_texts(n: int) -> Iterator[tuple[str, str]]:
-    """Texts of so many bytes, of which most is taken for each byte, or besides."""
+    """Texts of about so many bytes, of which most is taken for each byte, or besides."""
     for name, items in BEFORE_LOWER.items():
         yield f"JSON, {name} before a lower key", f'{{"b":[{",".join([items] * (n // (len(items) + 1)))}],"a":0}}'
+    # (of nearly 27 bytes for 8 of the text, in a vector of more, and beside many places)
+    falling = ",".join(f'"{it.decode()}":0' for it in reversed(keys(n // 2)))
+    yield "JSON, zeros and keys that fall", f'{{"z":[{",".join("0" * (3 * n + n // 2))}],{falling}}}'
+    both = BEFORE["of no encoding and of no value"]
+    yield "JSON, objects of no encoding and of no value", both * 126 + "0" + "}" * 126
+    yield "JSON of no value, objects of no encoding and of no value at the end, too", both * 126 + "-0" + "}" * 126
+    # (a map has a node more where the last of these is another)
+    for count in (17, 137):
+        refused = "".join(f'"{it}":-0,' for it in short_keys(count)[:-1])
+        members = f'{{{refused}"~":{SHORT_STRING},"":'
+        yield f"JSON of no value, {count} keys at each level", '{"\\n":-0,"":' + members * 125 + "-0" + "}" * 126
     for name, of_keys in (("in order", short_keys(n // 8)), ("in reverse", short_keys(n // 8)[::-1])):
-        yield f"JSON of no value, keys of no value {name}", "{" + "".join(f'"{it}":-0,' for it in of_keys) + '"\\n":-0}'
-        of_few = short_keys(94)[1:] if name == "in order" else short_keys(94)[:0:-1]
-        members = '"\\n":-0,' + "".join(f'"{it}":-0,' for it in of_few)
-        yield f"JSON of no value, as many of no value at each level {name}", f'{{{members}"":' * 126 + "-0" + "}" * 126
+        yield f"JSON of no value, keys of no value {name}", '{"\\n":-0,' + "".join(
+            f'"{it}":-0,' for it in of_keys
+        ) + '"":-0}'
 
 
 def inputs() -> Iterator[tuple[str, bytes]]:
@@ -276,24 +306,25 @@ def inputs() -> Iterator[tuple[str, bytes]]:
 
 
 class Held(NamedTuple):
-    """A call, the shape of its input, how many bytes that has, perhaps values and levels, and the most bytes that were held."""
+    """A call, the shape of its input and whether that is rejected, how many bytes it has, perhaps values and levels, and the most that were held."""
 
     call: str
     shape: str
+    is_rejected: bool
     counts: list[int]
     most: int
 
 
 def held(line: str) -> Held:
     """A line that at_once.c prints."""
-    call, name, numbers = line.split(" | ")
+    call, name, done, numbers = line.split(" | ")
     *counts, most = map(int, numbers.split())
-    return Held(call, re.sub(r", \d+ bytes$", "", name), counts, most)
+    return Held(call, re.sub(r", \d+ bytes$", "", name), done == "rejected", counts, most)
 
 
-def over(found: list[Held], most: Most) -> dict[str, str]:
+def over(found: list[Held], stated: Stated) -> dict[str, str]:
     """The shapes of which more is held than may be, each with the last that is."""
-    limits = [(it, most.of(it.counts)) for it in found]
+    limits = [(it, stated.of(it).of(it.counts)) for it in found]
     return {
         it.shape: f"{it.most:,} bytes of memory for {it.counts[0]:,}, over {limit:,}"
         for it, limit in limits
@@ -301,12 +332,17 @@ def over(found: list[Held], most: Most) -> dict[str, str]:
     }
 
 
-def parts(most: Most) -> list[str]:
-    """The numbers that the header has of calls."""
-    return [it for it in Most._fields if getattr(most, it)]
+def parts(stated: Stated) -> list[tuple[str, str]]:
+    """The numbers that the header has of calls: of those that are done, and of others if it has them."""
+    ways = ["done", "rejected"] if stated.rejected != stated.done else ["done"]
+    return [(way, it) for way in ways for it in Most._fields if getattr(getattr(stated, way), it)]
 
 
-def is_needed(found: list[Held], most: Most, part: str) -> bool:
+def is_needed(found: list[Held], stated: Stated, way: str, part: str) -> bool:
     """Whether some input takes more than with a bit less of a number."""
-    less = most._replace(**{part: int(getattr(most, part) * NEAR)})
-    return any(it.most > less.of(it.counts) for it in found)
+    most = getattr(stated, way)
+    less = stated._replace(**{way: most._replace(**{part: int(getattr(most, part) * NEAR)})})
+    # (what isn't told apart is rejected by the same numbers)
+    if stated.rejected == stated.done:
+        less = less._replace(rejected=less.done)
+    return over([it for it in found if stated.of(it) == most], less) != {}

@@ -11,8 +11,8 @@ from tests.counts.counting import printed
 from tests.counts.inputs import inputs
 
 STATED = stated()
-OF_CALL = {call: most for calls, most in STATED.items() for call in calls}
-PARTS = [(calls, part) for calls, most in STATED.items() for part in parts(most)]
+OF_CALL = {call: of_calls for calls, of_calls in STATED.items() for call in calls}
+PARTS = [(calls, way, part) for calls, of_calls in STATED.items() for way, part in parts(of_calls)]
 
 
 @pytest.fixture(scope="module")
@@ -38,8 +38,10 @@ def test_call(held: list[Held], call: str, record_property: Callable[[str, objec
     assert over(found, OF_CALL[call]) == {}
 
 
-@pytest.mark.parametrize(("calls", "part"), PARTS, ids=[f"{' and '.join(calls)}, {part}" for calls, part in PARTS])
-def test_number_is_needed(held: list[Held], calls: tuple[str, ...], part: str) -> None:
+@pytest.mark.parametrize(
+    ("calls", "way", "part"), PARTS, ids=[f"{' and '.join(calls)}, {way}, {part}" for calls, way, part in PARTS]
+)
+def test_number_is_needed(held: list[Held], calls: tuple[str, ...], way: str, part: str) -> None:
     """Some input takes nearly as much as each number of the header lets it."""
     found = [it for it in held if it.call in calls]
-    assert is_needed(found, STATED[calls], part), f"{at_once.NEAR} of it is enough"
+    assert is_needed(found, STATED[calls], way, part), f"{at_once.NEAR} of it is enough"

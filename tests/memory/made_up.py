@@ -49,8 +49,8 @@ BY_NUMBER = {
     "let mut values = Vec::with_capacity(alloc, items.len())?;": "items that are there",
     "let mut places = Vec::with_capacity(alloc, table.iter().count())?;": "pairs that are there",
     "let mut bytes = Vec::with_capacity(alloc, chunk.len())?;": "bytes that are there",
-    "let mut out = Vec::with_capacity(alloc, bytes.len())?;": "the same",
-    "let mut out = Vec::with_capacity(alloc, capacity)?;": "a text that is there, and an eighth more",
+    "let mut out = Vec::with_capacity(alloc, capacity)?;": "a text that is there and an eighth more, or an encoding that is",
+    "out.reserve_exact(most_len(left))?;": "4.5 for each byte of a text that is there, and 9",
     "bytes.reserve(input.input_len())?;": "bytes that are there",
     "self.bytes.try_reserve(buf.len())?;": "the same",
     "let mut memory = vec![in alloc; 0u8; capacity]?;": "four times an encoding, or a text that fits the buffer",
@@ -69,10 +69,24 @@ PASSED_ON = {
     "amq_protocol_types/src/stream/source.rt": "fn read_some(&mut self, buf: &mut [u8]) -> io::Result<usize> { self.read(buf) } }",
     "amqp_wire/src/sink.rt": "fn write_some(&mut self, buf: &[u8]) -> io::Result<usize> { self.write(buf) } }",
 }
-# The lines that bound a number by which a line after them asks for memory.
-BOUNDED = {
-    "amqp_json/src/buffer.rt": "let capacity = size.saturating_mul(4).min(buffer.len()); let count = sort_within(alloc, buffer, value, capacity)?;",
-}
+# The lines that bound a number by which a line after them, or what they call, asks for memory.
+BOUNDED = (
+    (
+        "amqp_json/src/buffer.rt",
+        "let capacity = size.saturating_mul(4).min(buffer.len()); let count = sort_within(alloc, buffer, value, capacity)?;",
+    ),
+    (
+        "amqp_json/src/encoding.rt",
+        "let capacity = text.len() / 8 + text.len() + 2; match encoding_of_tokens(alloc, &mut reader, capacity) {",
+    ),
+    ("amqp_json/src/canonical.rt", "sorted_encoding(alloc, bytes.as_slice(), bytes.len(), Integers::Kept) }"),
+    (
+        "amqp_json/src/canonical.rt",
+        "let len = bytes.len(); let small = sorted_encoding(alloc, bytes.as_slice(), len - len / 4, Integers::Exchanged)?;",
+    ),
+    ("amqp_json/src/canonical.rt", "sorted_encoding(alloc, small.as_slice(), len, Integers::Exchanged) }"),
+    ("amqp_json/src/encoding/room.rt", "most.min(text.len().saturating_mul(9) / 2).saturating_add(9) }"),
+)
 SILENT = r"""//[^\n]*|/\*.*?\*/|\bb?r(#*)".*?"\1|"(?:\\.|[^"\\])*"|'(?:\\.[^']*|[^'\\])'"""
 MADE = r"\bAlloc(?:Error|Failed)\b(?!\s*[<>])|\b(?:OutOf|Needs)Memory\b|\bFailure\s*\(|\bout_of_memory\s*\("
 NAMED = r"\bAllocError\b|::\s*OutOfMemory\b|::\s*Failure\s*\("
@@ -208,7 +222,7 @@ def faults() -> Iterator[str]:
     for name, body in PASSED_ON.items():
         if not is_in(name, body):
             yield f"crates/{name}: a call isn't passed on as it is: {body}"
-    for name, lines in BOUNDED.items():
+    for name, lines in BOUNDED:
         if not is_in(name, lines):
             yield f"crates/{name}: what is asked for isn't bounded by these lines: {lines}"
     yield from (f"crates/{name} has no line to be listed: {line}" for name, line in sorted(listed))

@@ -97,7 +97,12 @@ def test_tables_of_few_and_of_many_keys(seed: int) -> None:
 def test_many_short_numbers_before_a_lower_key(seed: int) -> None:
     """An encoding of over 27 bytes for 8 of the text is sorted with LongLongInts and ShortShortInts in each other's place."""
     make = Random(seed)
-    odd = [*NEAR_SHORT, *(f'{{"ShortShortInt":{it}}}' for it in NEAR_SHORT[:-2]), '{"b":1,"a":{"ShortShortInt":1}}', '{"a":1,"a":-1}']
+    odd = [
+        *NEAR_SHORT,
+        *(f'{{"ShortShortInt":{it}}}' for it in NEAR_SHORT[:-2]),
+        '{"b":1,"a":{"ShortShortInt":1}}',
+        '{"a":1,"a":-1}',
+    ]
     for _ in range(500):
         items = [str(make.randrange(10)) for _ in range(400)] + make.choices(odd, k=8)
         make.shuffle(items)

@@ -45,7 +45,7 @@ use object::{Object, TABLE};
 use plain::put_integer;
 use put::{fill_length, put_boolean, put_head, put_key, put_short_key, put_text, put_void};
 use refusals::{Refusal, Refusals};
-use room::make_room;
+use room::take_room;
 use std::alloc::{AllocError, Global};
 
 /// Why no encoding was put.
@@ -540,7 +540,7 @@ fn put_rest<'a>(
         (next_token (option_map (λ s. s.now) key.entry) ∷ reader.old) reader.new
         × Extends out.old.items out.new.items)) }
 {
-    make_room(reader, out)?;
+    take_room(reader, out)?;
     let mut refusals = Refusals::new(alloc);
     refusals.mark(first.0, Some(first.1))?;
     let mut next = key;

@@ -9,7 +9,7 @@ use super::lexer::Lexer;
 
 /// Makes room for all that may be put of what is left of the text, when it is called first.
 #[inline(never)]
-pub(crate) fn make_room(reader: &mut Lexer<'_>, out: &mut Vec<u8>) -> Result<(), Stop>
+pub(crate) fn take_room(reader: &mut Lexer<'_>, out: &mut Vec<u8>) -> Result<(), Stop>
     ensures reader { reader.new ≡ reader.old }
     ensures out { out.new.items ≡ out.old.items }
     ensures refused { IfErr result (λ e. OnNotAValue e ⊥) }

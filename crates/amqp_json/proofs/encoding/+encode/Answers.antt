@@ -464,13 +464,13 @@ put_rest-members-init t c =
     let next = option_map (λ (b : Bor (List ℕ)). b.now) c.args.key in
     let map = c.new-refusals in
     let marks = c.mark.new.self in
-    let made = c.make_room.ensures in
-    let same : length c.make_room.new.reader ≡ length c.args.reader.now = ap length made.reader in (
+    let made = c.take_room.ensures in
+    let same : length c.take_room.new.reader ≡ length c.args.reader.now = ap length made.reader in (
       λ before d stored is table.
           let all = put k.now d (members_json before) in
           let ts = next_token next ∷ c.args.reader.now in
           let first = rest_first p before old c.args.first.1 _ _ _ _ k d next c.args.reader.now map.ensures.bad map.ensures.unencoded c.in_ok-mark.ensures.ok stored is table in
-          subst (λ (out : List ℕ). RestLeft p before all ts marks.bad.entries marks.unencoded.entries next c.make_room.new.reader old out) (sym made.out)
+          subst (λ (out : List ℕ). RestLeft p before all ts marks.bad.entries marks.unencoded.entries next c.take_room.new.reader old out) (sym made.out)
           (subst (λ (now : List Token). RestLeft p before all ts marks.bad.entries marks.unencoded.entries next now old old) (sym made.reader) first),
       omega (arith, same),
     )
