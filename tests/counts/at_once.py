@@ -156,6 +156,7 @@ BEFORE = {
 BEFORE_LOWER = {
     "zeros": "0", "zeros and numbers below zero": "0,-1", "a zero and two numbers below zero": "0,-1,-1", "arrays of a zero": "[0]",
     "numbers of three digits": "128", "tables of keys that fall": '{"a":0,"":0}',
+    "zeros and other values": "0," * 18 + '"x",true,null',
 }  # fmt: skip
 # How many bytes the texts have of which most memory is taken besides.
 LARGE = 100_000
@@ -275,6 +276,10 @@ def large_texts(n: int) -> Iterator[tuple[str, str]]:
     # (of nearly 27 bytes for 8 of the text, in a vector of more, and beside many places)
     falling = ",".join(f'"{it.decode()}":0' for it in reversed(keys(n // 2)))
     yield "JSON, zeros and keys that fall", f'{{"z":[{",".join("0" * (3 * n + n // 2))}],{falling}}}'
+    # (for what is left of them after a member of no value room is made at once)
+    zeros = f'[{"0," * (n // 2)}0]'
+    yield "JSON, zeros under a long key after no value", f'{{"":-0,"{"k" * 255}":{zeros},"":0}}'
+    yield "JSON, zeros in tables of tables after no value", '{"FieldTable":' * 120 + f'{{"x":-0,"x":{zeros}}}' + ',"b":0}' * 120
     both = BEFORE["of no encoding and of no value"]
     yield "JSON, objects of no encoding and of no value", both * 126 + "0" + "}" * 126
     yield "JSON of no value, objects of no encoding and of no value at the end, too", both * 126 + "-0" + "}" * 126

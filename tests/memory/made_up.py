@@ -50,7 +50,7 @@ BY_NUMBER = {
     "let mut places = Vec::with_capacity(alloc, table.iter().count())?;": "pairs that are there",
     "let mut bytes = Vec::with_capacity(alloc, chunk.len())?;": "bytes that are there",
     "let mut out = Vec::with_capacity(alloc, capacity)?;": "a text that is there and an eighth more, or an encoding that is",
-    "out.reserve_exact(most_len(left))?;": "4.5 for each byte of a text that is there, and 9",
+    "out.reserve_exact(most_len(left))?;": "4.5 for each byte of a text that is there, and a constant",
     "bytes.reserve(input.input_len())?;": "bytes that are there",
     "self.bytes.try_reserve(buf.len())?;": "the same",
     "let mut memory = vec![in alloc; 0u8; capacity]?;": "four times an encoding, or a text that fits the buffer",
@@ -85,7 +85,7 @@ BOUNDED = (
         "let len = bytes.len(); let small = sorted_encoding(alloc, bytes.as_slice(), len - len / 4, Integers::Exchanged)?;",
     ),
     ("amqp_json/src/canonical.rt", "sorted_encoding(alloc, small.as_slice(), len, Integers::Exchanged) }"),
-    ("amqp_json/src/encoding/room.rt", "most.min(text.len().saturating_mul(9) / 2).saturating_add(9) }"),
+    ("amqp_json/src/encoding/room.rt", "most.min(text.len().saturating_mul(9) / 2).saturating_add(BESIDES) }"),
 )
 SILENT = r"""//[^\n]*|/\*.*?\*/|\bb?r(#*)".*?"\1|"(?:\\.|[^"\\])*"|'(?:\\.[^']*|[^'\\])'"""
 MADE = r"\bAlloc(?:Error|Failed)\b(?!\s*[<>])|\b(?:OutOf|Needs)Memory\b|\bFailure\s*\(|\bout_of_memory\s*\("

@@ -3,6 +3,7 @@
 import re
 from collections import Counter
 from random import Random
+from time import process_time
 
 import pytest
 
@@ -98,6 +99,7 @@ def test_many_short_numbers_before_a_lower_key(seed: int) -> None:
     """An encoding of over 27 bytes for 8 of the text is sorted with LongLongInts and ShortShortInts in each other's place."""
     make = Random(seed)
     odd = [
+        *('"x"', "true", "null", '{"Float":"3f800000"}', '{"ByteArray":"ff"}'),
         *NEAR_SHORT,
         *(f'{{"ShortShortInt":{it}}}' for it in NEAR_SHORT[:-2]),
         '{"b":1,"a":{"ShortShortInt":1}}',
@@ -110,6 +112,22 @@ def test_many_short_numbers_before_a_lower_key(seed: int) -> None:
         wanted = write(value_of_json(parsed(text)))
         assert len(wanted) * 8 > len(text) * 27
         assert av.from_json(text) == wanted, text
+
+
+def time_of(text: bytes) -> float:
+    """How many seconds of a processor reading takes, at the least of a few times."""
+    taken = []
+    for _ in range(5):
+        begin = process_time()
+        av.from_json(text)
+        taken.append(process_time() - begin)
+    return min(taken)
+
+
+def test_time_is_linear_of_members_of_no_value() -> None:
+    """Of eight times the text it takes eight times as long, and not 64 times, where each object has such a member."""
+    few, many = (b"[" + b",".join([b'{"":-0,"":0}'] * count) + b"]" for count in (2_000, 16_000))
+    assert time_of(many) < 24 * time_of(few)
 
 
 def test_texts_that_may_mean_none(seed: int) -> None:

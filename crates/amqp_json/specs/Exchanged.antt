@@ -1,5 +1,5 @@
--- For private clauses: a value with the integers below 128 of LongLongInt and of ShortShortInt in each other's type. An
--- encoding has two bytes for one of ShortShortInt, and nine for one of LongLongInt.
+-- For private clauses: a value with the integers from 0 to 127 of LongLongInt and of ShortShortInt in each other's type.
+-- An encoding has two bytes for one of ShortShortInt, and nine for one of LongLongInt.
 use Rattle.std.specs.Prelude.{ℕ, List, nat_lt, if◌then◌else◌}
 use Rattle.amqp_value_core.specs.declared.types.amqp_type.AMQPType.{AMQPType}
 use Rattle.amqp_value_core.specs.declared.types.amqp_type.AMQPType.TheVariants as amqp
@@ -7,7 +7,8 @@ use Rattle.amqp_value_core.specs.Values.{Scalar, number, Tree, scalar, array, ta
 use Rattle.amqp_json.specs.declared.integers.Integers.{Integers}
 use Rattle.amqp_json.specs.declared.integers.Integers.TheVariants.{Kept, Exchanged}
 
--- the type that has the number n of a type in it
+-- the type in which the number of a type is put whose bits are n: below 128 they are those of the same number in both
+-- types, and of a number below zero they are more
 abbrev pub other_type : AMQPType → ℕ → AMQPType
 other_type amqp.LongLongInt n = if nat_lt n 128 then amqp.ShortShortInt else amqp.LongLongInt
 other_type amqp.ShortShortInt n = if nat_lt n 128 then amqp.LongLongInt else amqp.ShortShortInt

@@ -11,7 +11,7 @@ ghost use Rattle.amqp_json.specs.Sorted.{AreLeft};
 
 use crate::encoding::Stop;
 use crate::encoding::put::{fill_length, put_head, put_key};
-use crate::integers::{Integers, put_leaf};
+use crate::integers::{Integers, put_plain_with};
 use crate::keys::keys_rise;
 use crate::sorted::SortedPairs;
 use amqp_in_place::{ArrayRef, TableRef, ValueRef, read_in_place_unlimited};
@@ -25,7 +25,8 @@ pub(crate) fn canonical_of(alloc: Global, bytes: Vec<u8>, text_len: usize) -> Re
     ensures text { IfOk result (λ out. (v : Tree) → Wire bytes.items v → out.items ≡ text v) }
     ensures encoding { IfOk result (λ out. (v : Tree) → Wire bytes.items v → Wire out.items v) }
 {
-    // Two encodings of this many bytes, with the places of pairs, take less than 8 for each byte of the text.
+    // Two encodings of so many bytes, and the places of pairs, take less than 8 for each byte of the text. In one of more a
+    // quarter of the text or more is integers of one digit, since nothing else takes over 3 for each byte.
     let most = text_len.saturating_mul(27) / 8;
     if bytes.len() > most {
         return canonical_by_exchange(alloc, bytes);
@@ -37,8 +38,8 @@ pub(crate) fn canonical_of(alloc: Global, bytes: Vec<u8>, text_len: usize) -> Re
     sorted_encoding(alloc, bytes.as_slice(), bytes.len(), Integers::Kept)
 }
 
-// The canonical encoding, without another that is as large beside the one that is given: so many bytes are
-// mostly those of LongLongInts of one digit, of which an encoding that has ShortShortInts for them takes less.
+// The canonical encoding, without another that is as large beside the one that is given: with ShortShortInts for the
+// LongLongInts of one digit it has at most three quarters of the bytes.
 #[inline(never)]
 fn canonical_by_exchange(alloc: Global, bytes: Vec<u8>) -> Result<Vec<u8>, Stop>
     ensures text { IfOk result (λ out. (v : Tree) → Wire bytes.items v → out.items ≡ text v) }
@@ -47,6 +48,7 @@ fn canonical_by_exchange(alloc: Global, bytes: Vec<u8>) -> Result<Vec<u8>, Stop>
     let len = bytes.len();
     let small = sorted_encoding(alloc, bytes.as_slice(), len - len / 4, Integers::Exchanged)?;
     drop(bytes);
+    // Of so few bytes each length fits. There are no more of them than of the first, whose lengths did.
     let Ok(_) = u32::try_from(small.len()) else {
         return Err(Stop::NotHere);
     };
@@ -99,7 +101,7 @@ fn put_value(
             }
             put_table(alloc, out, table, integers, depth - 1)
         }
-        _ => put_leaf(out, value, integers),
+        _ => put_plain_with(out, value, integers),
     }
 }
 

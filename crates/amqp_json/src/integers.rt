@@ -22,7 +22,7 @@ pub(crate) enum Integers {
 
 /// A value that is no container.
 #[inline(always)]
-pub(crate) fn put_leaf(
+pub(crate) fn put_plain_with(
     out: &mut Vec<u8>,
     value: ValueRef<'_>,
     integers: Integers,

@@ -123,6 +123,16 @@ const VOIDS: &[Piece] = &[Bytes(b"A\0\0\x0f\xa0"), Times(4000, b"V")];
 
 const VOIDS_JSON: &[Piece] = &[Bytes(b"["), Times(3999, b"null,"), Bytes(b"null]")];
 
+/// Tables whose keys don't ascend, and a member that is no value before one of the same key.
+const FALLING_JSON: &[Piece] = &[Bytes(b"{\"b\":-0,\"b\":{\"d\":1,\"c\":2},\"a\":0}")];
+
+/// An array of 4000 zeros before a lower key, of which the encoding is over 27 bytes for 8 of the text.
+const ZEROS_JSON: &[Piece] = &[
+    Bytes(b"{\"b\":["),
+    Times(3999, b"0,"),
+    Bytes(b"0],\"a\":0}"),
+];
+
 /// An array of 4000 Voids whose last ten are cut off.
 const CUT_VOIDS: &[Piece] = &[Bytes(b"A\0\0\x0f\xa0"), Times(3990, b"V")];
 
@@ -447,6 +457,7 @@ fn of_texts() -> &'static [Case] {
     ]
     "encoding_of_json" ENCODE [
         OfText(TextCall::EncodingOfJson, ONE_NUMBER_JSON), OfText(TextCall::EncodingOfJson, VOIDS_JSON),
+        OfText(TextCall::EncodingOfJson, FALLING_JSON), OfText(TextCall::EncodingOfJson, ZEROS_JSON),
     ]
     "dissect" ALLOC [OfText(TextCall::Dissect, ONE_NUMBER), OfText(TextCall::Dissect, VOIDS)]
     "dissect_partial" ALLOC [OfText(TextCall::DissectPartial, VOIDS), OfText(TextCall::DissectPartial, CUT_VOIDS)]

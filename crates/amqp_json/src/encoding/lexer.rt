@@ -50,8 +50,8 @@ pub(crate) struct Lexer<'a> {
     scratch: Option<&'a mut Scratch>,
     // Not in the errors, so that results are small.
     fault: usize,
-    // Whether it was asked for what is left.
-    is_left_told: bool,
+    // Whether it gave what is left of the text.
+    has_given_rest: bool,
 }
 
 impl<'a> Model for Lexer<'a> {
@@ -452,7 +452,7 @@ impl<'a> Lexer<'a> {
             reader: None,
             scratch: Some(scratch),
             fault: 0,
-            is_left_told: false,
+            has_given_rest: false,
         }
     }
 
@@ -480,14 +480,14 @@ impl<'a> Lexer<'a> {
         self.fault = at;
     }
 
-    /// What is left of the text, when it is asked for first.
+    /// The first call gives what is left of the text, and later ones nothing.
     pub(crate) fn left_once(&mut self) -> Option<&'a str>
         ensures { self.new ≡ self.old }
     {
-        if self.is_left_told {
+        if self.has_given_rest {
             return None;
         }
-        self.is_left_told = true;
+        self.has_given_rest = true;
         self.text.get(self.offset()..)
     }
 

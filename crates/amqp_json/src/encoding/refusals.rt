@@ -37,7 +37,8 @@ impl<'a> Refusals<'a> {
         }
     }
 
-    /// Notes why the value of a key isn't put, or that it is. A byte of 2^32 or later isn't noted.
+    /// Notes why the value of a key isn't put, or that it is. Of a byte from 2^32 on it returns `NotHere`, so that the
+    /// text is read in another way.
     #[inline(never)]
     pub(crate) fn mark(&mut self, name: &'a str, found: Option<Refusal>) -> Result<(), Stop>
         ensures ok { OnOk result (AreMarked found name.entry self.old.bad.entries self.new.bad.entries

@@ -1,5 +1,5 @@
-//! Room for what is put after a member that isn't: from then on memory is taken for keys, too, so that a vector isn't
-//! to grow, which holds what it had and what it gets.
+//! Room for all that is put after a member that isn't. Its key is kept in memory from then on, and a vector that
+//! grows beside the keys would be held twice.
 
 ghost use Rattle.std.specs.Prelude.{◌≡◌, IfErr};
 ghost use Rattle.amqp_json.specs.Encodes.{OnNotAValue};
@@ -7,7 +7,10 @@ ghost use Rattle.amqp_json.specs.Encodes.{OnNotAValue};
 use super::Stop;
 use super::lexer::Lexer;
 
-/// Makes room for all that may be put of what is left of the text, when it is called first.
+// What may be put besides: the key that was read last, and a head and a key before each of 127 open tables.
+const BESIDES: usize = 4096;
+
+/// The first call makes room for all that may be put of what is left of the text, and later ones do nothing.
 #[inline(never)]
 pub(crate) fn take_room(reader: &mut Lexer<'_>, out: &mut Vec<u8>) -> Result<(), Stop>
     ensures reader { reader.new ≡ reader.old }
@@ -20,8 +23,8 @@ pub(crate) fn take_room(reader: &mut Lexer<'_>, out: &mut Vec<u8>) -> Result<(),
     Ok(())
 }
 
-// At most how many bytes are put of a text: nine for a value of one byte and what ends it, none for quotes, and 4.5 for
-// each byte.
+// At most how many bytes are put of the rest of a text: 4.5 for each byte and, of most, nine for a value of one byte
+// and what ends it, none for quotes, and one for any other byte.
 fn most_len(text: &str) -> usize {
     let mut most: usize = 0;
     for byte in text.bytes() {
@@ -32,5 +35,6 @@ fn most_len(text: &str) -> usize {
         };
         most = most.saturating_add(added);
     }
-    most.min(text.len().saturating_mul(9) / 2).saturating_add(9)
+    most.min(text.len().saturating_mul(9) / 2)
+        .saturating_add(BESIDES)
 }

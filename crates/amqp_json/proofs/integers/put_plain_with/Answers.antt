@@ -2,7 +2,7 @@ use Rattle.std.proofs.Common.{◌++◌, sym, ap, ◌∙◌}
 use Rattle.std.proofs.lemmas.Result.{on_ok_weaker}
 use Rattle.amqp_value_core.specs.Texts.{text}
 use Rattle.amqp_json.proofs.Exchanges.{value_as_kept}
-use Rattle.amqp_json.proofs.integers.put_leaf.Goals as goal
+use Rattle.amqp_json.proofs.integers.put_plain_with.Goals as goal
 
 pub returns-in-Kept : goal.returns-in-Kept
 returns-in-Kept c =
