@@ -85,7 +85,7 @@ BOUNDED = (
         "let len = bytes.len(); let small = sorted_encoding(alloc, bytes.as_slice(), len - len / 4, Integers::Exchanged)?;",
     ),
     ("amqp_json/src/canonical.rt", "sorted_encoding(alloc, small.as_slice(), len, Integers::Exchanged) }"),
-    ("amqp_json/src/encoding/room.rt", "most.min(text.len().saturating_mul(9) / 2).saturating_add(BESIDES) }"),
+    ("amqp_json/src/encoding/room.rt", "most.min(text.len().saturating_mul(9) / 2) .saturating_add(BESIDES) }"),
 )
 SILENT = r"""//[^\n]*|/\*.*?\*/|\bb?r(#*)".*?"\1|"(?:\\.|[^"\\])*"|'(?:\\.[^']*|[^'\\])'"""
 MADE = r"\bAlloc(?:Error|Failed)\b(?!\s*[<>])|\b(?:OutOf|Needs)Memory\b|\bFailure\s*\(|\bout_of_memory\s*\("
