@@ -32,8 +32,8 @@ from tests.transcripts import Ending
 
 CASES = "test_alloc_failure"
 # Failures that a case's calls recover from. The kit's `collect` asks for as much capacity as its iterator
-# promises items, and if that fails for less.
-RECOVERED = {"value_of_many_pairs": 1, "from_pairs": 2, "amqp_show": 1}
+# promises items, and if that fails for less. A vector that can't be made smaller stays as it is.
+RECOVERED = {"value_of_many_pairs": 1, "from_pairs": 2, "amqp_show": 1, "encoding_of_json": 1}
 # The most bytes that each case may ask for.
 ROWS = [it.split(" ") for it in Path(__file__).with_name("requests.rows").read_text().splitlines()]
 MOST = {name: int(size) * int(times) for name, size, times in ROWS}
