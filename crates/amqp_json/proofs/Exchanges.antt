@@ -1,5 +1,5 @@
 -- What is put when integers are exchanged: a value, of which the same once more makes the first one again.
-use Rattle.std.proofs.Common.{◌≡◌, ◌<◌, ◌+◌, ◌^◌, ℕ, Bool, true, false, ◌&&◌, nat_lt, if◌then◌else◌, List, ◌++◌, length, refl, sym, ap, ap₂, ◌∙◌, subst, arith, length-append, IsTrue}
+use Rattle.std.proofs.Common.{◌≡◌, ◌<◌, ◌^◌, ℕ, Bool, true, false, ◌&&◌, nat_lt, if◌then◌else◌, List, ◌++◌, length, refl, sym, ap, ap₂, ◌∙◌, subst, arith, length-append, IsTrue}
 use Rattle.amqp_value_core.specs.declared.types.amqp_type.AMQPType.{AMQPType}
 use Rattle.amqp_value_core.specs.declared.types.amqp_type.AMQPType.TheVariants as amqp
 use Rattle.amqp_value_core.specs.Values.{Scalar, boolean, number, decimal, void, Tree, scalar, short, long, octets, array, table, Trees, no_trees, tree, Entries, no_entries, entry, ComesBefore, readable}

@@ -1,6 +1,6 @@
 -- For private clauses: a value with the integers from 0 to 127 of LongLongInt and of ShortShortInt in each other's type.
 -- An encoding has two bytes for one of ShortShortInt, and nine for one of LongLongInt.
-use Rattle.std.specs.Prelude.{ℕ, List, nat_lt, if◌then◌else◌}
+use Rattle.std.specs.Prelude.{ℕ, nat_lt, if◌then◌else◌}
 use Rattle.amqp_value_core.specs.declared.types.amqp_type.AMQPType.{AMQPType}
 use Rattle.amqp_value_core.specs.declared.types.amqp_type.AMQPType.TheVariants as amqp
 use Rattle.amqp_value_core.specs.Values.{Scalar, number, Tree, scalar, array, table, Trees, no_trees, tree, Entries, no_entries, entry}

@@ -1,4 +1,4 @@
-use Rattle.std.proofs.Common.{List, ℕ, ◌≡◌, sym, ◌∙◌, subst, rules}
+use Rattle.std.proofs.Common.{List, ℕ, ◌≡◌, sym, subst, rules}
 use Rattle.std.proofs.lemmas.Result.{IfOk-weaker}
 use Rattle.amqp_value_core.specs.Grammar.{Wire}
 use Rattle.amqp_json.proofs.Exchanges.{text_kept, encoding_kept}

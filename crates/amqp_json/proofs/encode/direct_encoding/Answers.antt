@@ -1,7 +1,6 @@
-use Rattle.std.proofs.Common.{List, ℕ, sym, ap, ◌∙◌, subst, rules}
+use Rattle.std.proofs.Common.{sym, ap, ◌∙◌, subst, rules}
 use Rattle.amqp_json.proofs.Unread.{on_some, when_ok}
 use Rattle.serde_json.specs.Read.{read}
-use Rattle.amqp_value_core.specs.Grammar.{Wire}
 use Rattle.amqp_value_core.specs.Texts.{text}
 use Rattle.amqp_json.specs.Converts.{IsReadAs}
 use Rattle.amqp_json.proofs.Encodings.{written_is, read_as, only_read_as}

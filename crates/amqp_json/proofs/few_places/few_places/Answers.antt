@@ -1,4 +1,4 @@
-use Rattle.std.proofs.Common.{rules, ◌≡◌, ◌+◌, ◌-◌, List, [], ℕ, length, drop, true, is_some, sym, ap, ◌∙◌, subst, arith}
+use Rattle.std.proofs.Common.{rules, ◌≡◌, ◌+◌, ◌-◌, List, [], ℕ, length, true, is_some, sym, ap, ◌∙◌, subst, arith}
 use Rattle.amqp_in_place.specs.Refs.{table_body}
 use Rattle.amqp_in_place.specs.Suffix.{pairs_left}
 use Rattle.amqp_json.specs.Placed.{with_place}

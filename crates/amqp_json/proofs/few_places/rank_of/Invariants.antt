@@ -1,4 +1,4 @@
-use Rattle.std.proofs.Common.{◌≡◌, ◌≤◌, ◌-◌, length, take}
+use Rattle.std.proofs.Common.{◌≤◌, ◌-◌, length, take}
 use Rattle.amqp_json.specs.Placed.{IsAboveAll}
 use Rattle.amqp_json.proofs.few_places.rank_of.Given as goal
 
