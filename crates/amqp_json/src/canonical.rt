@@ -25,8 +25,9 @@ pub(crate) fn canonical_of(alloc: Global, bytes: Vec<u8>, text_len: usize) -> Re
     ensures text { IfOk result (λ out. (v : Tree) → Wire bytes.items v → out.items ≡ text v) }
     ensures encoding { IfOk result (λ out. (v : Tree) → Wire bytes.items v → Wire out.items v) }
 {
-    // Two encodings of so many bytes, and the places of pairs, take less than 8 for each byte of the text. In one of more a
-    // quarter of the text or more is integers of one digit, since nothing else takes over 3 for each byte.
+    // Two encodings of so many bytes, and the places of pairs, take less than 8 for each byte of the
+    // text. Of one of more, integers of one digit are at least a quarter of the text, since nothing
+    // else takes over 3 for each byte.
     let most = text_len.saturating_mul(27) / 8;
     if bytes.len() > most {
         return canonical_by_exchange(alloc, bytes);
