@@ -26,7 +26,7 @@ const UNLIMITED: Limits = Limits {
 };
 
 /// Converts a JSON text to the canonical encoding of its value, which it reads as `from_json` does.
-/// The value is allocated only if an encoding of it would have 2^32 bytes or more.
+/// The value is allocated only if the text has 2^32 bytes or more, or an encoding of it would.
 pub fn encoding_of_json(alloc: Global, json: &str) -> Result<Vec<u8>, EncodeError>
     ensures encoding { IfOk result (λ bytes. IsEncodingOf json.now bytes.items) }
     ensures only { IfOk result (λ bytes. (v : Tree) → IsStored v → JsonTextMeans json.now v

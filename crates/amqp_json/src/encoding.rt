@@ -52,7 +52,7 @@ use std::alloc::{AllocError, Global};
 #[derive(Clone, Copy)]
 pub(crate) enum Stop {
     OutOfMemory,
-    /// It is no JSON, or its encoding would have 2^32 bytes or more.
+    /// It is no JSON, or the text has 2^32 bytes or more, or its encoding would.
     NotHere,
     /// It is the JSON of no value.
     NotAValue,
