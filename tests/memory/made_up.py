@@ -93,7 +93,7 @@ NAMED = r"\bAllocError\b|::\s*OutOfMemory\b|::\s*Failure\s*\("
 RENAMED = r"\b(?:AllocError|AllocFailed|OutOfMemory|NeedsMemory|out_of_memory)\s+as\b"
 IMPORTED = r"\buse std::alloc::(?:AllocError;|\{[^}]*\bAllocError\b)"
 # What makes one of an AllocError.
-MAKER = r"\bimpl From<AllocError> for [^{]*\{|\bpub fn out_of_memory\(\)[^{]*\{"
+MAKER = r"\bimpl From<AllocError> for [^{]*\{|\bfn out_of_memory\(\)[^{]*\{"
 
 
 def end_of(code: str, at: int, ends: str) -> int:

@@ -6,7 +6,7 @@
 //! bytes from untrusted peers use `stream`, or the crate `amqp_in_place`.
 
 mod bytes;
-pub mod errors;
+pub(crate) mod errors;
 mod flags;
 pub mod header;
 mod limits;
@@ -19,7 +19,9 @@ mod within;
 
 pub use amqp_value_core::input::{SliceInput, SplitInput};
 pub use bytes::copy_of;
-pub use errors::{Err, ErrorKind, Needed, ParserError, ParserErrors, ParserResult};
+pub use errors::{
+    Err, ErrorKind, Needed, ParserError, ParserErrors, ParserResult, error_of_kind, lacks,
+};
 pub use flags::parse_flags;
 pub use limits::Limits;
 pub use scalars::{

@@ -14,11 +14,11 @@ ghost use Rattle.amqp_in_place.specs.InPlaceResults.{HeadRefuses, NeedsNoMemory}
 ghost use Rattle.amqp_in_place.specs.Heads.{RawHeadIs, IsHead, IsKeyFrame, AtAnyDepth};
 
 use super::refs::ValueRef;
-use amq_protocol_types::parsing::errors::{error_of_kind, lacks};
 use amq_protocol_types::parsing::{
-    ErrorKind, Limits, ParserResult, parse_boolean, parse_decimal_value, parse_double, parse_float,
-    parse_length_prefixed, parse_long_int, parse_long_long_int, parse_long_uint, parse_short_int,
-    parse_short_short_int, parse_short_short_uint, parse_short_uint, parse_timestamp, parse_type,
+    ErrorKind, Limits, ParserResult, error_of_kind, lacks, parse_boolean, parse_decimal_value,
+    parse_double, parse_float, parse_length_prefixed, parse_long_int, parse_long_long_int,
+    parse_long_uint, parse_short_int, parse_short_short_int, parse_short_short_uint,
+    parse_short_uint, parse_timestamp, parse_type,
 };
 use amqp_value_core::input::{ParsableInput, SliceInput};
 use amqp_value_core::types::AMQPType;

@@ -20,9 +20,10 @@ ghost use Rattle.amqp_in_place.specs.Places.{IsViewIn};
 
 use super::head::{Head, read_head, read_key, read_table_head};
 use super::refs::{ArrayRef, TableRef, ValueRef};
-use amq_protocol_types::parsing::errors::{error_of_kind, lacks};
 use amq_protocol_types::parsing::header::{Header, header_of};
-use amq_protocol_types::parsing::{ErrorKind, Limits, ParserError, ParserResult};
+use amq_protocol_types::parsing::{
+    ErrorKind, Limits, ParserError, ParserResult, error_of_kind, lacks,
+};
 use amqp_value_core::input::{ParsableInput, SliceInput};
 use amqp_value_core::types::AMQPType;
 use simdutf8::basic::Utf8Error;

@@ -114,7 +114,7 @@ pub fn lacks(n: usize) -> ParserError
 }
 
 /// Makes an error of the kind.
-pub fn refusal(kind: ErrorKind) -> ParserErrors
+pub(crate) fn refusal(kind: ErrorKind) -> ParserErrors
     ensures { result ≡ kind }
 {
     ParserErrors { kind }
@@ -128,7 +128,7 @@ pub fn error_of_kind(kind: ErrorKind) -> ParserError
 }
 
 /// An allocation failed.
-pub fn out_of_memory() -> ParserError
+pub(crate) fn out_of_memory() -> ParserError
     ensures { result ≡ out_of_memory }
 {
     Err::Failure(ParserErrors {
