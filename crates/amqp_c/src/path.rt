@@ -24,7 +24,7 @@ pub struct Step<'a> {
 pub enum EqualKeys {
     /// The last, as in the Rust crate.
     Last,
-    /// The first, as in RabbitMQ.
+    /// The first.
     First,
 }
 

@@ -23,7 +23,7 @@ pub enum PathStep<'p> {
 /// Which of several pairs with an equal key a look-up takes.
 #[derive(Clone, Copy, Debug, PartialEq, Eq)]
 pub enum EqualKeys {
-    /// The first pair, as RabbitMQ takes: [`TableRef::get_first`].
+    /// The first pair: [`TableRef::get_first`].
     First,
     /// The last pair, as this library and the Rust crate take: [`TableRef::get`].
     Last,

@@ -51,8 +51,8 @@ impl<'a> TableRef<'a> {
         Some(first_value_there(at))
     }
 
-    /// Returns the value of the first pair with the key, as RabbitMQ does; `get` returns the last
-    /// pair's. Skips over the pairs before it by their lengths, and reads none after it.
+    /// Returns the value of the first pair with the key; `get` returns the last pair's. Skips over
+    /// the pairs before it by their lengths, and reads none after it.
     pub fn get_first(self, key: &str) -> Option<ValueRef<'a>>
         ensures value { (ps : Entries) → TableBody (table_body self.entry) ps → FoundIs (first_at key.now ps) result }
         ensures written { (ps : Entries) → WrittenPairs (table_body self.entry) ps → WrittenIs (first_at key.now ps) result }

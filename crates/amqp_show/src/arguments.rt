@@ -317,7 +317,7 @@ pub fn command<'a>(alloc: Global) -> Result<Command<'a>, AllocError> {
         .arg(number(
             alloc,
             "levels",
-            "256",
+            "32",
             "With --check: warn of containers that nest more than N deep",
         )
         .requires_arg("check")?)?

@@ -14,7 +14,7 @@ use amqp_screen::Screen;
 use std::alloc::{AllocError, Global};
 
 /// Which of equal keys counts.
-pub const TAKEN: &str = "this library takes the last, RabbitMQ the first";
+pub const TAKEN: &str = "this library takes the last; reject such tables";
 
 // A key after which a value begins: the place of its table, and which part the value's type tag is.
 #[derive(Clone, Copy, Debug, PartialEq, Eq, PartialOrd, Ord)]

@@ -14,22 +14,24 @@ use amqp_value_core::types::AMQPType;
 use std::alloc::{AllocError, Global};
 use std::collections::BTreeSet;
 
-/// How many levels each client reads that was tried: docs/DIFFERENCES.md has which breaks on how many.
-pub const CLIENT_LEVELS: u32 = 256;
+/// A depth of containers that every client read that was tried. Go's amqp091 1.16 breaks at 34;
+/// docs/DIFFERENCES.md has the others.
+pub const CLIENT_LEVELS: u32 = 32;
 
 /// What is doubtful in a value that RabbitMQ takes. Offsets are the number of bytes before a pair,
 /// or before a container.
 #[derive(Clone, Copy, Debug, PartialEq, Eq)]
 pub struct Warned {
-    /// The first pair whose key an earlier pair of the same table has. RabbitMQ takes the first of
-    /// equal keys, this library the last.
+    /// The first pair whose key an earlier pair of the same table has. This library uses the last
+    /// of equal keys. RabbitMQ 3.10.8 used the first; 4.0.5 and 4.3.6 deliver the first of a
+    /// message's headers and route by the last. Reject such a table.
     pub repeated_key: Option<usize>,
     /// The first pair whose key isn't UTF-8.
     pub key_not_utf8: Option<usize>,
     /// The first pair whose key is empty. RabbitMQ relays it, and some clients break on it.
     pub empty_key: Option<usize>,
     /// The first container that nests deeper than a number of levels. RabbitMQ relays it, and most
-    /// clients break on some number of levels, which depends on their stack.
+    /// clients break at some depth.
     pub too_deep: Option<usize>,
     /// Whether the value's bytes without its type tag, and the 8 bytes of a frame (its type,
     /// channel, size and end), are more than the frame-max.
