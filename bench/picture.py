@@ -1,81 +1,76 @@
-"""The ratios of bench/run as bars in an SVG: on a logarithmic scale, to the left of 1 what is faster than the Rust crate."""
+"""Draws docs/speed.svg from the tables of docs/SPEED.md: python3 bench/picture.py
 
-import math
-from collections.abc import Iterator, Mapping, Sequence
+A bar is the time of this library's call, relative to the Rust crate's time for the same input.
+"""
+
+import re
+from collections.abc import Iterator
 from html import escape
+from pathlib import Path
 
-# By side: this library dark, the others lighter, each with an outline.
-FILLS = {
-    "this library": "#222",
-    "from C": "#666",
-    "librabbitmq": "#999",
-    "Go": "#ccc",
-    "Erlang": "#fff",
-    "by hand": "#fff",
+DOCS = Path(__file__).resolve().parents[1] / "docs"
+# The tables that are drawn, by their first column, with the legend and the colour of their bars.
+BARS = {
+    "Read and drop": ("read into an owned value", "#3b6fb6"),
+    "Read in place": ("read in place", "#2a9d8f"),
+    "Write": ("write", "#e08a1e"),
 }
-LEAST, MOST = 0.01, 100
-LEFT, WIDTH, GAP, TOP, ROW, BAR = 150, 200, 40, 44, 36, 7
-# By side, the median ratio and its quartiles, or nothing; for each input, by its label; and panels of them, by title.
-Sides = Mapping[str, tuple[float, float, float] | None]
-Rows = Sequence[tuple[str, Sides]]
-Panels = dict[str, Rows]
+# The inputs that are drawn, by how their row begins in each table.
+INPUTS = {
+    "message headers": "message headers, 656 bytes",
+    "a server's properties|server's properties": "a server's properties, 480 bytes",
+    "an array of 1,000 small tables|1,000 small tables": "1,000 small tables, 38 kB",
+    "a table of 10,000 entries in random order|10,000 entries, random": "10,000 entries, 190 kB",
+}
+LEFT, TOP, BAR, ROW = 230, 50, 16, 66
+# How wide a ratio of 1 is drawn.
+ONE = 420
 
 
-def at(ratio: float) -> float:
-    """How far a ratio is from the left of a panel."""
-    share = math.log(min(max(ratio, LEAST), MOST) / LEAST) / math.log(MOST / LEAST)
-    return round(WIDTH * share, 1)
+def ratio(page: str, table: str, row: str) -> float:
+    """This library's ratio in a row of a table, whose third column it is."""
+    lines = page.partition(f"|{table}|the Rust crate|this library")[2].partition("\n\n")[0]
+    found = re.search(rf"(?m)^\|(?:{row})[^|]*\|[^|]*\|<?([\d.]+)", lines)
+    assert found, f"docs/SPEED.md has no {row} in its table {table}"
+    return float(found[1])
 
 
-def write(x: float | str, y: float, words: str, more: str = "") -> str:
-    """A text at a place."""
-    return f'<text x="{x}" y="{y}" {more}>{escape(words)}</text>'
+def text(x: float, y: float, words: str, more: str = "") -> str:
+    return f'<text x="{x:.0f}" y="{y:.0f}" {more}>{escape(words)}</text>'
 
 
-def panel(left: int, title: str, rows: Rows) -> Iterator[str]:
-    """One panel: a row for each input, in it a bar for each side, and in words the ratio of this library."""
-    bottom = TOP + ROW * len(rows)
-    yield write(left, 16, title, 'font-weight="bold"')
-    for ratio in (0.01, 0.1, 1, 10, 100):
-        x = left + at(ratio)
-        yield f'<line x1="{x}" y1="{TOP - 4}" x2="{x}" y2="{bottom}" stroke="{"#222" if ratio == 1 else "#ddd"}"/>'
-        yield write(x, TOP - 8, f"{ratio:g}", 'text-anchor="middle" fill="#555"')
-    for number, (_, ratios) in enumerate(rows):
-        for place, (side, found) in enumerate(ratios.items()):
-            if found:
-                x, end, y = at(1), at(found[0]), TOP + ROW * number + 2 + place * BAR
-                yield (
-                    f'<rect x="{left + min(x, end):.1f}" y="{y}" width="{max(abs(x - end), 1):.1f}" height="{BAR}" fill="{FILLS[side]}" '
-                    f'stroke="#222" stroke-width="0.4"/>'
-                )
-                if place == 0:
-                    yield write(
-                        f"{left + max(x, end) + 3:.1f}",
-                        y + BAR,
-                        f"{found[0]:.2f}" if found[0] >= LEAST else f"<{LEAST}",
-                        'font-size="9"',
-                    )
+def drawn(page: str) -> Iterator[str]:
+    """The lines of the picture."""
+    bottom = TOP + ROW * len(INPUTS)
+    yield (
+        f'<svg xmlns="http://www.w3.org/2000/svg" viewBox="0 0 {LEFT + ONE + 60} {bottom + 44}" '
+        'font-family="sans-serif" font-size="13" fill="#222">'
+    )
+    yield '<rect width="100%" height="100%" fill="#fff"/>'
+    yield text(10, 18, "Time relative to the Rust crate amq-protocol-types 10.6.3; shorter is faster", 'font-weight="bold"')
+    for step in range(5):
+        x = LEFT + ONE * step / 4
+        yield f'<line x1="{x:.0f}" y1="{TOP - 4}" x2="{x:.0f}" y2="{bottom}" stroke="{"#222" if step == 4 else "#ddd"}"/>'
+        yield text(x, TOP - 10, f"{step / 4:g}" if step < 4 else "1: the Rust crate", 'text-anchor="middle"')
+    for number, (row, label) in enumerate(INPUTS.items()):
+        y = TOP + ROW * number + 6
+        yield text(LEFT - 12, y + 1.5 * BAR + 5, label, 'text-anchor="end"')
+        for place, (table, (_, colour)) in enumerate(BARS.items()):
+            found = ratio(page, table, row)
+            width, at = max(ONE * found, 1), y + BAR * place
+            yield f'<rect x="{LEFT}" y="{at}" width="{width:.0f}" height="{BAR - 2}" fill="{colour}"/>'
+            yield text(LEFT + width + 5, at + BAR - 4, f"{found:.2f}", 'font-size="11"')
+    for place, (legend, colour) in enumerate(BARS.values()):
+        x = 60 + place * 220
+        yield f'<rect x="{x}" y="{bottom + 16}" width="12" height="12" fill="{colour}"/>'
+        yield text(x + 18, bottom + 27, legend)
+    yield "</svg>"
 
 
-def drawn(panels: Panels) -> str:
-    """The picture of some panels, which have the same inputs."""
-    count = len(next(iter(panels.values())))
-    width, height = LEFT + len(panels) * (WIDTH + GAP), TOP + ROW * count + 58
-    lines = [
-        f'<svg xmlns="http://www.w3.org/2000/svg" viewBox="0 0 {width} {height}" font-family="sans-serif" font-size="11" fill="#222">',
-        f'<rect width="{width}" height="{height}" fill="#fff"/>',
-    ]
-    for number, (label, _) in enumerate(next(iter(panels.values()))):
-        lines.append(write(LEFT - 10, TOP + ROW * number + 17, label, 'text-anchor="end"'))
-    for number, (title, rows) in enumerate(panels.items()):
-        left = LEFT + number * (WIDTH + GAP)
-        lines += panel(left, title, rows)
-        for place, side in enumerate(dict.fromkeys(side for _, ratios in rows for side in ratios)):
-            x, y = left + place % 2 * (WIDTH // 2), height - 50 + place // 2 * 14
-            lines.append(
-                f'<rect x="{x}" y="{y}" width="9" height="9" fill="{FILLS[side]}" stroke="#222" stroke-width="0.4"/>'
-            )
-            lines.append(write(x + 13, y + 8, side))
-    legend = "Time as a ratio to the Rust crate's, on a logarithmic scale. A bar to the left of 1 is faster; the number is this library's."
-    lines.append(write(LEFT, height - 8, legend, 'fill="#555"'))
-    return "\n".join([*lines, "</svg>", ""])
+def draw() -> None:
+    """Draws the picture of the page as it is."""
+    (DOCS / "speed.svg").write_text("\n".join([*drawn((DOCS / "SPEED.md").read_text()), ""]))
+
+
+if __name__ == "__main__":
+    draw()

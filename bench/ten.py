@@ -15,7 +15,7 @@ FORMS = {"t": "?", "b": "b", "B": "B", "s": "h", "u": "H", "I": "i", "i": "I", "
 
 
 class Input(NamedTuple):
-    """Bytes that are read, and their canonical form if they are written too; `row` is for tables, `label` for the picture."""
+    """Bytes that are read, and their canonical form if they are written too. `row` names it in the first table, `label` in others."""
 
     row: str
     label: str
