@@ -32,13 +32,14 @@ def of_crates() -> Iterator[str]:
         docs = "\n".join(it[4:] if it.startswith("//!") else "" for it in lines)
         for name, text in ((f"{crate}/CALLING.md", page_of(crate).read_text()), (f"{crate}/src/lib.rt", docs)):
             for line, block in blocks(text, "rust|antt"):
-                yield from (f"crates/{name}:{line}: no source has '{it}'" for it in missing(block, files))
+                # (tests/vendor runs the program)
+                if "fn main(" not in block:
+                    yield from (f"crates/{name}:{line}: no source has '{it}'" for it in missing(block, files))
 
 
 def of_readme() -> Iterator[str]:
-    """Yields the paragraphs of the README's Rust that crates/examples hasn't."""
-    files = [plain(it.read_text()) for it in TOP.glob("crates/examples/src/*.rt")]
-    for line, block in blocks((TOP / "README.md").read_text(), "rust"):
-        # (tests/vendor/run tries the program)
-        if "fn main(" not in block:
-            yield from (f"README.md:{line}: crates/examples has no '{it}'" for it in missing(block, files))
+    """Yields the paragraphs of the README's Rust and C that no example has."""
+    examples = ("crates/examples/src/*.rt", "examples/c/*.c", "bindings/rust/amqp-values/examples/*.rs")
+    files = [plain(it.read_text()) for form in examples for it in TOP.glob(form)]
+    for line, block in blocks((TOP / "README.md").read_text(), "rust|c"):
+        yield from (f"README.md:{line}: no example has '{it}'" for it in missing(block, files))

@@ -53,5 +53,5 @@ def line_of(text: str, at: int) -> int:
 
 
 def plain(code: str) -> str:
-    """Code without its indentation."""
-    return "\n".join(it.strip() for it in code.strip().splitlines())
+    """Code on one line, however it was laid out."""
+    return re.sub(r"(?<=[(\[{]) |,? (?=[)\]}])", "", " ".join(code.split()))

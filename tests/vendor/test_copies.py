@@ -1,7 +1,7 @@
-"""The crates in another repository, as the README says.
+"""The crates in another repository, as CALLING.md of amq_protocol_types says.
 
-A new folder becomes that repository, by the README's program and commands, nothing proved: they print what the README
-has. Each crate of its table takes the folders that its row has, and what is copied has nothing but sources and pages.
+A new folder becomes that repository, by the page's program and commands, nothing proved: they print what the page has.
+Each crate of its table takes the folders that its row has, and what is copied has nothing but sources and pages.
 Where something would be lost, nothing is copied without --update.
 """
 
@@ -15,8 +15,9 @@ import pytest
 from crates import TOP
 
 VENDOR = TOP / ".ci/vendor"
-SECTION = (TOP / "README.md").read_text().partition("\n## In another repository\n")[2].partition("\n## ")[0]
-# Where the README's commands have the other repository.
+PAGE = TOP / "crates/amq_protocol_types/CALLING.md"
+SECTION = PAGE.read_text().partition("\n## In another repository\n")[2].partition("\n## ")[0]
+# Where the page's commands have the other repository.
 OTHER = "../mine"
 # What a copied crate may have.
 ALLOWED = re.compile(r"crates/\w+/(CALLING\.md|LICENSE|src/.*\.rt|(specs|proofs)/.*\.antt)|crates\.txt")
@@ -26,7 +27,7 @@ COPIED, LOST, UNKNOWN = 0, 1, 2
 
 
 class Row(NamedTuple):
-    """A row of the README's table: its crate, what is named for it, and the folders that are copied."""
+    """A row of the page's table: its crate, what is named for it, and the folders that are copied."""
 
     name: str
     words: list[str]
@@ -132,8 +133,8 @@ def test_unknown(tmp_path: Path, folder: str, words: list[str]) -> None:
     assert [*tmp_path.iterdir()] == []
 
 
-def test_program_of_readme(tmp_path: Path) -> None:
-    """The README's commands print what it has, its program being there."""
+def test_program_of_the_page(tmp_path: Path) -> None:
+    """The page's commands print what it has, its program being there."""
     path = re.search(r"`(crates/\w+/src/main\.rt)`", SECTION)
     assert path, "the section names no program"
     source = tmp_path / path[1]
