@@ -92,6 +92,17 @@ def test_nested(check: nesting.Check) -> None:
     assert check.wrong(program("test_hostile")) == ""
 
 
+@pytest.mark.parametrize("page", ("README.md", "docs/VERIFICATION.md"))
+def test_stack_of_unlimited_parsing(page: str) -> None:
+    """The size of nested arrays that, by the page, overflows a stack: a tenth more does, and a tenth less doesn't."""
+    found = re.search(r"about (\d+) kB of nested arrays overflow a stack of (\d+) MiB", (TOP / page).read_text())
+    assert found, "the page names no size"
+    levels, stack = int(found[1]) * 1000 // 5, int(found[2]) << 20
+    for depth, wants in ((levels * 11 // 10, "status -11"), (levels * 9 // 10, "done")):
+        given = nesting.encoding("A", depth)
+        assert nesting.answer(program("test_hostile"), nesting.CALLS["parse_value"], depth, given, stack) == wants
+
+
 def stack_of_show() -> int:
     """The stack, in bytes, that docs/SHOW.md names for the deepest limit."""
     found = re.search(r"under ([\d.]+) MB in all", (TOP / "docs/SHOW.md").read_text())
