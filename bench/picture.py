@@ -47,7 +47,9 @@ def drawn(page: str) -> Iterator[str]:
         'font-family="sans-serif" font-size="13" fill="#222">'
     )
     yield '<rect width="100%" height="100%" fill="#fff"/>'
-    yield text(10, 18, "Time relative to the Rust crate amq-protocol-types 10.6.3; shorter is faster", 'font-weight="bold"')
+    yield text(
+        10, 18, "Time relative to the Rust crate amq-protocol-types 10.6.3; shorter is faster", 'font-weight="bold"'
+    )
     for step in range(5):
         x = LEFT + ONE * step / 4
         yield f'<line x1="{x:.0f}" y1="{TOP - 4}" x2="{x:.0f}" y2="{bottom}" stroke="{"#222" if step == 4 else "#ddd"}"/>'
