@@ -3,6 +3,7 @@
 import sys
 from collections.abc import Callable, Mapping
 from contextlib import suppress
+from functools import partial
 from importlib import import_module
 from importlib.util import find_spec
 from types import ModuleType
@@ -157,12 +158,22 @@ class Client:
         exact: bool = True,
         raises: bool = False,
     ) -> None:
-        """Puts this codec in place of the client's, with these options."""
+        """Puts this codec in place of the client's, with these options.
+
+        If it raises an exception, nothing has changed: the client has its own codec, or that of an earlier `install`.
+        """
         for name in filter(find_spec, self.versions):
             tested(import_module(name), *self.versions[name])
         codec = Codec(self, depth, frame, equal_keys, exact, raises)
-        self.uninstall()
-        self.put(codec)
+        earlier = [*self.places.changes]
+        try:
+            self.uninstall()
+            self.put(codec)
+        except BaseException:
+            self.uninstall()
+            for it in earlier:
+                self.places.change(*it)
+            raise
 
     def uninstall(self) -> None:
         """Puts the client's own codec, and what is around it, back."""
@@ -170,46 +181,53 @@ class Client:
 
 
 class Places:
-    """What was put in place of a client's objects."""
+    """The changes to a client's objects, in order."""
 
     def __init__(self) -> None:
-        self.kept: list[tuple[Any, Any, Any]] = []
-        self.functions: list[tuple[Any, Any]] = []
+        # How each is made, given the object to replace and its replacement; the client's object, and ours.
+        self.changes: list[tuple[Callable[[Any, Any], None], Any, Any]] = []
 
     def put(self, owner: Any, name: Any, ours: Any) -> None:
         """Puts an object at a key of a dictionary, or at a name of a class."""
-        self.kept.append((owner, name, (owner if isinstance(owner, dict) else vars(owner))[name]))
-        assign(owner, name, ours)
+        theirs = (owner if isinstance(owner, dict) else vars(owner))[name]
+        self.change(partial(assign, owner, name), theirs, ours)
 
     def put_everywhere(self, module: ModuleType, name: str, ours: Any) -> None:
         """Puts a function in place of a module's, also where other modules have imported it by name."""
-        theirs = getattr(module, name)
-        self.functions.append((theirs, ours))
-        rebind(theirs, ours)
+        self.change(rebind, getattr(module, name), ours)
+
+    def change(self, replace: Callable[[Any, Any], None], theirs: Any, ours: Any) -> None:
+        """Makes a change, recorded first: `restore` then also undoes one that an exception interrupted."""
+        self.changes.append((replace, theirs, ours))
+        replace(theirs, ours)
 
     def restore(self) -> None:
-        """Puts all of the client's objects back, also where ours were imported by name."""
-        while self.kept:
-            assign(*self.kept.pop())
-        while self.functions:
-            theirs, ours = self.functions.pop()
-            rebind(ours, theirs)
+        """Puts all of the client's objects back, the last first, also where ours were imported by name."""
+        while self.changes:
+            replace, theirs, ours = self.changes[-1]
+            replace(ours, theirs)
+            self.changes.pop()
 
 
-def assign(owner: Any, name: Any, value: Any) -> None:
+def assign(owner: Any, name: Any, _: Any, after: Any) -> None:
+    """Puts an object at a key of a dictionary, or at a name of a class, whatever is there."""
     if isinstance(owner, dict):
-        owner[name] = value
+        owner[name] = after
     else:
-        setattr(owner, name, value)
+        setattr(owner, name, after)
+
+
+# A module's global names. Asking a lazy module for `__dict__` would load it, which may fail.
+names_of = vars(ModuleType)["__dict__"].__get__
 
 
 def rebind(before: Any, after: Any) -> None:
     """Binds each global name of a module that has one object to another."""
     for module in [*sys.modules.values()]:
-        names = getattr(module, "__dict__", None)
-        if isinstance(names, dict):
+        if issubclass(type(module), ModuleType):
+            names = names_of(module)
             for name in [it for it, value in [*names.items()] if value is before]:
-                names[name] = after
+                assign(names, name, before, after)
 
 
 def tested(module: ModuleType, *versions: str) -> None:
