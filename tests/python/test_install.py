@@ -103,3 +103,15 @@ def test_a_failed_install_changes_nothing(name: str, is_installed: bool) -> None
     assert "behind" in dict(changed(before, bindings(packages)))
     adapter.uninstall()
     assert changed(own, bindings(packages)) == []
+
+
+@pytest.mark.parametrize("name", ["pamqp"], indirect=True)
+def test_aio_pika_9(name: str, monkeypatch: pytest.MonkeyPatch) -> None:
+    """It has no `format_headers`: the rest is installed."""
+    monkeypatch.delattr(import_module("aio_pika.message"), "format_headers", raising=False)
+    adapter, _, packages = ADAPTERS[name]
+    own = bindings(packages)
+    adapter.install()
+    assert {"pamqp.decode", "pamqp.encode", "behind"} <= {*dict(changed(own, bindings(packages)))}
+    adapter.uninstall()
+    assert changed(own, bindings(packages)) == []

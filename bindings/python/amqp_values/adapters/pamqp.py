@@ -115,6 +115,9 @@ def check_before_sending(places: Places) -> None:
 def keep_class_of_headers(places: Places) -> None:
     """Has aio-pika keep headers that came, in `headers_raw` of a message, where it makes a `float` a text of JSON."""
     message = import_module("aio_pika.message")
+    if not hasattr(message, "format_headers"):
+        # (from 9 on aio-pika keeps headers as they came)
+        return
     format_others = message.format_headers
 
     def format_headers(headers: Any) -> Any:
