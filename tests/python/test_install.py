@@ -2,14 +2,15 @@
 
 import sys
 from collections.abc import Callable, Iterator
-from importlib import import_module
+from importlib import import_module, metadata
 from importlib.util import find_spec
 from itertools import count
 from types import FrameType, ModuleType
 from typing import Any
+from unittest.mock import Mock
 
 import pytest
-from amqp_values.adapters import pamqp, pika, pyamqp, shared
+from amqp_values.adapters import UntestedVersion, pamqp, pika, pyamqp, shared
 
 # Each adapter: the modules that have the client's codec, and the packages whose objects it replaces.
 ADAPTERS: dict[str, tuple[Any, tuple[str, ...], tuple[str, ...]]] = {
@@ -115,3 +116,15 @@ def test_aio_pika_9(name: str, monkeypatch: pytest.MonkeyPatch) -> None:
     assert {"pamqp.decode", "pamqp.encode", "behind"} <= {*dict(changed(own, bindings(packages)))}
     adapter.uninstall()
     assert changed(own, bindings(packages)) == []
+
+
+def test_metadata_has_the_version(name: str, monkeypatch: pytest.MonkeyPatch) -> None:
+    """A client's module may not have it, as aiormq's from 6.8 on."""
+    adapter = ADAPTERS[name][0]
+    for it in adapter.client.versions:
+        monkeypatch.delattr(import_module(it), "__version__", raising=False)
+    adapter.install()
+    monkeypatch.setattr(metadata, "version", Mock(side_effect=["99.1", metadata.PackageNotFoundError]))
+    for found in ("99.1", "of no version"):
+        with pytest.raises(UntestedVersion, match=f" {found}: "):
+            adapter.install()

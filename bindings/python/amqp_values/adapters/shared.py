@@ -4,7 +4,7 @@ import sys
 from collections.abc import Callable, Mapping
 from contextlib import suppress
 from functools import partial
-from importlib import import_module
+from importlib import import_module, metadata
 from importlib.util import find_spec
 from types import ModuleType
 from typing import Any, Literal, NoReturn
@@ -232,6 +232,10 @@ def rebind(before: Any, after: Any) -> None:
 
 def tested(module: ModuleType, *versions: str) -> None:
     """Fails unless the version of a client is one that the adapter was tested with."""
-    found = getattr(module, "__version__", "of no version")
+    found = getattr(module, "__version__", None)
+    with suppress(metadata.PackageNotFoundError):
+        # (aiormq has had no `__version__` since 6.8)
+        found = found or metadata.version(module.__name__)
     if found not in versions:
-        raise UntestedVersion(f"{module.__name__} {found}: the adapter was tested with {', '.join(versions)} only")
+        name = f"{module.__name__} {found or 'of no version'}"
+        raise UntestedVersion(f"{name}: the adapter was tested with {', '.join(versions)} only")
