@@ -175,5 +175,5 @@ export function repeats(reading, most = 200) {
     const said = (row) => `${valueText(reading, row, most)} at ${value[row] - shift}`;
     const again = [...tables].filter(([, them]) => them.length > 1).sort(([one], [two]) => (one < two ? -1 : 1));
     return again.map(([, them]) => [them.at(-1), `the key ${keyText(reading, them[0])} comes ${them.length} times: `
-        + `first ${said(them[0])}, last ${said(them.at(-1))}; this library takes the last, RabbitMQ the first`]);
+        + `first ${said(them[0])}, last ${said(them.at(-1))}; this library takes the last; reject such tables`]);
 }

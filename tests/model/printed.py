@@ -397,7 +397,7 @@ def repeated(dissection: Dissection) -> Iterator[str]:
     for (_, key), found in sorted(dissection.tags.items()):
         if len(found) > 1:
             first, last = (f"{it.text} at {dissection.offset(it.offset)}" for it in (found[0], found[-1]))
-            ends = "this library takes the last, RabbitMQ the first"
+            ends = "this library takes the last; reject such tables"
             yield f"* the key {quoted(key)} comes {len(found)} times: first {first}, last {last}; {ends}"
 
 
@@ -596,7 +596,7 @@ def exceeds(end: int, frame_max: int) -> bool:
 
 
 WARNINGS = {
-    "repeated_key": "the key {} comes again; this library takes the last, RabbitMQ the first",
+    "repeated_key": "the key {} comes again; this library takes the last; reject such tables",
     "key_not_utf8": "the key {} isn't UTF-8; this library refuses it",
     "empty_key": "the key {} is empty; some clients break on it",
     "too_deep": "containers nest deeper than --levels allows; most clients break on some depth",

@@ -32,7 +32,7 @@ table_canonical
       16  0000000000000001      1
       24  00                    key length 0 (not canonical: the key comes after a greater one)
       25  56                    type tag V, Void
-  * the key "a" comes 2 times: first ShortInt 1 at 10, last LongLongInt 1 at 15; this library takes the last, RabbitMQ the first
+  * the key "a" comes 2 times: first ShortInt 1 at 10, last LongLongInt 1 at 15; this library takes the last; reject such tables
   = a table of 26 bytes, 0 follow
 
 table_cut

@@ -2,7 +2,7 @@
 
 check_on_terminal
   $ echo 460000000c 0161 56 01e4 56 0161 56 01e4 56 5656 | xxd -r -p | amqp_show --check rabbitmq --frame-max 23 >/dev/tty
-  \x1b[33m* offset 11: the key "a" comes again; this library takes the last, RabbitMQ the first\x1b[0m (esc)
+  \x1b[33m* offset 11: the key "a" comes again; this library takes the last; reject such tables\x1b[0m (esc)
   \x1b[33m* offset 8: the key "\\xe4" isn't UTF-8; this library refuses it\x1b[0m (esc)
   \x1b[33m* the value takes a frame of more bytes than --frame-max allows\x1b[0m (esc)
   = RabbitMQ 3.10.8 takes a value of 17 bytes, 2 follow
@@ -182,7 +182,7 @@ tree_on_terminal
       17  0000000000000001      1
       25  00                    key length 0 \x1b[33m(not canonical: the key comes after a greater one)\x1b[0m (esc)
       26  56                    type tag V, Void
-  \x1b[33m* the key "a" comes 2 times: first ShortInt 1 at 11, last LongLongInt 1 at 16; this library takes the last, RabbitMQ the first\x1b[0m (esc)
+  \x1b[33m* the key "a" comes 2 times: first ShortInt 1 at 11, last LongLongInt 1 at 16; this library takes the last; reject such tables\x1b[0m (esc)
   = a value of 27 bytes, 0 follow
   no_id.hex:
   \x1b[31m! offset 0: a type tag is expected; 7a is none\x1b[0m (esc)

@@ -95,7 +95,7 @@ canonical
       17  0000000000000001      1
       25  00                    key length 0 (not canonical: the key comes after a greater one)
       26  56                    type tag V, Void
-  * the key "a" comes 2 times: first ShortInt 1 at 11, last LongLongInt 1 at 16; this library takes the last, RabbitMQ the first
+  * the key "a" comes 2 times: first ShortInt 1 at 11, last LongLongInt 1 at 16; this library takes the last; reject such tables
   = a value of 27 bytes, 0 follow
 
 repeated_keys
@@ -110,9 +110,9 @@ repeated_keys
     "": Void
     "a": ShortInt 5
     "": Boolean
-  * the key "" comes 2 times: first Void at 39, last Boolean at 46; this library takes the last, RabbitMQ the first
-  * the key "a" comes 3 times: first ShortInt 1 at 7, last ShortInt 5 at 42; this library takes the last, RabbitMQ the first
-  * the key "a" comes 2 times: first ShortInt 1 at 19, last ShortInt 2 at 27; this library takes the last, RabbitMQ the first
+  * the key "" comes 2 times: first Void at 39, last Boolean at 46; this library takes the last; reject such tables
+  * the key "a" comes 3 times: first ShortInt 1 at 7, last ShortInt 5 at 42; this library takes the last; reject such tables
+  * the key "a" comes 2 times: first ShortInt 1 at 19, last ShortInt 2 at 27; this library takes the last; reject such tables
   ! offset 47: the payload of a Boolean is expected; more bytes needed: 1
   = refused, Eof
   [1]

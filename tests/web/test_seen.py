@@ -175,7 +175,7 @@ def test_notes(browser: Browser) -> None:
     assert marked(browser) == (['"a": Float NaN (bits 7fc00000)'], "0161667fc00000")
     assert browser.run("return document.querySelector('.here').id") == "byte-7"
     browser.type("46 0000000a 01 61 74 01 01 62 56 01 61 56")
-    again = 'the key "a" comes 2 times: first Boolean true at 7, last Void at 14; this library takes the last, RabbitMQ the first'
+    again = 'the key "a" comes 2 times: first Boolean true at 7, last Void at 14; this library takes the last; reject such tables'
     assert browser.text("notes").splitlines() == ["RabbitMQ 3.10.8 takes it", again, "not canonical"]
     browser.driver.find_element("css selector", "#notes button").click()
     assert marked(browser) == (['"a": Void'], "016156")
