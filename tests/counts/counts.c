@@ -27,8 +27,8 @@ int64_t amqp_bench_dissect(const uint8_t *bytes, size_t length);
 int64_t amqp_bench_roundtrip(const uint8_t *bytes, size_t length, uint8_t *out, size_t capacity);
 int64_t amqp_bench_encode_n(const uint8_t *bytes, size_t length, uint8_t *out, size_t capacity, uint64_t times);
 
-/* MOST_IN_PIECES: longer inputs aren't read in the smallest pieces. */
-enum { STACK = 16 << 20, MOST = 20 << 20, DEPTH = 5000, MOST_ENTRIES = 10000, MOST_IN_PIECES = 250000 };
+/* LEVELS: no input nests deeper. MOST_IN_PIECES: longer inputs aren't read in the smallest pieces. */
+enum { STACK = 16 << 20, MOST = 20 << 20, DEPTH = 5000, LEVELS = 256, MOST_ENTRIES = 10000, MOST_IN_PIECES = 250000 };
 /* What a call did: SKIPPED if it isn't for the input. */
 enum { FAILED, WELL, SKIPPED };
 static uint8_t *bytes, *buffer;
@@ -303,12 +303,12 @@ static int writes_table(void) {
 
 static int warns(void) {
     amqpv_warnings warnings;
-    return amqpv_first_warnings(bytes, length, DEPTH, 0, AMQPV_CLIENT_LEVELS, &warnings) >= AMQPV_OK;
+    return amqpv_first_warnings(bytes, length, DEPTH, 0, LEVELS, &warnings) >= AMQPV_OK;
 }
 
 static int warns_of_table(void) {
     amqpv_warnings warnings;
-    return amqpv_first_warnings_in_table(bytes + 1, length - 1, DEPTH, 0, AMQPV_CLIENT_LEVELS, &warnings) >= AMQPV_OK;
+    return amqpv_first_warnings_in_table(bytes + 1, length - 1, DEPTH, 0, LEVELS, &warnings) >= AMQPV_OK;
 }
 
 static int canonicalizes(void) {

@@ -20,7 +20,7 @@ from crates import TOP
 CAPTURED = TOP / "examples/captured/tables.txt"
 FRAME, DEPTH = 2**20, 64
 # How deep containers nest that no client breaks on.
-CLIENT_LEVELS = 256
+CLIENT_LEVELS = 32
 # RabbitMQ's usual frame-max.
 FRAME_MAX = 2**17
 # Each type tag's type, and the width of its payload, or None if a length counts it.

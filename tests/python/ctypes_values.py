@@ -57,7 +57,7 @@ if TYPE_CHECKING:
 # Limits for untrusted bytes (RabbitMQ sends more than its usual frame-max, 131072), and of the library for JSON.
 FRAME, DEPTH, JSON_NESTING = 1048576, 64, 127
 # RabbitMQ's usual frame-max, and how deep containers nest for each client that was tried.
-FRAME_MAX, CLIENT_LEVELS = 131072, 256
+FRAME_MAX, CLIENT_LEVELS = 131072, 32
 # The largest `depth`. The stack of a thread usually has 8 MiB, and what overflows it ends the process.
 MOST_DEPTH = 4096
 

@@ -105,8 +105,8 @@ def test_each_stream_is_tried(values: list[bytes]) -> None:
 
 @pytest.mark.parametrize("count", (printed.CLIENT_LEVELS, printed.CLIENT_LEVELS + 1))
 def test_levels(program: Path, count: int) -> None:
-    """The default of --levels, which is beyond that of --depth."""
+    """The default of --levels, which is below that of --depth."""
     data = printed.nested("AF", count, b"")
-    wants = printed.checked(data, depth=300)
+    wants = printed.checked(data)
     assert wants[0].startswith("* offset") == (count > printed.CLIENT_LEVELS)
-    assert shown(program, "--check rabbitmq --depth 300", data) == as_ending(wants)
+    assert shown(program, "--check rabbitmq", data) == as_ending(wants)

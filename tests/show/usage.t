@@ -26,7 +26,7 @@ help
         --max-bytes <N>  Refuse a value of more than N bytes [default: 1048576] [alias: --frame]
         --depth <N>      Refuse containers that nest more than N deep, at most 1000 [default: 64]
         --frame-max <N>  With --check: warn of a value that takes a frame of more than N bytes [default: 131072]
-        --levels <N>     With --check: warn of containers that nest more than N deep [default: 256]
+        --levels <N>     With --check: warn of containers that nest more than N deep [default: 32]
     -h, --help           Print help
     -V, --version        Print version
 
