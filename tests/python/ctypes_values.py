@@ -575,7 +575,7 @@ class Entry:
             at = _Entry()
 
     def get(self, key: str | bytes, first: bool = True) -> Entry | None:
-        """The entry of a table with a key: of equal keys the first, as for RabbitMQ, or the last."""
+        """The entry of a table with a key: of equal keys the first or the last."""
         call = "find_first" if first else "find"
         cursor, at, content = self._cursor(), _Entry(), _key(key, "surrogateescape")
         is_found = _is_ok(_result(call, self._data, len(self._data), byref(cursor), content, len(content), byref(at)))
@@ -622,7 +622,7 @@ def entries(data: Bytes, **how: Any) -> Iterator[Entry]:
 
 
 def find(data: Bytes, path: Path, *, first: bool = True, default: Any = None, **how: Any) -> Any:
-    """The value at a path, or `default`; all is checked, as by `entry`. Of equal keys the first counts, as for RabbitMQ, or the last, as for `loads`."""
+    """The value at a path, or `default`; all is checked, as by `entry`. Of equal keys the first counts, or the last, as for `loads`."""
     found = entry(data, **how).find(path, first)
     return default if found is None else found.value
 

@@ -30,7 +30,7 @@ impl<'b> TableBuilder<'b> {
         Ok(Self(Body { buffer, into: amqpv_container { written, tag: AMQPV_TABLE, ..amqpv_container::default() } }))
     }
 
-    /// Appends a pair. A key may come again: RabbitMQ takes the first pair, other readers the last.
+    /// Appends a pair. A key may come again, but don't send such a table: RabbitMQ and clients take different pairs.
     ///
     /// # Errors
     ///

@@ -13,7 +13,7 @@ pub enum PathStep<'p> {
 /// Which of several pairs with an equal key a look-up takes.
 #[derive(Clone, Copy, Debug, PartialEq, Eq)]
 pub enum EqualKeys {
-    /// The first, as RabbitMQ takes: [`TableRef::get_first`].
+    /// The first: [`TableRef::get_first`].
     First,
     /// The last, as `amq-protocol-types` takes: [`TableRef::get`].
     Last,
@@ -34,7 +34,7 @@ impl<'a> TableRef<'a> {
         find(self.body(), key).map(|entry| ValueRef::of(self.body(), &entry))
     }
 
-    /// Returns the value at a key, of equal keys the first one's, as RabbitMQ takes.
+    /// Returns the value at a key, of equal keys the first one's.
     #[must_use]
     pub fn get_first(self, key: &str) -> Option<ValueRef<'a>> {
         find_first(self.body(), key).map(|entry| ValueRef::of(self.body(), &entry))
