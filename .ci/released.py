@@ -1,4 +1,4 @@
-"""The version of the C library, by its header, and the day of its release, by the list of changes."""
+"""The version of the C library, by its header, and the day of its release, by the list of changes, once it has one."""
 
 import re
 import sys
@@ -14,9 +14,11 @@ def found(pattern: str, name: str) -> str:
 
 
 VERSION = found(r'(?m)^#define AMQPV_VERSION "(.*)"$', "include/amqp_values.h")
+# What dates the files of a version that isn't released: any day, as long as it stays the same.
+UNRELEASED = "2026-01-01"
 
 
 def released_at() -> datetime:
     """The begin of the day, by which all that is packed is dated, so that it has the same bytes whenever it is made."""
-    day = found(rf"(?m)^## {re.escape(VERSION)}, (\d+-\d+-\d+)$", "CHANGELOG.md")
-    return datetime.fromisoformat(day).replace(tzinfo=timezone.utc)
+    day = found(rf"(?m)^## {re.escape(VERSION)}, (\d+-\d+-\d+|unreleased)$", "CHANGELOG.md")
+    return datetime.fromisoformat(UNRELEASED if day == "unreleased" else day).replace(tzinfo=timezone.utc)
