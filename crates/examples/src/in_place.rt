@@ -2,7 +2,7 @@
 
 use crate::headers::HEADERS;
 use amq_protocol_types::parsing::ParserError;
-use amqp_in_place::{EqualKeys, Limits, PathStep, is_canonical, read_in_place};
+use amqp_in_place::{EqualKeys, Limits, PathStep, read_in_place};
 use anyhow::{Result, bail};
 
 /// How often a message was dead-lettered, by its headers' bytes, which anyone may have sent.
@@ -37,7 +37,7 @@ pub fn run<P: Print>(rt: &P) -> Result<()> {
     };
     let retry = headers.get("retry").and_then(|value| value.as_bool());
     println!(rt; "in place: retry is {retry:?}")?;
-    let canonical = is_canonical(HEADERS, limits);
+    let canonical = amqp_in_place::is_canonical(HEADERS, limits);
     println!(rt; "in place: in canonical encoding: {canonical}")?;
     Ok(())
 }
