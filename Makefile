@@ -20,7 +20,7 @@ $(OF_AARCH64)/checksums: $(SOURCES)
 	.ci/dist --target $(AARCH64) "$(OF_AARCH64)"
 
 check:
-	tests/c/run
+	tests/run c
 
 # the archive at the place at which bindings/rust/amqp-values-sys links it
 rust: all

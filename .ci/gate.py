@@ -174,7 +174,7 @@ def add_proofs(steps: Steps, asked: Asked, copy: Path) -> Step:
 
 def commands(asked: Asked, copy: Path) -> dict[str, list[object]]:
     """The command of each step but the one that proves; its script is in the repository, or in the copy that is proved."""
-    of_copy = copy / "tests"
+    of_copy = copy / "tests/run"
     # what is random is tried otherwise in each run
     random = ["--random"] * asked.is_whole()
     must_fail = ["--must-fail", TOP, "--record", TOP / KEYS]
@@ -182,19 +182,19 @@ def commands(asked: Asked, copy: Path) -> dict[str, list[object]]:
         "docs": [TOP / ".ci/docs"],
         # (the model has a step of its own)
         "test": [TOP / ".ci/test", "--jobs", 2, *["--without", "model"] * ("model" in asked.steps)],
-        "style": [TOP / "tests/style/run"],
-        "model": [TOP / "tests/model/run", *random],
-        "show": [of_copy / "show/run"],
-        "alloc-failures": [of_copy / "memory/alloc-failures"],
-        "sizes": [of_copy / "memory/sizes"],
-        "wire": [of_copy / "wire/run"],
-        "c": [of_copy / "c/run", "--built", *["--root"] * asked.is_whole()],
-        "python": [of_copy / "python/run", "--built", *random],
-        "counts": [of_copy / "counts/run", "--built"],
-        "web": [of_copy / "web/run", "--built", *random],
-        "rust": [of_copy / "rust/run", "--built"],
-        "crate": [of_copy / "oracle/run"],
-        "broker": [of_copy / "rabbitmq/run", "--built", "--tables", TABLES[asked.name]],
+        "style": [TOP / "tests/run", "style"],
+        "model": [TOP / "tests/run", "model", *random],
+        "show": [of_copy, "show"],
+        "alloc-failures": [of_copy, "memory/alloc-failures"],
+        "sizes": [of_copy, "memory/sizes"],
+        "wire": [of_copy, "wire"],
+        "c": [of_copy, "c", "--built", *["--root"] * asked.is_whole()],
+        "python": [of_copy, "python", "--built", *random],
+        "counts": [of_copy, "counts", "--built"],
+        "web": [of_copy, "web", "--built", *random],
+        "rust": [of_copy, "rust", "--built"],
+        "crate": [of_copy, "oracle"],
+        "broker": [of_copy, "rabbitmq", "--built", "--tables", TABLES[asked.name]],
         "mutants": [copy / ".ci/mutants", "--built", *must_fail, *["--all"] * asked.is_whole()],
     }
 

@@ -186,9 +186,9 @@ def test_run_that_fails_leaves_no_folder(made: Path, tmp_path: Path) -> None:
 
 
 def test_tests_say_that_they_need_the_kit(tmp_path: Path) -> None:
-    done = run([TOP / "tests/c/run"], env={"PATH": PATH, "TMPDIR": str(tmp_path)})
+    done = run([TOP / "tests/run", "c"], env={"PATH": PATH, "TMPDIR": str(tmp_path)})
     assert done.returncode
-    assert [it for it in (done.stdout + done.stderr).splitlines() if it.startswith("ERROR: tests/c/run needs rt")]
+    assert [it for it in (done.stdout + done.stderr).splitlines() if it.startswith("ERROR: tests/run c needs rt")]
 
 
 @pytest.fixture

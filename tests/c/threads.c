@@ -2,7 +2,7 @@
  * Eight threads make the calls of include/amqp_values.h at once, over bytes that they share: each reads, measures, iterates,
  * looks up, builds, and makes the canonical encoding and JSON in separate buffers, and gets what one thread got before.
  * Compiled with ThreadSanitizer, which sees what this program and the C library access, but not what the library accesses by
- * itself: that this has no variables is checked by tests/c/run. Prints how many calls were made.
+ * itself: that this has no variables is checked by tests/run c. Prints how many calls were made.
  */
 #include "amqp_values.h"
 #include "condition.h"

@@ -1,5 +1,5 @@
 /*
- * Makes each call that allocates over each input, for tests/counts/run: at_once FOLDER. Prints a line for each: the call, the
+ * Makes each call that allocates over each input, for tests/run counts: at_once FOLDER. Prints a line for each: the call, the
  * input, whether it is done or rejected, how many bytes it has, values and levels if these are counted, and the most bytes
  * that were held at once, while realloc has its old block and the new one too.
  *

@@ -1,5 +1,5 @@
 /*
- * Makes each call over each input once, for tests/counts/run: counts FOLDER. Under callgrind the instructions of each are dumped;
+ * Makes each call over each input once, for tests/run counts: counts FOLDER. Under callgrind the instructions of each are dumped;
  * without it a line for each has the requests for memory, their bytes, the most bytes at once, the stack, and how many bytes the
  * C library copies or fills.
  *
@@ -390,7 +390,7 @@ static int dissects(void) {
     return amqp_bench_dissect(bytes, length) == (int64_t)length;
 }
 
-/* Of "gen_value" tests/counts/run subtracts "parse_value and gen_value": that leaves what the second writing takes. */
+/* Of "gen_value" tests/run counts subtracts "parse_value and gen_value": that leaves what the second writing takes. */
 static const struct {
     const char *name;
     int (*call)(void);

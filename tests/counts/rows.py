@@ -21,7 +21,7 @@ def rows() -> tuple[Rows, dict[str, str]]:
 
 def write(found: Rows, old: Rows, why: dict[str, str]) -> None:
     """Writes the rows: each count that is less than its row has, and those without a row."""
-    lines = ["# What calls take: " + ", ".join(COLUMNS) + ". tests/counts/run --write lowers them."]
+    lines = ["# What calls take: " + ", ".join(COLUMNS) + ". tests/run counts --write lowers them."]
     for label, counts in found.items():
         row = old.get(label, counts)
         least = [min(it) for it in zip(counts[:-1], row[:-1])]

@@ -59,7 +59,7 @@ def kept(request: pytest.FixtureRequest, found: Rows, notes: list[str]) -> Rows:
 
 
 def test_each_call_and_input_has_a_row(found: Rows, kept: Rows) -> None:
-    assert sorted(found.keys() - kept.keys()) == [], "tests/counts/run --write adds them"
+    assert sorted(found.keys() - kept.keys()) == [], "tests/run counts --write adds them"
 
 
 def test_each_row_is_of_a_call_and_input(found: Rows, kept: Rows) -> None:

@@ -1,7 +1,7 @@
 """What crates/test_hostile and crates/amqp_wire have to print, by the reader and writer of printed.py.
 
 Compares that with the files `stdout` of both, which `rt ci` compares with what the programs print. By docs/JSON.md and
-docs/SHOW.md it also checks what the cases of tests/show with JSON, measures and RabbitMQ must print, which tests/show/run
+docs/SHOW.md it also checks what the cases of tests/show with JSON, measures and RabbitMQ must print, which tests/run show
 compares with what amqp_show prints.
 """
 

@@ -1,4 +1,4 @@
-"""What the page takes, and its size: docs/SPEED.md has both, as tests/web/run --write measures them."""
+"""What the page takes, and its size: docs/SPEED.md has both, as tests/run web --write measures them."""
 
 import gzip
 import re
@@ -10,7 +10,7 @@ from crates import TOP
 from tests.web.browser import Browser
 
 PAGE = TOP / "docs/SPEED.md"
-BEGIN, END = "<!-- run: tests/web/run --write -->\n", "<!-- end of the page -->\n"
+BEGIN, END = "<!-- run: tests/run web --write -->\n", "<!-- end of the page -->\n"
 # Reads a mebibyte of pairs with keys that ascend, of others, or of Voids, or takes it as hexadecimal, as many times as are asked
 # for, and draws nothing.
 READS = """

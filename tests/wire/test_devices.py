@@ -1,6 +1,6 @@
 """amqp_wire, as `rt ci` left it, if what it reads from or writes to fails.
 
-tests/memory/alloc-failures makes calls of the system fail; here the devices do, in each form: lines of hexadecimal, and
+tests/run memory/alloc-failures makes calls of the system fail; here the devices do, in each form: lines of hexadecimal, and
 --stream. If a read or a write fails the exit status is 2, standard error has what happened, and standard output has a part
 of what a run writes if nothing fails. If standard error fails too, the status still reports what happened.
 """
