@@ -1,16 +1,32 @@
-# Makes, installs and packs the C library and amqp_show. `make` and `make check` need the Rattle kit and what .ci/setup
-# installs; what is installed or packed needs neither.
+# Builds, tests, installs and packs the C library and amqp_show; `make help` lists the targets. `make test` needs the Rattle kit,
+# `make` and `make check` also what `make setup` installs. What is installed or packed needs none of these.
 TARGET = x86_64-unknown-linux-gnu
 FOLDER = out/dist
 AARCH64 = aarch64-unknown-linux-gnu
 OF_AARCH64 = out/aarch64
 INSTALL_SH = packaging/install.sh
+.DEFAULT_GOAL = all
 
-all: $(FOLDER)/checksums
+help: ## list the targets
+	@sed -n 's/^\([a-z-]*\):[^#]*## /\1\t/p' $(MAKEFILE_LIST) | expand -t 12
+
+setup: ## install what `make check` needs, as root (WITHOUT=broker leaves RabbitMQ out)
+	@.ci/setup
+
+test: ## run the tests that need only the kit, python3, make and git (about 5 minutes)
+	@python3 .ci/gate.py test
+
+check: ## run everything else a change must pass (20 to 80 minutes; WITHOUT="broker crate" skips steps)
+	@python3 .ci/gate.py check
+
+check-c: ## test the C library
+	tests/run c
+
+all: $(FOLDER)/checksums ## prove the crates and build the C library and amqp_show (40 minutes; plain `make` does this)
 
 include packaging/install.mk
 
-# The crates are proved first, in some 40 minutes. A run that fails leaves no folder.
+# The crates are proved first. A run that fails leaves no folder.
 SOURCES := $(shell .ci/dist --sources)
 
 $(FOLDER)/checksums: $(SOURCES)
@@ -19,30 +35,23 @@ $(FOLDER)/checksums: $(SOURCES)
 $(OF_AARCH64)/checksums: $(SOURCES)
 	.ci/dist --target $(AARCH64) "$(OF_AARCH64)"
 
-check:
-	tests/run c
-
-# the archive at the place at which bindings/rust/amqp-values-sys links it
-rust: all
-	install -D -m 644 $(FOLDER)/lib/libamqp_values.a bindings/rust/amqp-values-sys/lib/$(TARGET)/libamqp_values.a
-
-# the page that shows a field table, out/web/amqp.html
-web:
-	.ci/web
-
-# a release for both processors, and packages of Debian for x86-64
-dist: all $(OF_AARCH64)/checksums
+dist: all $(OF_AARCH64)/checksums ## pack a release for x86-64 and aarch64
 	.ci/pack "$(FOLDER)" "$(OF_AARCH64)"
 
-deb: all
+deb: all ## make packages of Debian for x86-64
 	.ci/deb "$(FOLDER)"
 
-# the package for Python as a wheel for each processor, by Debian's Python and nothing else; that for x86-64 is installed in
-# fresh environments of each version that is there
-wheel: all $(OF_AARCH64)/checksums
+# By Debian's Python and nothing else. The wheel for x86-64 is tried in fresh environments of each Python that is there.
+wheel: all $(OF_AARCH64)/checksums ## make wheels of the Python package
 	python3 .ci/wheels.py out/wheel "$(FOLDER)" "$(OF_AARCH64)"
 
-clean:
+web: ## make the page that shows a field table, out/web/amqp.html
+	.ci/web
+
+rust: all ## put the library where the Rust crate amqp-values-sys links it
+	install -D -m 644 $(FOLDER)/lib/libamqp_values.a bindings/rust/amqp-values-sys/lib/$(TARGET)/libamqp_values.a
+
+clean: ## remove what these targets made
 	rm -rf out/dist out/aarch64 out/packed out/deb out/wheel out/web
 
-.PHONY: check rust web dist deb wheel clean
+.PHONY: help setup test check check-c dist deb wheel web rust clean

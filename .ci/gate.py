@@ -1,6 +1,29 @@
-"""The steps of .ci/run and .ci/whole, which are shell scripts since CI runs the first by `bash`."""
+"""Runs the steps of `make test`, `make check` or .ci/whole: gate.py test|check|whole
 
-import argparse
+    proofs          each crate proved from nothing, on a copy without the crates that have only tests, with the stored runs
+    docs            the pages against the sources (.ci/docs)
+    style           the types and the format of what is written in Python (tests/run style; so for each name below)
+    model           the model's own tests
+    vendor          the crates in another repository, as the README says
+    fresh           the README's first commands on a machine that has only the kit (.ci/whole only)
+  and then, over the programs and libraries that `proofs` has left:
+    show            amqp_show in each of its forms
+    alloc-failures  each allocation, read and write fails in turn
+    sizes           large input
+    wire            programs on devices that fail
+    c, python       the calls for C; the Python package
+    counts          instructions and memory of calls
+    web             the page, in browsers
+    rust            the Rust crate's drop-in, and the Rust crates over the calls for C
+    crate           1,000,000 fresh requests to the Rust crate and to this library (tests/run oracle)
+    broker          the calls for C against a running RabbitMQ
+    mutants         the mutants of the modules that changed, and those of one crate in turn (.ci/mutants)
+
+The environment names steps: WITHOUT="broker crate" skips these, ONLY="wire sizes" runs only these and what they need. The last
+line counts, and says what was skipped. `crate` is skipped too if the Rust crate isn't at hand (AMQ_PROTOCOL_TYPES names its
+folder, or cargo has kept it); .ci/whole doesn't begin then.
+"""
+
 import os
 import re
 import shutil
@@ -10,10 +33,10 @@ from collections.abc import Collection, Iterator, Sequence
 from pathlib import Path
 from typing import NamedTuple
 
-import least
+import unproved
 from building import TEST_CRATES, copy_repository, leave_out_tests
-from crates import TOP, said_by
-from steps import Judged, Step, Steps, by_last_line
+from crates import TOP, Crates, said_by
+from steps import Judged, Step, Steps, by_last_line, print_counts
 
 from tests.oracle.sides import is_at_hand
 from tests.rabbitmq.broker import BIN
@@ -21,13 +44,15 @@ from tests.rabbitmq.clients import PYTHON
 
 # The program logic in which all of this is proved: `rt version` ends with it, whatever the kit is called.
 LOGIC = "logic dac8208d650f15bf"
-# What each step needs besides the kit; `python3`, `cc` and `c++` can't be left out.
+# What each step of `make check` and .ci/whole needs besides the kit and these programs.
 ALWAYS = ("git", "python3", "cc", "c++")
 NEEDS: dict[str, tuple[str, ...]] = {
+    "proofs": (),
     "docs": (),
-    "test": (PYTHON,),
     "style": (PYTHON, "mypy", "black"),
     "model": (PYTHON,),
+    "vendor": (PYTHON,),
+    "fresh": ("debootstrap", "make"),
     "show": (PYTHON,),
     "alloc-failures": (PYTHON,),
     "sizes": (PYTHON,),
@@ -45,26 +70,17 @@ NEEDS: dict[str, tuple[str, ...]] = {
     "mutants": (),
 }
 # The step that proves, and those that need nothing that it leaves.
-PROOFS, NEED_NO_PROOFS = "rt ci", {"docs", "test", "style", "model"}
-# The modules of Debian's Python that each step needs, and how many tables are sent in .ci/run and .ci/whole.
+PROOFS, NEED_NO_PROOFS = "proofs", {"docs", "style", "model", "vendor", "fresh"}
+# The step that takes root and a network.
+OF_WHOLE = {"fresh"}
+# The modules of Debian's Python that a step needs if it needs that at all, and how many tables are sent.
 PYTEST = ("pytest", "xdist", "hypothesis")
 MODULES = {
-    "test": PYTEST,
-    "style": PYTEST,
-    "model": PYTEST,
-    "show": PYTEST,
-    "alloc-failures": PYTEST,
-    "sizes": PYTEST,
-    "wire": PYTEST,
-    "python": (*PYTEST, "pip", "setuptools", "wheel"),
-    "c": PYTEST,
-    "counts": PYTEST,
-    "web": (*PYTEST, "selenium"),
-    "rust": PYTEST,
-    "crate": PYTEST,
-    "broker": (*PYTEST, "pika", "amqp", "kombu", "celery", "pamqp", "aiormq", "aio_pika"),
+    "python": ("pip", "setuptools", "wheel"),
+    "web": ("selenium",),
+    "broker": ("pika", "amqp", "kombu", "celery", "pamqp", "aiormq", "aio_pika"),
 }
-TABLES = {"run": 500, "whole": 10000}
+TABLES = {"check": 500, "whole": 10000}
 KEYS = ".ci/mutant-keys"
 NO_CRATE = "neither AMQ_PROTOCOL_TYPES names the Rust crate's folder nor cargo has kept it"
 REJECTED = re.compile(
@@ -75,12 +91,16 @@ TELLS_PROOFS = r"(?<=^rt: )\w+(: its tests)? (proved|NOT PROVED|ran|is kept)\b|:
 TELLS_MUTANTS = r"^\w+: tried$|NOT REJECTED|NOT TRIED|self test: FAILED|^changed.*"
 
 
+class Unknown(Exception):
+    """A name in the environment that no step has."""
+
+
 class Asked(NamedTuple):
-    """What the words of .ci/NAME ask for: the steps to be run, and what is said of the others at the end."""
+    """What is to be run: the steps, and what the last line says of the others."""
 
     name: str
     steps: set[str]
-    notes: list[str]
+    skipped: str
 
     def is_whole(self) -> bool:
         """Whether nothing is carried over."""
@@ -91,24 +111,26 @@ class Asked(NamedTuple):
         return bool(self.steps - NEED_NO_PROOFS)
 
 
-def asked(name: str, words: Sequence[str]) -> Asked:
-    """Reads the words of .ci/NAME, whose comment is its help."""
-    text = re.findall(r"(?m)^# ?(.*)$", (TOP / ".ci" / name).read_text().partition("\n")[2])
-    reader = argparse.ArgumentParser(
-        prog=f".ci/{name}", description="\n".join(text), formatter_class=argparse.RawDescriptionHelpFormatter
-    )
-    # in .ci/whole rt ci runs the tests and the stored runs
-    names = [it for it in NEEDS if it != "test" or name != "whole"]
-    reader.add_argument("--without", action="append", default=[], choices=names, metavar="NAME")
-    reader.add_argument("--only", action="append", default=[], choices=[PROOFS, *names], metavar="NAME")
-    said = reader.parse_args(words)
-    steps = {*(said.only or [PROOFS, *names])} - {*said.without}
-    notes = [f"only: {it}" for it in said.only] + [f"left out: {it}" for it in said.without]
-    # (before a release it isn't left out unasked)
-    if name != "whole" and "crate" in steps and not is_at_hand():
+def words_of(variable: str, known: Collection[str]) -> list[str]:
+    """The steps that a variable of the environment names."""
+    words = os.environ.get(variable, "").split()
+    if others := [it for it in words if it not in known]:
+        raise Unknown(f"{variable}: there is no step {', '.join(others)}; there are: {' '.join(known)}")
+    return words
+
+
+def asked(name: str) -> Asked:
+    """What of `make test`, `make check` or .ci/whole the environment asks for. It may name steps of the others too."""
+    of_test = unproved.names(Crates())
+    of_name = {"test": {*of_test}, "check": {*NEEDS} - OF_WHOLE, "whole": {*NEEDS}}[name]
+    only, without = (words_of(it, [*of_test, *NEEDS]) for it in ("ONLY", "WITHOUT"))
+    steps = (of_name & {*only} if only else of_name) - {*without}
+    if name == "check" and "crate" in steps and not is_at_hand():
+        print(f"crate is skipped: {NO_CRATE}")
         steps.remove("crate")
-        notes.append(f"left out: crate, since {NO_CRATE}")
-    return Asked(name, steps, notes)
+        without.append("crate")
+    said = [f"{word}: {' '.join(names)}" for word, names in (("only", only), ("skipped", without)) if names]
+    return Asked(name, steps, "; ".join(said))
 
 
 def has_module(name: str) -> bool:
@@ -116,32 +138,33 @@ def has_module(name: str) -> bool:
     return subprocess.run([PYTHON, "-c", f"import {name}"], capture_output=True).returncode == 0
 
 
-def missing(steps: Collection[str], is_whole: bool) -> Iterator[str]:
+def missing(asked: Asked) -> Iterator[str]:
     """Yields what is missing for these steps, before anything is begun."""
     line = said_by("rt", "version")
     if not line.endswith(LOGIC):
-        yield f"rt version prints {line or 'nothing'}, which doesn't end in {LOGIC}"
-    programs = [*ALWAYS, *(it for step, words in NEEDS.items() if step in steps for it in words)]
-    programs += ["debootstrap"] * (is_whole and "c" in steps)
-    lacks = [it for it in programs if not (shutil.which(it) or it.endswith(".h") and Path(it).exists())]
-    if PYTHON not in lacks:
-        modules = sorted({it for step, names in MODULES.items() if step in steps for it in names})
+        yield f"rt version prints {line}, which doesn't end in {LOGIC}" if line else "rt, of the Rattle kit, is missing"
+    if asked.name == "test":
+        return
+    programs = [*ALWAYS, *(it for step in asked.steps for it in NEEDS[step])]
+    programs += ["debootstrap"] * (asked.is_whole() and "c" in asked.steps)
+    lacks = [it for it in dict.fromkeys(programs) if not (shutil.which(it) or it.endswith(".h") and Path(it).exists())]
+    if PYTHON in programs and PYTHON not in lacks:
+        modules = sorted({*PYTEST, *(it for step in asked.steps for it in MODULES.get(step, ()))})
         lacks += [f"the module {it} of {PYTHON}" for it in modules if not has_module(it)]
-    yield from (f"{it} is missing (.ci/setup installs it)" for it in lacks)
-    if "crate" in steps and not is_at_hand():
-        yield f"{NO_CRATE} (--without crate leaves its step out)"
+    yield from (f"{it} is missing (make setup installs it)" for it in lacks)
+    if "crate" in asked.steps and not is_at_hand():
+        yield f"{NO_CRATE} (WITHOUT=crate skips its step)"
 
 
 def by_proved(step: Step) -> Judged:
-    """Judges `rt ci` by its last line, and whether it ran the tests of test_hostile, which .ci/test only counts."""
+    """Judges `rt ci` by its last line, and whether it ran the tests of test_hostile, which `make test` doesn't run."""
     passed, failed, last = by_last_line(step)
-    ran = set(re.findall(r"(?m)^test (?:\w+::)*(\w+) \.\.\. ok$", step.out.read_text(errors="replace")))
+    ran = {*re.findall(r"(?m)^test (?:\w+::)*(\w+) \.\.\. ok$", step.out.read_text(errors="replace"))}
     sources = "".join(it.read_text() for it in TOP.glob("crates/test_hostile/src/**/*.rt"))
-    count = len(ran & set(re.findall(r"#\[test\]\n(?:pub )?fn (\w+)", sources)))
-    wants = least.least("test", "test_hostile")
-    if count < wants:
-        return passed, failed + 1, f"{last}, and {count} tests of test_hostile, where {wants} are the least"
-    return passed, failed, last
+    wants = {*re.findall(r"#\[test\]\n(?:pub )?fn (\w+)", sources)}
+    if wants <= ran and wants:
+        return passed, failed, last
+    return passed, failed + 1, f"{last}, and {len(wants - ran)} of {len(wants)} tests of test_hostile didn't run"
 
 
 def by_rejected(step: Step) -> Judged:
@@ -163,7 +186,7 @@ def add_proofs(steps: Steps, asked: Asked, copy: Path) -> Step:
     # only the step crate asks a crate of tests
     copy_repository(copy, () if is_whole or "crate" in asked.steps else TEST_CRATES)
     if not is_whole:
-        # .ci/test runs the tests; the mutants of must-fail/ are tried with the others, and carried over as they are
+        # `make test` runs the tests; the mutants of must-fail/ are tried with the others, and carried over as they are
         leave_out_tests(copy)
     is_anew = is_whole and PROOFS in asked.steps
     judge = by_proved if is_whole else by_last_line
@@ -180,10 +203,10 @@ def commands(asked: Asked, copy: Path) -> dict[str, list[object]]:
     must_fail = ["--must-fail", TOP, "--record", TOP / KEYS]
     return {
         "docs": [TOP / ".ci/docs"],
-        # (the model has a step of its own)
-        "test": [TOP / ".ci/test", "--jobs", 2, *["--without", "model"] * ("model" in asked.steps)],
         "style": [TOP / "tests/run", "style"],
         "model": [TOP / "tests/run", "model", *random],
+        "vendor": [TOP / "tests/run", "vendor"],
+        "fresh": [TOP / "tests/fresh", TOP / "README.md"],
         "show": [of_copy, "show"],
         "alloc-failures": [of_copy, "memory/alloc-failures"],
         "sizes": [of_copy, "memory/sizes"],
@@ -214,23 +237,27 @@ def add_steps(steps: Steps, asked: Asked) -> None:
             steps.add(name, command, cwd=copy, after=proofs)
 
 
-def gate(name: str, words: Sequence[str]) -> int:
-    """Runs the steps of .ci/NAME, and returns the exit status."""
-    given = asked(name, words)
-    if os.environ.get("CI"):
-        # what it couldn't install is missing below
-        subprocess.run([TOP / ".ci/setup", *([] if "broker" in given.steps else ["--without", "broker"])])
-    if lacks := [*missing(given.steps, given.is_whole())]:
-        print("\n".join([*lacks, f"0 passed, {len(lacks)} failed"]))
-        return 1
+def gate(name: str) -> int:
+    """Runs the steps, and returns the exit status."""
+    try:
+        given = asked(name)
+    except Unknown as why:
+        print(why)
+        return print_counts(0, 1)
+    if lacks := [*missing(given)]:
+        print("\n".join(lacks))
+        return print_counts(0, len(lacks), given.skipped)
     with Steps(name) as steps:
-        add_steps(steps, given)
-        os.environ["COMMIT_NUMBER"] = said_by("git", "-C", str(TOP), "rev-list", "--count", "HEAD")
-        steps.run()
-        steps.notes += given.notes
-        steps.notes += [it.last_line for it in steps.steps if it.name == "mutants"]
-        return steps.ended()
+        if name == "test":
+            unproved.add_steps(steps, Crates())
+            steps.steps = [it for it in steps.steps if it.name in given.steps]
+            steps.run(len(os.sched_getaffinity(0)))
+        else:
+            add_steps(steps, given)
+            os.environ["COMMIT_NUMBER"] = said_by("git", "-C", str(TOP), "rev-list", "--count", "HEAD")
+            steps.run()
+        return steps.ended(given.skipped)
 
 
 if __name__ == "__main__":
-    sys.exit(gate(sys.argv[1], sys.argv[2:]))
+    sys.exit(gate(*sys.argv[1:]))

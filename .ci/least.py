@@ -1,7 +1,7 @@
 """The least number of what each step counts, so that what isn't run any more is noticed.
 
 Each line of .ci/least.rows is STEP NAME NUMBER, none of them with a space. A step that counts fewer by that name fails.
-With --write a step's script sets its numbers to what it counted.
+With --write tests/run sets the numbers of a suite to what it counted.
 """
 
 import sys
@@ -10,8 +10,6 @@ from collections.abc import Iterator, Mapping
 from crates import TOP
 
 FILE = TOP / ".ci/least.rows"
-# Whether the numbers are to be set.
-IS_WRITING = "--write" in sys.argv[1:]
 
 
 def rows() -> dict[tuple[str, str], int]:

@@ -178,12 +178,11 @@ class Step:
 
 
 class Steps:
-    """Runs steps side by side, reports how far they are, and ends all of them if it is ended itself."""
+    """Runs steps side by side, reports each as it ends, and ends all of them if it is ended itself."""
 
     def __init__(self, name: str) -> None:
         self.name, self.begun = name, time.time()
         self.steps: list[Step] = []
-        self.notes: list[str] = []
         end_on_signals()
         self.folder = Path(tempfile.mkdtemp(prefix=f"maolkint-{name}-"))
         # programs are run as nobody, who has to come through
@@ -201,12 +200,22 @@ class Steps:
         self.steps.append(step)
         return step
 
+    def minutes(self) -> float:
+        return (time.time() - self.begun) / 60
+
     def say(self, text: str) -> None:
         ended = sum(it.status is not None for it in self.steps)
-        print(f"{(time.time() - self.begun) / 60:5.1f} min  {ended} of {len(self.steps)} done  {text}", flush=True)
+        print(f"{self.minutes():5.1f} min  {ended:2} of {len(self.steps)}  {text}", flush=True)
+
+    def end(self, step: Step) -> None:
+        """Reports a step that has ended."""
+        used = f"  ({step.minutes:.1f} min, {step.processor_minutes:.1f} of processors)"
+        self.say(f"{step.name}: {step.last_line}{used if step.process else ''}")
+        if step.failed and step.process:
+            show_end(step)
 
     def run(self, at_once: int | None = None) -> bool:
-        """Runs the steps, each once those that it waits for are well, and returns whether all are."""
+        """Runs the steps, each once those that it waits for have passed, and returns whether all passed."""
         waiting = [*self.steps]
         running: list[Step] = []
         while waiting or running:
@@ -217,11 +226,10 @@ class Steps:
                 lacks = [it.name for it in step.after if not it.is_well()]
                 if lacks:
                     step.status, step.failed, step.last_line = 1, 1, f"not run, since {lacks[0]} failed"
-                    self.say(f"{step.name}: {step.last_line}")
+                    self.end(step)
                     continue
                 step.start(self.folder)
                 running.append(step)
-                self.say(f"{step.name} ..")
             time.sleep(0.2)
             for step in [*running]:
                 has_ended = step.has_ended()
@@ -229,23 +237,23 @@ class Steps:
                     self.say(f"{step.name}: {line}")
                 if has_ended:
                     running.remove(step)
-                    self.say(f"{step.name}: {step.last_line}")
-                    if step.failed:
-                        show_end(step)
+                    self.end(step)
         return all(it.is_well() for it in self.steps)
 
-    def ended(self) -> int:
-        """Prints what each step took and the last line, and returns the exit status."""
-        print(f"\n{'minutes':>8} {'of processors':>14}  step")
-        for it in self.steps:
-            print(f"{it.minutes:8.1f} {it.processor_minutes:14.1f}  {it.name}: {it.last_line}")
+    def ended(self, skipped: str = "") -> int:
+        """Prints which steps failed and the counts, and returns the exit status."""
         processor = sum(it.processor_minutes for it in self.steps)
-        print(f"{(time.time() - self.begun) / 60:8.1f} {processor:14.1f}  .ci/{self.name}")
-        for note in self.notes:
-            print(note)
+        print(f"{self.name}: {self.minutes():.1f} minutes, {processor:.1f} of processors")
+        print("".join(f"FAILED {it.name}: {it.last_line}\n" for it in self.steps if it.failed), end="")
         passed, failed = (sum(getattr(it, which) for it in self.steps) for which in ("passed", "failed"))
-        print(f"{passed} passed, {failed} failed", flush=True)
-        return 1 if failed or not passed else 0
+        return print_counts(passed, failed, skipped)
+
+
+def print_counts(passed: int, failed: int, skipped: str = "") -> int:
+    """Prints the last line, and before it the same without what was skipped, and returns the exit status."""
+    counts = f"{passed} passed, {failed} failed"
+    print(f"{counts}\n{counts}; {skipped}" if skipped else counts, flush=True)
+    return 1 if failed or not passed else 0
 
 
 def show_end(step: Step) -> None:

@@ -23,10 +23,10 @@ PLACES = DESTDIR="$(DESTDIR)" PREFIX="$(PREFIX)" BINDIR="$(BINDIR)" LIBDIR="$(LI
 
 all:
 
-install: all
+install: all ## install below /usr/local, or PREFIX
 	@$(PLACES) $(INSTALL_SH) install "$(FOLDER)"
 
-uninstall:
+uninstall: ## remove what was installed
 	@$(PLACES) $(INSTALL_SH) uninstall "$(FOLDER)"
 
 .PHONY: all install uninstall

@@ -1,24 +1,23 @@
-"""What crates/test_hostile and crates/amqp_wire have to print, by the reader and writer of printed.py.
+"""Checks the stored output of programs against the model: python3 -m tests.model.stored_output [--write]
 
-Compares that with the files `stdout` of both, which `rt ci` compares with what the programs print. By docs/JSON.md and
-docs/SHOW.md it also checks what the cases of tests/show with JSON, measures and RabbitMQ must print, which tests/run show
-compares with what amqp_show prints.
+crates/test_hostile and crates/amqp_wire must print their files `stdout`, which is what the reader and writer of printed.py
+predict. So must amqp_show in the cases of tests/show with JSON, measures and --check, by docs/JSON.md and docs/SHOW.md.
+`make test` runs this, and compares the same files with what the programs print. --write writes test_hostile's file.
 """
 
 import json
 import re
+import sys
 from collections.abc import Callable, Iterator, Sequence
 from contextlib import suppress
-from typing import Any
+from itertools import zip_longest
 
 from crates import TOP
-from steps import content
+from steps import Checks, content
 
 from tests.model.printed import CLIENT_LEVELS, FRAME_MAX, Dissection, Unread, checked, field, json_of, json_text
 from tests.model.printed import measures, nested, read, write
 from tests.transcripts import Case, Output, cases
-
-Recorder = Callable[[str, object], None]
 
 CRATES = TOP / "crates"
 # The colours of a terminal.
@@ -169,29 +168,27 @@ def judged_cases() -> Iterator[tuple[str, bool]]:
             yield name, not rest and write(value) == data and json_of(value) == json.loads(case.given)
 
 
-def stored_lines(crate: str) -> list[str]:
-    """The lines that a crate has to print."""
-    return str(content(CRATES / crate / "stdout").decode()).splitlines()
+def first_other(crate: str, wants: Sequence[str]) -> str:
+    """What is wrong with the stored output of a crate that has to print these lines."""
+    stored = content(CRATES / crate / "stdout").decode().splitlines()
+    pairs = enumerate(zip_longest(stored, wants), 1)
+    other = next((f"line {n} is {it[0]!r}, predicted is {it[1]!r}" for n, it in pairs if it[0] != it[1]), "")
+    return other if wants else "no line is predicted"
 
 
-def test_hostile_input(record_property: Recorder, is_writing: bool) -> None:
-    """What crates/test_hostile has to print, which --write writes anew."""
+def main(words: Sequence[str]) -> int:
+    checks = Checks("model")
     lines = [*hostile(bytes.fromhex((CRATES / "test_hostile/stdin").read_text()))]
-    if is_writing:
+    if "--write" in words:
         (CRATES / "test_hostile/stdout").write_text("\n".join(lines) + "\n")
-    record_property("test_hostile_lines", len(lines))
-    assert stored_lines("test_hostile") == lines
-
-
-def test_lines_of_hexadecimal(record_property: Recorder) -> None:
-    """What crates/amqp_wire has to print of each line."""
+    checks.tell(f"test_hostile, {len(lines)} lines", first_other("test_hostile", lines))
     lines = [line(text) for text in (CRATES / "amqp_wire/stdin").read_text().splitlines()]
-    record_property("amqp_wire_lines", len(lines))
-    assert stored_lines("amqp_wire") == lines
-
-
-def test_cases_of_amqp_show(record_property: Recorder) -> None:
-    """The cases of amqp_show that JSON, encodings, measures and RabbitMQ decide."""
+    checks.tell(f"amqp_wire, {len(lines)} lines", first_other("amqp_wire", lines))
     judged = [*judged_cases()]
-    record_property("amqp_show_cases", len(judged))
-    assert not [name for name, is_well in judged if not is_well]
+    wrong = [name for name, is_well in judged if not is_well]
+    checks.tell(f"amqp_show, {len(judged)} cases", ", ".join(wrong) if judged else "no case is judged")
+    return checks.ended()
+
+
+if __name__ == "__main__":
+    sys.exit(main(sys.argv[1:]))
