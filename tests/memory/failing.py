@@ -88,10 +88,10 @@ SHOWN = """repeated_keys number_past_array json_follow encode_raw encode_number 
 
 
 def stored_runs() -> dict[str, Stored]:
-    """Runs of both programs, by name."""
+    """Runs of the programs, by name."""
     runs = {
         "amqp_wire": Stored(["amqp_wire"], GIVEN, Ending(STORED, b"", 0)),
-        "amqp_wire --stream": Stored(["amqp_wire", "--stream"], STREAM, Ending(STREAM_LINES, b"", 0)),
+        "test_stream": Stored(["test_stream"], STREAM, Ending(STREAM_LINES, b"", 0)),
     }
     shown = cases(TOP / "tests/show")
     of_show = {name: shown[name] for name in SHOWN}
@@ -102,7 +102,11 @@ def stored_runs() -> dict[str, Stored]:
 
 
 # The status and the message with which each program runs out of memory.
-NO_MEMORY = {"amqp_wire": (1, b"amqp_wire: out of memory\n"), "amqp_show": (2, b"amqp_show: out of memory\n")}
+NO_MEMORY = {
+    "amqp_wire": (1, b"amqp_wire: out of memory\n"),
+    "test_stream": (1, b"test_stream: out of memory\n"),
+    "amqp_show": (2, b"amqp_show: out of memory\n"),
+}
 
 
 def is_out_of_memory(name: str, ended: Ending, wants: Ending) -> bool:

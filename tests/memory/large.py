@@ -115,7 +115,7 @@ def escaped() -> Run:
     return Run("test_hostile", ["unprintable"], given, wants, space)
 
 
-# amqp_wire and amqp_show
+# amqp_wire, test_stream and amqp_show
 
 
 @cache
@@ -142,7 +142,7 @@ def lines() -> Run:
 def stream() -> Run:
     of_numbers = "".join(f"value {it.hex()}\n" for it in numbers()).encode()
     wants = [b"value ", *hexadecimal(), b"\n", of_numbers, b"end\n"]
-    return Run("amqp_wire", ["--stream"], [*STRING, *numbers()], wants)
+    return Run("test_stream", [], [*STRING, *numbers()], wants)
 
 
 SHOWN = [b'"', *letters(), b'"\n']

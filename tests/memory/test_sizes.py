@@ -2,9 +2,10 @@
 
 No clause can state that memory sufficed, so a body that runs out of it above a size is proved. Each call that may run out
 of memory is made on what has 256 MiB, and a million values or 250,000 pairs (crates/test_hostile), and `escape` on 128 MiB of
-unprintable bytes, each of which it writes as four. Lines of 512 MiB, a million of them, and a stream go through amqp_wire;
-a string of 256 MiB and a million values through amqp_show, as JSON, as a tree and from JSON. What they must print is made
-in large.py. A program may have 4 GiB of address space, and to escape 10 bytes of it for each that is read.
+unprintable bytes, each of which it writes as four. A line of 512 MiB and a million lines go through amqp_wire, a stream
+through test_stream, and a string of 256 MiB and a million values through amqp_show, as JSON, as a tree and from JSON. What
+they must print is made in large.py. A program may have 4 GiB of address space, and to escape 10 bytes of it for each that is
+read.
 
 Then the calls that recurse, through test_hostile, on small stacks (those of nesting.py), and amqp_show as deep as --depth
 may be, on the stack that docs/SHOW.md names, and on half of it.

@@ -1,8 +1,8 @@
-"""amqp_wire, as `rt ci` left it, if what it reads from or writes to fails.
+"""amqp_wire and test_stream, as `rt ci` left them, if what they read from or write to fails.
 
-tests/run memory/alloc-failures makes calls of the system fail; here the devices do, in each form: lines of hexadecimal, and
---stream. If a read or a write fails the exit status is 2, standard error has what happened, and standard output has a part
-of what a run writes if nothing fails. If standard error fails too, the status still reports what happened.
+tests/run memory/alloc-failures makes calls of the system fail; here the devices do. If a read or a write fails the exit status
+is 2, standard error says what happened, and standard output has a part of what a run writes if nothing fails. If standard error
+fails too, the status still reports what happened.
 """
 
 import subprocess
@@ -15,25 +15,31 @@ import pytest
 from building import is_up_to_date
 from crates import Crates
 
-CRATES, NAME = Crates(), "amqp_wire"
-PROGRAM = CRATES.folder(NAME) / "out" / NAME
+CRATES = Crates()
 # How often a value comes: what is written of it doesn't fit the buffer of a pipe.
 TIMES = 20_000
 # How a run ends if a read or a write fails.
-FAILED, STATUS = b"amqp_wire: input or output failed\n", 2
+FAILED, STATUS = "input or output failed", 2
 
 
 class Form(NamedTuple):
-    """The program's words, what comes in, and what is written if nothing fails."""
+    """A program, what comes in, and what is written if nothing fails."""
 
-    words: list[str]
+    name: str
     given: bytes
     wants: bytes
 
+    def program(self) -> Path:
+        """The program, which is newer than its sources."""
+        path = CRATES.folder(self.name) / "out" / self.name
+        is_built = is_up_to_date(path, CRATES, self.name, ["src"])
+        assert is_built, f"{self.name} isn't there, or is older than its sources: run rt ci"
+        return path
+
 
 FORMS = {
-    "hexadecimal": Form([], b"7401\n" * TIMES, b"value 7401 rest 0\n" * TIMES),
-    "stream": Form(["--stream"], b"t\1" * TIMES, b"value 7401\n" * TIMES + b"end\n"),
+    "hexadecimal": Form("amqp_wire", b"7401\n" * TIMES, b"value 7401 rest 0\n" * TIMES),
+    "stream": Form("test_stream", b"t\1" * TIMES, b"value 7401\n" * TIMES + b"end\n"),
 }
 
 # What fails, as the shell has it.
@@ -41,25 +47,19 @@ OUTPUTS = {"a full device": ">/dev/full", "closed": ">&-", "not open for writing
 INPUTS = {"a folder": "</", "closed": "<&-", "not open for reading": "0>/dev/null"}
 ERRORS = {"a full device": "2>/dev/full", "closed": "2>&-"}
 
-# Each test is of both forms, over the program as it is built.
-pytestmark = [pytest.mark.usefixtures("built"), pytest.mark.parametrize("form", FORMS.values(), ids=FORMS)]
-
-
-@pytest.fixture(scope="session")
-def built() -> None:
-    """The program is there, and is newer than its sources."""
-    assert is_up_to_date(PROGRAM, CRATES, NAME, ["src"]), f"{NAME} isn't there, or is older than its sources: run rt ci"
+# Each test is of both forms.
+pytestmark = pytest.mark.parametrize("form", FORMS.values(), ids=FORMS)
 
 
 def run(form: Form, elsewhere: str = "") -> subprocess.CompletedProcess[bytes]:
     """Runs the program, with these of its streams elsewhere."""
-    words: list[str | Path] = ["sh", "-c", f'exec "$0" "$@" {elsewhere}', PROGRAM, *form.words]
+    words: list[str | Path] = ["sh", "-c", f'exec "$0" {elsewhere}', form.program()]
     return subprocess.run(words, input=form.given, capture_output=True, timeout=60)
 
 
 def assert_failed(form: Form, status: int, out: bytes, err: bytes) -> None:
     """A read or a write failed: the status and standard error report it, and a part of the output was written."""
-    assert (status, err) == (STATUS, FAILED)
+    assert (status, err) == (STATUS, f"{form.name}: {FAILED}\n".encode())
     is_part = form.wants.startswith(out) and out != form.wants
     assert is_part, f"{len(out)} bytes were written, where {len(form.wants)} are all"
 
@@ -85,7 +85,7 @@ def test_output_fails(form: Form, elsewhere: str) -> None:
 @pytest.mark.parametrize("count", (0, 10))
 def test_pipe_is_closed(form: Form, count: int) -> None:
     """That many bytes of what the program writes are read, and then the pipe is closed."""
-    with subprocess.Popen([PROGRAM, *form.words], stdin=PIPE, stdout=PIPE, stderr=PIPE) as process:
+    with subprocess.Popen([form.program()], stdin=PIPE, stdout=PIPE, stderr=PIPE) as process:
         assert process.stdin and process.stdout and process.stderr
         if count == 0:
             process.stdout.close()
