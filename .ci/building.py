@@ -15,7 +15,7 @@ from crates import TOP, Crates, kit, said_by
 # What is tested with is in tests/, a package.
 sys.path.append(str(TOP))
 
-# The crates of tests and of a program that only replays: .ci/test runs the tests, and .ci/whole proves them too.
+# The crates of tests and of a program that only replays: `make test` runs the tests, and .ci/whole proves them too.
 TEST_CRATES = ("test_codec",)
 # The crates of the calls for C: those that don't allocate, and those that do.
 CALLS_FOR_C = ("amqp_c", "amqp_c_alloc")

@@ -32,7 +32,7 @@ def run(words: Words, text: bool = True, **others: Any) -> Done:
     try:
         return subprocess.run(texts, capture_output=True, text=text, **others)
     except FileNotFoundError:
-        return Done(texts, 127, "", f"{texts[0]} is missing (.ci/setup installs it)")
+        return Done(texts, 127, "", f"{texts[0]} is missing (make setup installs it)")
 
 
 def assert_well(done: Done) -> None:

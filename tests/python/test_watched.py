@@ -44,7 +44,7 @@ def test_sanitizers(
 def test_references(request: pytest.FixtureRequest, tmp_path: Path, seed: int) -> None:
     """No reference is lost or left by a round of calls that end well and of others that raise."""
     python = shutil.which(DEBUG)
-    assert python, f"{DEBUG} is missing (.ci/setup installs it)"
+    assert python, f"{DEBUG} is missing (make setup installs it)"
     wrong = build_package(Crates(), tmp_path, bool(request.config.getoption("--built")), ["-DPy_REF_DEBUG"])
     assert not wrong, wrong
     assert watched(python, "references", str(tmp_path), seed, 700, {}) <= 0

@@ -1,7 +1,7 @@
 """Holds the calls for C against a running RabbitMQ and its clients.
 
 RabbitMQ of Debian 12 runs in a fresh folder, on free ports of 127.0.0.1. The calls for C are called by
-tests/python/ctypes_values.py, in one shared object of both libraries. .ci/setup installs the broker and the clients.
+tests/python/ctypes_values.py, in one shared object of both libraries. make setup installs the broker and the clients.
 
 - Random tables come back equal, by the calls and by the reader of the model: untouched, and read and written by the broker's
   own codec, which a header BCC and dead-lettering have it do. --tables sets their number.
