@@ -4,7 +4,7 @@
     docs            the pages against the sources (.ci/docs)
     style           the types and the format of what is written in Python (tests/run style; so for each name below)
     model           the model's own tests
-    vendor          the crates in another repository, as the README says
+    vendor          the crates in another repository, as CALLING.md of amq_protocol_types says
     fresh           the README's first commands on a machine that has only the kit (.ci/whole only)
   and then, over the programs and libraries that `proofs` has left:
     show            amqp_show in each of its forms
