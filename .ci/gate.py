@@ -1,7 +1,7 @@
 """Runs the steps of `make test`, `make check` or .ci/whole: gate.py test|check|whole
 
     proofs          each crate proved from nothing, on a copy without the crates that have only tests, with the stored runs
-    docs            the pages against the sources (.ci/docs)
+    docs            the pages against the sources (tests/pages)
     style           the types and the format of what is written in Python (tests/run style; so for each name below)
     model           the model's own tests
     vendor          the crates in another repository, as CALLING.md of amq_protocol_types says
@@ -202,7 +202,7 @@ def commands(asked: Asked, copy: Path) -> dict[str, list[object]]:
     random = ["--random"] * asked.is_whole()
     must_fail = ["--must-fail", TOP, "--record", TOP / KEYS]
     return {
-        "docs": [TOP / ".ci/docs"],
+        "docs": [TOP / "tests/pages"],
         "style": [TOP / "tests/run", "style"],
         "model": [TOP / "tests/run", "model", *random],
         "vendor": [TOP / "tests/run", "vendor"],
