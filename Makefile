@@ -19,6 +19,9 @@ test: ## run the tests that need only the kit, python3, make and git (about 5 mi
 check: ## run everything else a change must pass (20 to 80 minutes; WITHOUT="broker crate" skips steps)
 	@python3 .ci/gate.py check
 
+lint: ## check the types and the layout of what is written in Python (a minute)
+	@tests/lint
+
 check-c: ## test the C library
 	tests/run c
 
@@ -54,4 +57,4 @@ rust: all ## put the library where the Rust crate amqp-values-sys links it
 clean: ## remove what these targets made
 	rm -rf out/dist out/aarch64 out/packed out/deb out/wheel out/web
 
-.PHONY: help setup test check check-c dist deb wheel web rust clean
+.PHONY: help setup test check lint check-c dist deb wheel web rust clean

@@ -2,8 +2,8 @@
 
     proofs          each crate proved from nothing, on a copy without the crates that have only tests, with the stored runs
     docs            the pages against the sources (tests/pages)
-    style           the types and the format of what is written in Python (tests/run style; so for each name below)
-    model           the model's own tests
+    lint            the types and the layout of Python (tests/lint)
+    model           the model's own tests (tests/run model; so for each name below)
     vendor          the crates in another repository, as CALLING.md of amq_protocol_types says
     fresh           the README's first commands on a machine that has only the kit (.ci/whole only)
   and then, over the programs and libraries that `proofs` has left:
@@ -49,7 +49,7 @@ ALWAYS = ("git", "python3", "cc", "c++")
 NEEDS: dict[str, tuple[str, ...]] = {
     "proofs": (),
     "docs": (),
-    "style": (PYTHON, "mypy", "black"),
+    "lint": ("mypy", "black"),
     "model": (PYTHON,),
     "vendor": (PYTHON,),
     "fresh": ("debootstrap", "make"),
@@ -70,7 +70,7 @@ NEEDS: dict[str, tuple[str, ...]] = {
     "mutants": (),
 }
 # The step that proves, and those that need nothing that it leaves.
-PROOFS, NEED_NO_PROOFS = "proofs", {"docs", "style", "model", "vendor", "fresh"}
+PROOFS, NEED_NO_PROOFS = "proofs", {"docs", "lint", "model", "vendor", "fresh"}
 # The step that takes root and a network.
 OF_WHOLE = {"fresh"}
 # The modules of Debian's Python that a step needs if it needs that at all, and how many tables are sent.
@@ -203,7 +203,7 @@ def commands(asked: Asked, copy: Path) -> dict[str, list[object]]:
     must_fail = ["--must-fail", TOP, "--record", TOP / KEYS]
     return {
         "docs": [TOP / "tests/pages"],
-        "style": [TOP / "tests/run", "style"],
+        "lint": [TOP / "tests/lint"],
         "model": [TOP / "tests/run", "model", *random],
         "vendor": [TOP / "tests/run", "vendor"],
         "fresh": [TOP / "tests/fresh", TOP / "README.md"],

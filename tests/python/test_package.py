@@ -172,7 +172,7 @@ def test_mappings_and_sequences(value: Any, wanted: Any) -> None:
 
 
 def test_a_table_of_several_types_is_typed() -> None:
-    """mypy --strict takes these, as it does in the step style."""
+    """mypy --strict takes these, as it does in the step lint."""
     h = {"a": 1, "b": "x"}
     found: dict[str, Any] = own.loads_table(own.dumps_table(h))
     by_bytes: dict[str | bytes, Any] = own.loads_table(own.dumps_table({b"a": 1}), keys="bytes")

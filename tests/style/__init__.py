@@ -1,1 +1,0 @@
-"""How what is written in Python is formatted and typed."""
