@@ -19,9 +19,10 @@
     broker          the calls for C against a running RabbitMQ
     mutants         the mutants of the modules that changed, and those of one crate in turn (.ci/mutants)
 
-The environment names steps: WITHOUT="broker crate" skips these, ONLY="wire sizes" runs only these and what they need. The last
-line counts, and says what was skipped. `crate` is skipped too if the Rust crate isn't at hand (AMQ_PROTOCOL_TYPES names its
-folder, or cargo has kept it); .ci/whole doesn't begin then.
+The environment names steps: WITHOUT="broker crate" skips these, and the tests of other steps that need the broker or the Rust
+crate; ONLY="wire sizes" runs only these and what they need. The last line counts, and says what was skipped. `make check` adds
+`crate` to WITHOUT if the Rust crate isn't at hand (AMQ_PROTOCOL_TYPES names its folder, or cargo has kept it); .ci/whole
+doesn't begin then.
 """
 
 import os
@@ -73,6 +74,8 @@ NEEDS: dict[str, tuple[str, ...]] = {
 PROOFS, NEED_NO_PROOFS = "proofs", {"docs", "lint", "model", "vendor", "fresh"}
 # The step that takes root and a network.
 OF_WHOLE = {"fresh"}
+# What WITHOUT may name too: what some tests of the steps c and rust need.
+OF_TESTS = ("aarch64", "clang", "old-processor", "cargo-clippy", "rustfmt", "valgrind", "rustc")
 # The modules of Debian's Python that a step needs if it needs that at all, and how many tables are sent.
 PYTEST = ("pytest", "xdist", "hypothesis")
 MODULES = {
@@ -123,12 +126,14 @@ def asked(name: str) -> Asked:
     """What of `make test`, `make check` or .ci/whole the environment asks for. It may name steps of the others too."""
     of_test = unproved.names(Crates())
     of_name = {"test": {*of_test}, "check": {*NEEDS} - OF_WHOLE, "whole": {*NEEDS}}[name]
-    only, without = (words_of(it, [*of_test, *NEEDS]) for it in ("ONLY", "WITHOUT"))
+    only, without = words_of("ONLY", [*of_test, *NEEDS]), words_of("WITHOUT", [*of_test, *NEEDS, *OF_TESTS])
     steps = (of_name & {*only} if only else of_name) - {*without}
-    if name == "check" and "crate" in steps and not is_at_hand():
+    if name == "check" and steps & {"crate", "rust"} and "crate" not in without and not is_at_hand():
         print(f"crate is skipped: {NO_CRATE}")
-        steps.remove("crate")
+        steps.discard("crate")
         without.append("crate")
+        # the tests of the step rust that need the crate are left out too
+        os.environ["WITHOUT"] = " ".join(without)
     said = [f"{word}: {' '.join(names)}" for word, names in (("only", only), ("skipped", without)) if names]
     return Asked(name, steps, "; ".join(said))
 

@@ -8,6 +8,7 @@ from building import shared_object
 from crates import Crates
 from hypothesis import settings
 
+from tests.left_out import LACKS
 from tests.notes import NOTES
 from tests.python import ctypes_values as av
 
@@ -18,7 +19,7 @@ settings.register_profile("random", derandomize=False, deadline=None, database=N
 
 def pytest_addoption(parser: pytest.Parser) -> None:
     group = parser.getgroup("this repository")
-    group.addoption("--write", action="store_true", help="write files and least numbers anew")
+    group.addoption("--write", action="store_true", help="write files anew")
     group.addoption("--random", action="store_true", help="another seed in each run")
     group.addoption("--seed", type=int, help="of what is random (1)")
     group.addoption("--library", metavar="PATH", help="the library of the calls for C, built otherwise")
@@ -37,6 +38,11 @@ def pytest_sessionstart(session: pytest.Session) -> None:
     reporter = session.config.pluginmanager.get_plugin("terminalreporter")
     if reporter:
         reporter.write_line(f"seed: {session.config.option.seed}")
+
+
+def pytest_runtest_setup(item: pytest.Item) -> None:
+    if lacks := item.stash.get(LACKS, ""):
+        pytest.fail(lacks, pytrace=False)
 
 
 def pytest_terminal_summary(terminalreporter: Any) -> None:

@@ -12,26 +12,19 @@ from building import AARCH64, CALLS_FOR_C, build_archive
 from crates import TOP
 
 from tests.c.compiling import C, CRATES, assert_well, run
-from tests.left_out import leave_out
+from tests.left_out import leave_out, needs_of, without
 from tests.notes import NOTES
 
-MAY_BE_LEFT_OUT = ("clang", "old-processor", "aarch64")
 SANITIZERS = ["-fsanitize=address,undefined", "-fno-sanitize-recover=all"]
 
 
 def pytest_addoption(parser: pytest.Parser) -> None:
     group = parser.getgroup("this repository")
     group.addoption("--root", action="store_true", help="use packages in a fresh root, for which it has to be root")
-    left_out = ", ".join(MAY_BE_LEFT_OUT)
-    group.addoption("--without", action="append", default=[], metavar="NAME", help=f"leave out one of {left_out}")
 
 
 def pytest_configure(config: pytest.Config) -> None:
-    config.addinivalue_line(
-        "markers", "needs(name, ..): options, or what --without names, without which a test isn't tried"
-    )
-    if others := {*config.getoption("--without")} - {*MAY_BE_LEFT_OUT}:
-        raise pytest.UsageError(f"--without takes one of {', '.join(MAY_BE_LEFT_OUT)}, and not {', '.join(others)}")
+    config.addinivalue_line("markers", "needs(name, ..): options, or what WITHOUT may name, which a test needs")
     lacks = [it for it in ("rt", "cc", "c++", "nm") if not shutil.which(it)]
     if lacks:
         raise pytest.UsageError(
@@ -40,15 +33,15 @@ def pytest_configure(config: pytest.Config) -> None:
 
 
 def pytest_collection_modifyitems(config: pytest.Config, items: list[pytest.Item]) -> None:
-    """Leaves out the tests that --without names, and those that need options that aren't given."""
-    NOTES.extend(leave_out(config, items, lambda it: lacking(config, it)))
+    """Leaves out the tests for which --root isn't given, as before a release, and those that need what WITHOUT names."""
+    if not config.getoption("--root"):
+        items[:] = [it for it in items if "--root" not in needs_of(it)]
+    NOTES.extend(leave_out(config, items, lambda it: lacking(config, it), {}))
 
 
-def lacking(config: pytest.Config, item: pytest.Item) -> str:
-    """What a test needs and isn't there."""
-    needs = dict.fromkeys(str(name) for mark in item.iter_markers("needs") for name in mark.args)
-    without = config.getoption("--without")
-    return " and ".join(it for it in needs if it in without or it.startswith("--") and not config.getoption(it))
+def lacking(config: pytest.Config, item: pytest.Item) -> list[str]:
+    """What a test needs and isn't there: an option, or what WITHOUT names."""
+    return [it for it in needs_of(item) if it in without() or it.startswith("--") and not config.getoption(it)]
 
 
 @pytest.fixture(scope="session")

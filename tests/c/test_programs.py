@@ -1,6 +1,6 @@
 """The programs of this folder, by what their heads state.
 
-How many calls each makes is recorded. CHECK of condition.h, by which each of them ends, ends it by SIGABRT if its condition
+Each prints how many calls it made. CHECK of condition.h, by which each of them ends, ends it by SIGABRT if its condition
 doesn't hold, and only then. nested.c makes the calls that recurse, on the stacks that docs/PROMISES.md names, and with the
 limits that the header recommends on the stacks that it names (tests/model/nesting.py), with --built for aarch64 too.
 
@@ -10,7 +10,6 @@ They don't see into the libraries, so the others have pages about their bytes th
 
 import re
 import signal
-from collections.abc import Callable
 from pathlib import Path
 
 import pytest
@@ -32,7 +31,6 @@ from tests.c.compiling import (
 )
 from tests.model import nesting
 
-Recorder = Callable[[str, object], None]
 # The programs whose calls are counted.
 COUNTED = (
     "corrupt_cursors.c",
@@ -78,16 +76,16 @@ def calls_of(words: Words) -> int:
 
 
 @pytest.mark.parametrize("name", COUNTED)
-def test_program(libraries: None, sanitizers: list[str], tmp_path: Path, name: str, record_property: Recorder) -> None:
+def test_program(libraries: None, sanitizers: list[str], tmp_path: Path, name: str) -> None:
     source = HERE / name
     how = ["-fsanitize=thread", "-pthread"] if name == "threads.c" else [*sanitizers, *wraps(source)]
-    record_property(name, calls_of([compiled(source, tmp_path / "program", options=how)]))
+    assert calls_of([compiled(source, tmp_path / "program", options=how)])
 
 
 @needs_aarch64
-def test_nulls_on_aarch64(for_aarch64: Words, tmp_path: Path, record_property: Recorder) -> None:
+def test_nulls_on_aarch64(for_aarch64: Words, tmp_path: Path) -> None:
     program = compiled(HERE / "nulls.c", tmp_path / "nulls", CC_OF_AARCH64, libraries=for_aarch64)
-    record_property("nulls.c-on-aarch64", calls_of([*OF_AARCH64, program]))
+    assert calls_of([*OF_AARCH64, program])
 
 
 # Nesting
@@ -118,8 +116,7 @@ OF_X86_64, FOR_AARCH64 = checks(0), checks(1)
 
 
 @pytest.mark.parametrize("check", OF_X86_64, ids=[it.name for it in OF_X86_64])
-def test_nested(on_x86_64: nesting.Program, check: nesting.Check, record_property: Recorder) -> None:
-    record_property("nested.c", len(OF_X86_64))
+def test_nested(on_x86_64: nesting.Program, check: nesting.Check) -> None:
     assert check.wrong(on_x86_64) == ""
 
 

@@ -6,7 +6,7 @@ are those that `rt run` or .ci/whole has left; with --tried `rt try` runs them, 
 
 import os
 from collections import Counter
-from collections.abc import Callable, Sequence
+from collections.abc import Sequence
 from concurrent.futures import ProcessPoolExecutor
 from random import Random
 
@@ -20,7 +20,6 @@ from tests.oracle.sides import Difference, Row, departures, differing, differing
 # How many requests are made and asked at once: `rt try` takes no more than 1 MiB of an answer. And how many the sample has
 # beside those that are worked.
 BLOCK, SAMPLE = 15_000, 5_100
-Recorder = Callable[[str, object], None]
 # How many requests of each kind, by their first word.
 Kinds = Counter[str]
 SHOWN = departures()
@@ -91,12 +90,10 @@ def otherwise(driver: Driver, seed: int, count: int, is_tried: bool) -> tuple[Ki
 
 
 def test_library_answers_as_the_crate(
-    driver: Driver, request: pytest.FixtureRequest, seed: int, notes: list[str], record_property: Recorder
+    driver: Driver, request: pytest.FixtureRequest, seed: int, notes: list[str]
 ) -> None:
     """Fresh requests, and those of `departures`, which this library answers otherwise on purpose."""
     option = request.config.getoption
     of_kinds, found = otherwise(driver, seed, int(option("--count")), bool(option("--tried")))
     notes.append(", ".join(f"{kind} {number}" for kind, number in sorted(of_kinds.items())))
-    record_property("departures", len(SHOWN))
-    record_property("requests", of_kinds.total())
     assert not found, shown(found)

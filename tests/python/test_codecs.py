@@ -50,7 +50,7 @@ def table_of(make: Random) -> bytes:
 
 
 @pytest.mark.parametrize("name", NAMES)
-def test_what_is_read(name: str, seed: int, record_property: Callable[[str, object], None]) -> None:
+def test_what_is_read(name: str, seed: int) -> None:
     """At any offset, with its bytes; what is refused ends where its length says, or raises if it is cut."""
     make, exact, plain, counts = (
         Random(seed),
@@ -83,7 +83,6 @@ def test_what_is_read(name: str, seed: int, record_property: Callable[[str, obje
         by_plain, stop = plain.read(bytearray(whole), len(before))
         assert type(by_plain) is dict and repr(by_plain) == wanted and stop == end
     assert min(counts.values()) > 200, counts
-    record_property(f"package-codec-{name}", sum(counts.values()))
 
 
 @pytest.mark.parametrize("name", NAMES)

@@ -128,10 +128,7 @@ def test_each_public_name_is_tried() -> None:
 
 
 @pytest.mark.parametrize("name", TRIED)
-def test_odd_arguments(
-    name: str, given: Arguments, seed: int, tmp_path: Path, record_property: Callable[[str, object], None]
-) -> None:
+def test_odd_arguments(name: str, given: Arguments, seed: int, tmp_path: Path) -> None:
     given.make = Random(f"{name} {seed}")
     wrong = in_a_process(lambda: all_calls(name, given), tmp_path / "wrong")
     assert wrong == ""
-    record_property(name, CALLS)

@@ -3,7 +3,6 @@
 import os
 import shutil
 import subprocess
-from collections.abc import Callable
 from pathlib import Path
 
 import pytest
@@ -29,16 +28,13 @@ def runtime(name: str) -> str:
     return str(Path(done.stdout.strip()).resolve())
 
 
-def test_sanitizers(
-    request: pytest.FixtureRequest, tmp_path: Path, seed: int, record_property: Callable[[str, object], None]
-) -> None:
+def test_sanitizers(request: pytest.FixtureRequest, tmp_path: Path, seed: int) -> None:
     """Address and undefined behaviour sanitizers find nothing; each object is allocated by malloc, so that its ends are seen."""
     count = WHOLE if request.config.getoption("--random") else SAMPLE
     wrong = build_package(Crates(), tmp_path, bool(request.config.getoption("--built")), FLAGS)
     assert not wrong, wrong
     env = {"LD_PRELOAD": runtime("libasan.so"), "ASAN_OPTIONS": "detect_leaks=0", "PYTHONMALLOC": "malloc"}
     assert watched(PYTHON, "mutated", str(tmp_path), seed, count, env) == count
-    record_property("package-sanitized", count)
 
 
 def test_references(request: pytest.FixtureRequest, tmp_path: Path, seed: int) -> None:

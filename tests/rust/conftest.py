@@ -8,10 +8,11 @@ from pathlib import Path
 import pytest
 from crates import TOP
 
-from tests.left_out import leave_out
+from tests.left_out import leave_out, needs_of
 from tests.notes import NOTES
 from tests.rust.cargo import COPIES, CRATES, OF_DEBIAN, OLDEST, OUT, RUST, TRIPLE, Given
 from tests.rust.cargo import assert_well, copied, given, package, run
+from tests.rabbitmq.broker import BIN
 from tests.rust.manifests import BOTH, VALUES
 
 # Where Debian has Rust packages.
@@ -19,6 +20,8 @@ DEBIAN = Path("/usr/share/cargo/registry")
 # How long building what is proved may take: it is proved first, and may wait for another step that builds it.
 PROVING_SECONDS = 3_600
 ARCHIVE = "libamqp_values.a"
+# How WITHOUT names what is needed, if otherwise than the tests.
+NAMES = {"--crate": "crate", f"{BIN}/rabbitmq-server": "broker", OLDEST: "rustc"}
 
 
 def pytest_addoption(parser: pytest.Parser) -> None:
@@ -32,7 +35,7 @@ def pytest_addoption(parser: pytest.Parser) -> None:
 
 def pytest_configure(config: pytest.Config) -> None:
     """What is random is another in each run. (pytest calls this before that of tests/conftest.py, which it has read earlier.)"""
-    config.addinivalue_line("markers", "needs(name, ..): options or programs without which a test isn't tried")
+    config.addinivalue_line("markers", "needs(name, ..): options or programs that a test needs")
     if config.option.seed is None:
         config.option.seed = int(time.time())
 
@@ -43,14 +46,13 @@ def pytest_ignore_collect(collection_path: Path, config: pytest.Config) -> bool 
 
 
 def pytest_collection_modifyitems(config: pytest.Config, items: list[pytest.Item]) -> None:
-    """Leaves out the tests for which something isn't there."""
-    NOTES.extend(leave_out(config, items, lambda it: lacking(config, it)))
+    """Leaves out the tests that lack what WITHOUT names."""
+    NOTES.extend(leave_out(config, items, lambda it: lacking(config, it), NAMES))
 
 
-def lacking(config: pytest.Config, item: pytest.Item) -> str:
+def lacking(config: pytest.Config, item: pytest.Item) -> list[str]:
     """What a test needs and isn't there."""
-    needs = dict.fromkeys(str(name) for mark in item.iter_markers("needs") for name in mark.args)
-    return " and ".join(it for it in needs if not is_there(config, it))
+    return [it for it in needs_of(item) if not is_there(config, it)]
 
 
 def is_there(config: pytest.Config, need: str) -> bool:

@@ -15,7 +15,6 @@ from tests.model import printed
 from tests.model.printed import Printed
 from tests.show.running import as_ending, shown
 
-Recorder = Callable[[str, object], None]
 # What is printed of inputs and of tables without their type tag, and the words that have it printed.
 Forms = dict[str, tuple[str, Callable[[bytes], Printed]]]
 FORMS: Forms = {
@@ -80,21 +79,21 @@ def differing(program: Path, given: list[bytes], words: str, wants_of: Callable[
 
 
 @pytest.mark.parametrize("form", FORMS)
-def test_inputs(program: Path, form: str, inputs: list[bytes], record_property: Recorder) -> None:
-    record_property("inputs", len(inputs))
+def test_inputs(program: Path, form: str, inputs: list[bytes]) -> None:
+    assert inputs
     assert differing(program, inputs, *FORMS[form]) == []
 
 
 @pytest.mark.parametrize("form", TABLES)
-def test_tables(program: Path, form: str, tables: list[bytes], record_property: Recorder) -> None:
+def test_tables(program: Path, form: str, tables: list[bytes]) -> None:
     """Tables without their type tag."""
-    record_property("tables", len(tables))
+    assert tables
     assert differing(program, tables, *TABLES[form]) == []
 
 
 @pytest.mark.parametrize("form", STREAMED)
-def test_stream(program: Path, form: str, values: list[bytes], record_property: Recorder) -> None:
-    record_property("values", len(values))
+def test_stream(program: Path, form: str, values: list[bytes]) -> None:
+    assert values
     words = f"--stream --keep-going {FORMS[form][0]}"
     assert shown(program, words, b"".join(values)) == as_ending(printed.streamed(values)[form])
 

@@ -5,7 +5,7 @@ import struct
 import subprocess
 import zlib
 from collections import Counter
-from collections.abc import Callable, Iterator
+from collections.abc import Iterator
 from contextlib import suppress
 from pathlib import Path
 
@@ -20,7 +20,6 @@ from tests.model.tables import EVERY_TYPE, raw
 from tests.web.browser import Browser, opened
 from tests.web.stored import stored
 
-Recorder = Callable[[str, object], None]
 TWISTS = str.maketrans("", "", "▸▾")
 # A table with a number, an array with a string in it, and a number after that: where each pair and each part begins.
 TABLE = "46 00000017 01 61 49 00000005 01 62 41 00000006 53 00000001 78 01 63 56"
