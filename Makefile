@@ -30,26 +30,26 @@ all: $(FOLDER)/checksums ## prove the crates and build the C library and amqp_sh
 include packaging/install.mk
 
 # The crates are proved first. A run that fails leaves no folder.
-SOURCES := $(shell .ci/dist --sources)
+SOURCES := $(shell packaging/dist --sources)
 
 $(FOLDER)/checksums: $(SOURCES)
-	.ci/dist --target $(TARGET) "$(FOLDER)"
+	packaging/dist --target $(TARGET) "$(FOLDER)"
 
 $(OF_AARCH64)/checksums: $(SOURCES)
-	.ci/dist --target $(AARCH64) "$(OF_AARCH64)"
+	packaging/dist --target $(AARCH64) "$(OF_AARCH64)"
 
 dist: all $(OF_AARCH64)/checksums ## pack a release for x86-64 and aarch64
-	.ci/pack "$(FOLDER)" "$(OF_AARCH64)"
+	packaging/pack "$(FOLDER)" "$(OF_AARCH64)"
 
 deb: all ## make packages of Debian for x86-64
-	.ci/deb "$(FOLDER)"
+	packaging/deb "$(FOLDER)"
 
 # By Debian's Python and nothing else. The wheel for x86-64 is tried in fresh environments of each Python that is there.
 wheel: all $(OF_AARCH64)/checksums ## make wheels of the Python package
-	python3 .ci/wheels.py out/wheel "$(FOLDER)" "$(OF_AARCH64)"
+	python3 packaging/wheels.py out/wheel "$(FOLDER)" "$(OF_AARCH64)"
 
 web: ## make the page that shows a field table, out/web/amqp.html
-	.ci/web
+	packaging/web
 
 rust: all ## put the library where the Rust crate amqp-values-sys links it
 	install -D -m 644 $(FOLDER)/lib/libamqp_values.a bindings/rust/amqp-values-sys/lib/$(TARGET)/libamqp_values.a

@@ -1,5 +1,5 @@
 #!/bin/sh
-# Installs the files of a folder that .ci/dist has made, or removes them again: install.sh install|uninstall FOLDER
+# Installs the files of a folder that packaging/dist has made, or removes them again: install.sh install|uninstall FOLDER
 #
 # The places are in the variables PREFIX, BINDIR, LIBDIR, INCLUDEDIR, MANDIR and DOCDIR, before each of which DESTDIR comes.
 # Nothing is installed unless all files of FOLDER are those that it has checksums of.

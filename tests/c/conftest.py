@@ -73,9 +73,9 @@ def sanitizers(folder: Path, notes: list[str]) -> list[str]:
 
 @pytest.fixture(scope="session")
 def made(libraries: None, folder: Path) -> Path:
-    """What .ci/dist makes."""
+    """What packaging/dist makes."""
     path = folder / "dist"
-    assert_well(run([TOP / ".ci/dist", "--built", path]))
+    assert_well(run([TOP / "packaging/dist", "--built", path]))
     return path
 
 
@@ -83,7 +83,7 @@ def made(libraries: None, folder: Path) -> Path:
 def made_for_aarch64(libraries: None, folder: Path) -> Path:
     """What it makes for aarch64."""
     path = folder / "aarch64"
-    assert_well(run([TOP / ".ci/dist", "--built", "--target", AARCH64, path]))
+    assert_well(run([TOP / "packaging/dist", "--built", "--target", AARCH64, path]))
     return path
 
 

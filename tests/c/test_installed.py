@@ -171,7 +171,7 @@ NEW = ("include/amqp_values.h", "crates/amqp_c/src/lib.rt", "crates/amqp_value_c
 def test_what_is_made_anew(made: Path, name: str) -> None:
     done = make("-n", *(["-W", name] if name else []), f"FOLDER={made}")
     assert_well(done)
-    assert (".ci/dist" in done.stdout) == bool(name)
+    assert ("packaging/dist" in done.stdout) == bool(name)
 
 
 def test_run_that_fails_leaves_no_folder(made: Path, tmp_path: Path) -> None:
@@ -181,7 +181,7 @@ def test_run_that_fails_leaves_no_folder(made: Path, tmp_path: Path) -> None:
     (broken / "cc").chmod(0o755)
     shutil.copytree(made, old, symlinks=True)
     env = {**os.environ, "PATH": f"{broken}:{os.environ['PATH']}"}
-    assert run([TOP / ".ci/dist", "--built", old], env=env).returncode == 1
+    assert run([TOP / "packaging/dist", "--built", old], env=env).returncode == 1
     assert not old.exists()
 
 

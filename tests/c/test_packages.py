@@ -1,4 +1,4 @@
-"""What .ci/dist, .ci/deb and .ci/pack make of the C library, as someone who has only that uses it: pages, packages, a release.
+"""What packaging/dist, packaging/deb and packaging/pack make of the C library, as someone who has only that uses it: pages, packages, a release.
 
 With --root the packages are installed, used and removed in a fresh root made by debootstrap.
 """
@@ -54,7 +54,7 @@ def test_manual_has_each_option(made: Path) -> None:
 def packages(made: Path, folder: Path) -> Path:
     """The folder that has packages of Debian, in which lintian finds no error."""
     path = folder / "deb"
-    said = printed([TOP / ".ci/deb", made, path])
+    said = printed([TOP / "packaging/deb", made, path])
     assert "lintian isn't there" not in said
     return path
 
@@ -82,7 +82,7 @@ def test_packages(packages: Path) -> None:
 
 def test_packages_again(packages: Path, made: Path, tmp_path: Path) -> None:
     """They are made of the same bytes again."""
-    assert_well(run([TOP / ".ci/deb", "--unjudged", made, tmp_path / "again"]))
+    assert_well(run([TOP / "packaging/deb", "--unjudged", made, tmp_path / "again"]))
     assert_well(run(["diff", "-r", packages, tmp_path / "again"]))
 
 
@@ -163,7 +163,7 @@ def test_fresh_root(packages: Path, root: Path) -> None:
 def packed(made: Path, made_for_aarch64: Path, folder: Path) -> Path:
     """The folder that has a release."""
     path = folder / "packed"
-    assert_well(run([TOP / ".ci/pack", made, made_for_aarch64, path]))
+    assert_well(run([TOP / "packaging/pack", made, made_for_aarch64, path]))
     return path
 
 
@@ -181,7 +181,7 @@ class TestRelease:
 
     def test_again(self, packed: Path, made: Path, made_for_aarch64: Path, tmp_path: Path) -> None:
         """It is packed of the same bytes again."""
-        assert_well(run([TOP / ".ci/pack", made, made_for_aarch64, tmp_path / "again"]))
+        assert_well(run([TOP / "packaging/pack", made, made_for_aarch64, tmp_path / "again"]))
         assert_well(run(["diff", "-r", packed, tmp_path / "again"]))
 
     def test_checksum(self, packed: Path) -> None:

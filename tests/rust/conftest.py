@@ -86,7 +86,7 @@ def archive(request: pytest.FixtureRequest) -> Path:
         return Path(path).resolve()
     if request.config.getoption("--built"):
         folder = OUT / "dist"
-        assert_well(run([TOP / ".ci/dist", "--built", folder], seconds=PROVING_SECONDS))
+        assert_well(run([TOP / "packaging/dist", "--built", folder], seconds=PROVING_SECONDS))
         return folder / "lib" / ARCHIVE
     found = installed()
     assert found

@@ -14,7 +14,7 @@ from typing import NamedTuple
 import pytest
 from crates import TOP
 
-VENDOR = TOP / ".ci/vendor"
+VENDOR = TOP / "packaging/vendor"
 PAGE = TOP / "crates/amq_protocol_types/CALLING.md"
 SECTION = PAGE.read_text().partition("\n## In another repository\n")[2].partition("\n## ")[0]
 # Where the page's commands have the other repository.
@@ -22,7 +22,7 @@ OTHER = "../mine"
 # What a copied crate may have.
 ALLOWED = re.compile(r"crates/\w+/(CALLING\.md|LICENSE|src/.*\.rt|(specs|proofs)/.*\.antt)|crates\.txt")
 LIBRARY = "crates/amqp_value_core/src/lib.rt"
-# What .ci/vendor exits with: it copied, something would be lost, and there is no such library or folder.
+# What packaging/vendor exits with: it copied, something would be lost, and there is no such library or folder.
 COPIED, LOST, UNKNOWN = 0, 1, 2
 
 
@@ -44,7 +44,7 @@ ROWS = [*rows()]
 
 
 def copied(to: Path, *words: str) -> int:
-    """Runs .ci/vendor, and returns its status."""
+    """Runs packaging/vendor, and returns its status."""
     return subprocess.run([VENDOR, to, *words], capture_output=True, check=False).returncode
 
 

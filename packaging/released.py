@@ -4,7 +4,7 @@ import re
 import sys
 from datetime import datetime, timezone
 
-from crates import TOP
+from top import TOP
 
 
 def found(pattern: str, name: str) -> str:

@@ -9,9 +9,11 @@ import tempfile
 from collections.abc import Iterator, Sequence
 from pathlib import Path
 
-from building import AARCH64, CALLS_FOR_C, COMPILERS, X86_64, archive, build_archive
-from crates import TOP, Crates
 from released import released_at
+from top import TOP
+
+from building import AARCH64, CALLS_FOR_C, COMPILERS, X86_64, archive, build_archive
+from crates import Crates
 
 PACKAGE, INCLUDE = TOP / "bindings/python", TOP / "include"
 # Debian's Python, by which the package is built.
@@ -237,7 +239,7 @@ def try_wheel_of_aarch64(wheel: Path) -> tuple[str, str]:
 
 
 def main() -> int:
-    """Makes, checks and installs the wheels of folders that .ci/dist has made."""
+    """Makes, checks and installs the wheels of folders that packaging/dist has made."""
     targets = dict(zip(PROCESSORS, sys.argv[2:]))
     to, failed = Path(sys.argv[1]).absolute(), 0
     for target, folder in targets.items():
