@@ -1,9 +1,8 @@
-"""What the scripts run: checks that are counted, processes that are ended, and steps that run side by side."""
+"""What the scripts run: processes that are ended, and steps that run side by side."""
 
 import ctypes
 import os
 import re
-import resource
 import shutil
 import signal
 import subprocess
@@ -20,38 +19,6 @@ from crates import TOP
 
 # What is tested with is in tests/, a package.
 sys.path.append(str(TOP))
-
-
-# Checks
-
-
-def content(path: Path) -> bytes:
-    return path.read_bytes() if path.exists() else b""
-
-
-def within(kind: int, most: int, words: Sequence[str | Path], given: bytes) -> subprocess.CompletedProcess[bytes]:
-    """Runs a program that may have at most n of a resource, such as resource.RLIMIT_STACK."""
-    limit = lambda: resource.setrlimit(kind, (most, most))
-    env: dict[str, str] = {}
-    return subprocess.run(words, input=given, capture_output=True, env=env, preexec_fn=limit, timeout=60, check=False)
-
-
-class Checks:
-    """Prints a line for each check of a script, and counts them."""
-
-    def __init__(self, name: str) -> None:
-        self.name, self.passed, self.failed = name, 0, 0
-
-    def tell(self, what: object, wrong: object = "") -> bool:
-        """Takes what is wrong, if anything is, and returns whether nothing is."""
-        print(f"{self.name} {what}: {f'FAILED: {wrong}' if wrong else 'passed'}", flush=True)
-        self.passed, self.failed = self.passed + (not wrong), self.failed + bool(wrong)
-        return not wrong
-
-    def ended(self, counts: str = "") -> int:
-        """Prints the last line, with what was counted before it, and returns the exit status."""
-        print(f"{counts and f'{counts}; '}{self.passed} passed, {self.failed} failed")
-        return 1 if self.failed or not self.passed else 0
 
 
 # Processes

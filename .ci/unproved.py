@@ -15,9 +15,10 @@ from functools import partial
 from pathlib import Path
 
 from crates import TOP, Crates
-from steps import Judged, Step, Steps, content
+from steps import Judged, Step, Steps
 
 from tests import transcripts
+from tests.checks import content
 from tests.oracle import sides
 
 SHOW = "amqp_show"

@@ -25,8 +25,8 @@ from typing import NamedTuple
 
 import pytest
 from crates import TOP
-from steps import within
 
+from tests.checks import within
 from tests.memory.failing import NO_MEMORY, Preloaded, Stored, is_out_of_memory, program, stored_runs
 from tests.transcripts import Ending
 

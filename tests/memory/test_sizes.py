@@ -25,8 +25,8 @@ from typing import IO
 
 import pytest
 from crates import TOP
-from steps import within
 
+from tests.checks import within
 from tests.memory.large import RUNS, Pieces, Run
 from tests.model import nesting
 

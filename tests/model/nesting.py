@@ -20,8 +20,8 @@ from pathlib import Path
 from typing import NamedTuple
 
 from crates import TOP
-from steps import within
 
+from tests.checks import within
 from tests.model.printed import nested
 
 PAGE, HEADING = TOP / "docs/PROMISES.md", "## What nesting takes of the stack"

@@ -13,8 +13,8 @@ from contextlib import suppress
 from itertools import zip_longest
 
 from crates import TOP
-from steps import Checks, content
 
+from tests.checks import Checks, content
 from tests.model.printed import CLIENT_LEVELS, FRAME_MAX, Dissection, Unread, checked, field, json_of, json_text
 from tests.model.printed import measures, nested, read, write
 from tests.transcripts import Case, Output, cases
