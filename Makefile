@@ -22,10 +22,7 @@ check: ## run everything else a change must pass (20 to 80 minutes; WITHOUT="bro
 lint: ## check the types and the layout of what is written in Python (a minute)
 	@tests/lint
 
-check-c: ## test the C library
-	tests/run c
-
-all: $(FOLDER)/checksums ## prove the crates and build the C library and amqp_show (40 minutes; plain `make` does this)
+all: $(FOLDER)/checksums ## prove and build the C library and amqp_show (40 minutes; plain `make` does this)
 
 include packaging/install.mk
 
@@ -57,4 +54,4 @@ rust: all ## put the library where the Rust crate amqp-values-sys links it
 clean: ## remove what these targets made
 	rm -rf out/dist out/aarch64 out/packed out/deb out/wheel out/web
 
-.PHONY: help setup test check lint check-c dist deb wheel web rust clean
+.PHONY: help setup test check lint dist deb wheel web rust clean

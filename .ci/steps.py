@@ -87,11 +87,10 @@ class Step:
         words: Iterable[object],
         cwd: Path = TOP,
         after: Sequence["Step"] = (),
-        given: Path | None = None,
         judge: "Judge" = by_last_line,
         tells: str | None = None,
     ) -> None:
-        self.name, self.words, self.cwd, self.given = name, [str(it) for it in words], cwd, given
+        self.name, self.words, self.cwd = name, [str(it) for it in words], cwd
         # the steps that it waits for; how it is judged; its lines to be printed, by their first group
         self.after, self.judge, self.tells = after, judge, re.compile(tells) if tells else None
         self.process: subprocess.Popen[bytes] | None = None
@@ -109,10 +108,9 @@ class Step:
         self.out, self.err = folder / f"{self.name}.out", folder / f"{self.name}.err"
         # what it leaves in its temporary folder goes with this script's
         env = {**os.environ, "TMPDIR": str(folder)}
-        with open(self.out, "wb") as out, open(self.err, "wb") as err, open(self.given or os.devnull, "rb") as given:
-            self.process = subprocess.Popen(
-                self.words, stdin=given, stdout=out, stderr=err, cwd=self.cwd, env=env, process_group=0
-            )
+        with open(self.out, "wb") as out, open(self.err, "wb") as err:
+            how: dict[str, Any] = {"stdin": subprocess.DEVNULL, "stdout": out, "stderr": err, "process_group": 0}
+            self.process = subprocess.Popen(self.words, cwd=self.cwd, env=env, **how)
 
     def has_ended(self) -> bool:
         """Returns whether it has ended, and then judges it."""
