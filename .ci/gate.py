@@ -65,7 +65,7 @@ NEEDS: dict[str, tuple[str, ...]] = {
     ),
     "counts": (PYTHON, "valgrind"),
     "web": (PYTHON, "wasm-opt", "chromium", "chromedriver", "firefox-esr"),
-    "rust": (PYTHON,),
+    "rust": (PYTHON, "cargo", "cargo-clippy", "rustfmt", "valgrind"),
     "crate": (PYTHON,),
     "broker": (f"{BIN}/rabbitmq-server", "epmd", "amqp-publish", "php", PYTHON),
     "mutants": (),
@@ -150,13 +150,14 @@ def missing(asked: Asked) -> Iterator[str]:
         yield f"rt version prints {line}, which doesn't end in {LOGIC}" if line else "rt, of the Rattle kit, is missing"
     if asked.name == "test":
         return
-    programs = [*ALWAYS, *(it for step in asked.steps for it in NEEDS[step])]
+    without = os.environ.get("WITHOUT", "").split()
+    programs = [*ALWAYS, *(it for step in asked.steps for it in NEEDS[step] if it not in without)]
     programs += ["debootstrap"] * (asked.is_whole() and "c" in asked.steps)
     lacks = [it for it in dict.fromkeys(programs) if not (shutil.which(it) or it.endswith(".h") and Path(it).exists())]
     if PYTHON in programs and PYTHON not in lacks:
         modules = sorted({*PYTEST, *(it for step in asked.steps for it in MODULES.get(step, ()))})
         lacks += [f"the module {it} of {PYTHON}" for it in modules if not has_module(it)]
-    yield from (f"{it} is missing (make setup installs it)" for it in lacks)
+    yield from (f"{it} is missing (make setup installs it, but for cargo and what comes with it)" for it in lacks)
     if "crate" in asked.steps and not is_at_hand():
         yield f"{NO_CRATE} (WITHOUT=crate skips its step)"
 
