@@ -52,6 +52,6 @@ rust: all ## put the library where the Rust crate amqp-values-sys links it
 	install -D -m 644 $(FOLDER)/lib/libamqp_values.a bindings/rust/amqp-values-sys/lib/$(TARGET)/libamqp_values.a
 
 clean: ## remove what these targets made
-	rm -rf out/dist out/aarch64 out/packed out/deb out/wheel out/web
+	rm -rf out/dist out/aarch64 out/packed out/deb out/wheel out/web out/mypy
 
 .PHONY: help setup test check lint dist deb wheel web rust clean
