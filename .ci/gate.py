@@ -19,9 +19,10 @@
     broker          the calls for C against a running RabbitMQ
     mutants         the mutants of the modules that changed, and those of one crate in turn (.ci/mutants)
 
-The environment names steps: WITHOUT="broker crate" skips these, ONLY="wire sizes" runs only these and what they need. The last
-line counts, and says what was skipped. `crate` is skipped too if the Rust crate isn't at hand (AMQ_PROTOCOL_TYPES names its
-folder, or cargo has kept it); .ci/whole doesn't begin then.
+The variable WITHOUT="broker crate" skips these steps, and ONLY="wire sizes" runs only these and the proofs that they need. The
+last line has the counts, and names what was skipped; the counts also stand alone on the line before. `make check` also skips
+`crate` if the Rust crate isn't at hand: if AMQ_PROTOCOL_TYPES doesn't name its folder, and cargo hasn't kept it. .ci/whole
+doesn't begin then.
 """
 
 import os
@@ -29,7 +30,7 @@ import re
 import shutil
 import subprocess
 import sys
-from collections.abc import Collection, Iterator, Sequence
+from collections.abc import Collection, Iterator
 from pathlib import Path
 from typing import NamedTuple
 
@@ -120,7 +121,7 @@ def words_of(variable: str, known: Collection[str]) -> list[str]:
 
 
 def asked(name: str) -> Asked:
-    """What of `make test`, `make check` or .ci/whole the environment asks for. It may name steps of the others too."""
+    """Which steps of `make test`, `make check` or .ci/whole the environment asks for. It may name steps of the others too."""
     of_test = unproved.names(Crates())
     of_name = {"test": {*of_test}, "check": {*NEEDS} - OF_WHOLE, "whole": {*NEEDS}}[name]
     only, without = (words_of(it, [*of_test, *NEEDS]) for it in ("ONLY", "WITHOUT"))
