@@ -248,6 +248,9 @@ def gate(name: str) -> int:
     if lacks := [*missing(given)]:
         print("\n".join(lacks))
         return print_counts(0, len(lacks), given.skipped)
+    # a make that a step runs is none of this one's
+    for it in ("MAKEFLAGS", "MAKELEVEL", "MFLAGS"):
+        os.environ.pop(it, None)
     with Steps(name) as steps:
         if name == "test":
             unproved.add_steps(steps, Crates())

@@ -28,6 +28,7 @@ TOO_LARGE = {"test_hostile"}
 # `make check` runs these cases: they print the program's own name, or read a folder and a file that tests/run show makes.
 OTHER_CASES = {"help", "file_folder_stream", "file_name_escape"}
 STORED_RUN, STORED_OUTPUT = "stored_run", "stored-output"
+LONGEST = (f"{SHOW}-runs", "test_codec-tests")
 
 
 def tested(crates: Crates) -> list[str]:
@@ -108,10 +109,11 @@ def add_runs(steps: Steps, name: str, crate: Path, answered: Sequence[sides.Row]
 
 
 def add_steps(steps: Steps, crates: Crates) -> None:
-    """Adds the steps, the longest of them near the beginning."""
+    """Adds the steps, the longest first."""
     answered = sides.answered()
     steps.add(STORED_OUTPUT, [sys.executable, "-m", "tests.model.stored_output"])
-    for name in sorted(programs(crates), key=lambda it: it != SHOW):
+    for name in programs(crates):
         add_runs(steps, name, crates.folder(name), answered)
     for name in tested(crates):
         steps.add(f"{name}-tests", ["rt", "try", "--test"], cwd=crates.folder(name), judge=partial(by_tests, name))
+    steps.steps.sort(key=lambda it: it.name not in LONGEST)
