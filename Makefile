@@ -1,5 +1,5 @@
-# Builds, tests, installs and packs the C library and amqp_show; `make help` lists the targets. `make test` needs the Rattle kit,
-# `make` and `make check` also what `make setup` installs. What is installed or packed needs none of these.
+# Builds, tests, installs and packs the C library and amqp_show; `make help` lists the targets. All need the Rattle kit, and all
+# but `make test` what `make setup` installs. What is installed or packed needs neither.
 TARGET = x86_64-unknown-linux-gnu
 FOLDER = out/dist
 AARCH64 = aarch64-unknown-linux-gnu

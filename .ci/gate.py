@@ -19,10 +19,10 @@
     broker          the calls for C against a running RabbitMQ
     mutants         the mutants of the modules that changed, and those of one crate in turn (.ci/mutants)
 
-The environment names steps: WITHOUT="broker crate" skips these, and the tests of other steps that need the broker or the Rust
-crate; ONLY="wire sizes" runs only these and what they need. The last line counts, and says what was skipped. `make check` adds
-`crate` to WITHOUT if the Rust crate isn't at hand (AMQ_PROTOCOL_TYPES names its folder, or cargo has kept it); .ci/whole
-doesn't begin then.
+The variable WITHOUT="broker crate" skips these steps, and the tests of other steps that need RabbitMQ or the Rust crate.
+ONLY="wire sizes" runs only these and the proofs that they need. The last line has the counts, and names what was skipped; the
+counts also stand alone on the line before. `make check` adds `crate` to WITHOUT if the Rust crate isn't at hand: if
+AMQ_PROTOCOL_TYPES doesn't name its folder, and cargo hasn't kept it. .ci/whole doesn't begin then.
 """
 
 import os
@@ -30,7 +30,7 @@ import re
 import shutil
 import subprocess
 import sys
-from collections.abc import Collection, Iterator, Sequence
+from collections.abc import Collection, Iterator
 from pathlib import Path
 from typing import NamedTuple
 
@@ -123,7 +123,7 @@ def words_of(variable: str, known: Collection[str]) -> list[str]:
 
 
 def asked(name: str) -> Asked:
-    """What of `make test`, `make check` or .ci/whole the environment asks for. It may name steps of the others too."""
+    """Which steps of `make test`, `make check` or .ci/whole the environment asks for. It may name steps of the others too."""
     of_test = unproved.names(Crates())
     of_name = {"test": {*of_test}, "check": {*NEEDS} - OF_WHOLE, "whole": {*NEEDS}}[name]
     only, without = words_of("ONLY", [*of_test, *NEEDS]), words_of("WITHOUT", [*of_test, *NEEDS, *OF_TESTS])
@@ -253,6 +253,9 @@ def gate(name: str) -> int:
     if lacks := [*missing(given)]:
         print("\n".join(lacks))
         return print_counts(0, len(lacks), given.skipped)
+    # a make that a step runs is none of this one's
+    for it in ("MAKEFLAGS", "MAKELEVEL", "MFLAGS"):
+        os.environ.pop(it, None)
     with Steps(name) as steps:
         if name == "test":
             unproved.add_steps(steps, Crates())

@@ -1,11 +1,11 @@
 """The steps of `make test`, which prove nothing and need only the kit and Python's standard library.
 
-NAME-tests: the tests of a crate (rt try --test). NAME-runs: a program over its file stdin, which has to print its file
-stdout; through test_codec and amqp_wire also the requests of tests/oracle, which have to be answered as the Rust crate
-answered them; through amqp_show the cases of tests/show. stored-output: these files against the model in Python.
+NAME-tests runs the tests of a crate (rt try --test). NAME-runs runs a program over its file stdin and compares the output with
+its file stdout. amqp_show-runs also runs the cases of tests/show; test_codec and amqp_wire also have to answer the requests of
+tests/oracle as the Rust crate did. stored-output checks the stored files against the model in Python.
 
-What needs a program as the proved sources build it is a step of `make check`: standard error, statuses, terminals, failed
-allocations, the calls for C.
+`make check` tests what needs the programs that the proofs leave: standard error, statuses, terminals, failed allocations, and
+the calls for C.
 """
 
 import re
@@ -26,9 +26,10 @@ SHOW = "amqp_show"
 NOT_HERE = {"amqp_wire": {"exhausted::results_come_once_there_is_memory"}}
 # .ci/whole runs these tests: with the checks of `rt try` a million entries take more than its minute.
 TOO_LARGE = {"test_hostile"}
-# `make check` runs these cases: they print the program's own name, or read a folder and a file that it makes.
+# `make check` runs these cases: they print the program's own name, or read a folder and a file that tests/run show makes.
 OTHER_CASES = {"help", "file_folder_stream", "file_name_escape"}
 STORED_RUN, STORED_OUTPUT = "stored_run", "stored-output"
+LONGEST = (f"{SHOW}-runs", "test_codec-tests")
 
 
 def tested(crates: Crates) -> list[str]:
@@ -109,10 +110,11 @@ def add_runs(steps: Steps, name: str, crate: Path, answered: Sequence[sides.Row]
 
 
 def add_steps(steps: Steps, crates: Crates) -> None:
-    """Adds the steps, the longest of them near the beginning."""
+    """Adds the steps, the longest first."""
     answered = sides.answered()
     steps.add(STORED_OUTPUT, [sys.executable, "-m", "tests.model.stored_output"])
-    for name in sorted(programs(crates), key=lambda it: it != SHOW):
+    for name in programs(crates):
         add_runs(steps, name, crates.folder(name), answered)
     for name in tested(crates):
         steps.add(f"{name}-tests", ["rt", "try", "--test"], cwd=crates.folder(name), judge=partial(by_tests, name))
+    steps.steps.sort(key=lambda it: it.name not in LONGEST)

@@ -7,10 +7,10 @@ fewer. Only allocations of the case's calls count. A call whose allocation fails
 most a multiple of their input: requests.rows has a line `CASE INPUT TIMES` for each, how many bytes its calls are given,
 and how many they may ask for of each of them.
 
-amqp_wire runs so over its stored input, test_stream over a short stream, amqp_show on some cases; and all, amqp_show in each of
-its forms, have too little address space for a long string. The reads and writes of a run of each program fail in turn, the first
-of each with each of the system's errors, and the first write by taking nothing; and once they are of one byte each. At last the
-programs get a length of 4 GiB and little of what it claims: they must allocate little then.
+amqp_wire runs so over its stored input, test_stream over a short stream, amqp_show on some cases; and all, amqp_show in each
+of its forms, have too little address space for a long string. The reads and writes of a run of amqp_wire and of amqp_show fail
+in turn, the first of each with each of the system's errors, and the first write by taking nothing; and once they are of one byte
+each. At last the programs get a length of 4 GiB and little of what it claims: they must allocate little then.
 """
 
 import errno
