@@ -145,6 +145,18 @@ fn writes_flags(rt: HostRuntime) -> Result<(), Fail> {
     Ok(())
 }
 
+#[test]
+fn flags_that_do_not_fit_leave_the_buffer(rt: HostRuntime) -> Result<(), Fail> {
+    let mut buffer = [7; 1];
+    let mut x = WriteContext::from(SliceOutput::new(&mut buffer));
+    assert_eq!(rt;
+        put(rt.alloc(), &[true; 9], &mut x)?,
+        Err(GenError::BufferTooSmall)
+    );
+    assert_eq!(rt; x.position(), 0);
+    Ok(())
+}
+
 // what is read of the bytes is written so, to a buffer of as many bytes as that takes
 fn is_written_as(rt: &impl Abort, alloc: Global, bytes: &[u8], names: &[&str], written: [u8; 2]) {
     let mut buffer = [7; 2];

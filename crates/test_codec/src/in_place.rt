@@ -1,6 +1,8 @@
 //! Values in place, by worked bytes.
 
-use amq_protocol_types::parsing::{Err, ErrorKind, Needed, SliceInput, parse_value};
+use amq_protocol_types::parsing::{
+    Err, ErrorKind, Needed, SliceInput, parse_raw_value, parse_value,
+};
 use amq_protocol_types::stream::Limits;
 use amq_protocol_types::{AMQPType, AMQPValue};
 use amqp_in_place::{
@@ -250,6 +252,7 @@ fn a_header_is_looked_up(rt: HostRuntime) {
     assert_eq!(rt; number_at(death, "count"), Some(1));
     assert!(rt; string_at(death, "reason") == Some(b"expired"));
     assert!(rt; string_at(death, "queue") == Some(b"q"));
+    assert!(rt; death.contains_key("reason"));
     assert!(rt; !death.contains_key("que"));
 }
 
@@ -424,6 +427,10 @@ fn what_is_no_value_is_rejected(rt: HostRuntime) {
         refusal(b"F\0\0\0\x03\x01\xffV", LIMITS),
         Some(ErrorKind::Eof)
     );
+    assert_eq!(rt;
+        refusal(b"F\0\0\0\x0b\x09abcdefgh\xffV", LIMITS),
+        Some(ErrorKind::Eof)
+    );
     assert_eq!(rt; refusal(b"F\0\0\0\x03\x01az", LIMITS), Some(ErrorKind::Eof));
     assert_eq!(rt; refusal(b"A\0\0\0\x01tV", LIMITS), Some(ErrorKind::Eof));
 }
@@ -456,6 +463,40 @@ fn large_values_are_copied(rt: HostRuntime) -> Result<(), Fail> {
         let mut bytes = vec![in rt.alloc(); byte; 100_005]?;
         bytes[..5].copy_from_slice(&[id, 0, 1, 134, 160]);
         assert!(rt; is_copied(rt.alloc(), &bytes)?);
+    }
+    Ok(())
+}
+
+// a hundred arrays, each in the one before it, after the type tag and the length of one more, or of
+// a table with the empty key
+fn nested(alloc: Global, outermost: u8) -> Result<Vec<u8>, Fail> {
+    let mut body = Vec::new(alloc);
+    if outermost == b'F' {
+        body.push(0)?;
+    }
+    for outer in 0..100u32 {
+        body.push(b'A')?;
+        body.extend_from_slice(&495u32.saturating_sub(5 * outer).to_be_bytes())?;
+    }
+    let mut bytes = Vec::new(alloc);
+    push_field(&mut bytes, outermost, &body)?;
+    Ok(bytes)
+}
+
+/// Without limits containers nest as deep as the input has them.
+#[test]
+fn deep_values_are_read_and_copied(rt: HostRuntime) -> Result<(), Fail> {
+    for (outermost, amqp_type) in [(b'A', AMQPType::FieldArray), (b'F', AMQPType::FieldTable)] {
+        let bytes = nested(rt.alloc(), outermost)?;
+        let Some(deep) = value(&bytes) else {
+            panic!(&rt; "no value")
+        };
+        let copy = deep.to_owned(rt.alloc())?;
+        let payload = bytes.as_slice().split_at(bytes.len().min(1)).1;
+        match parse_raw_value(rt.alloc(), amqp_type, SliceInput::new(payload)) {
+            Ok((_, parsed)) => assert!(rt; copy == parsed),
+            Err(_e) => panic!(&rt; "no payload"),
+        }
     }
     Ok(())
 }

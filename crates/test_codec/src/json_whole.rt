@@ -1,7 +1,7 @@
-//! JSON texts that a buffer takes whole, or nothing of.
+//! JSON texts in a buffer, most of which takes them whole, or nothing of them.
 
 use amqp_in_place::Limits;
-use amqp_json::{WriteError, write_whole_json};
+use amqp_json::{WriteError, json_of_encoding, write_json, write_sorted_json, write_whole_json};
 use std::alloc::Global;
 use std::test::Fail;
 
@@ -57,4 +57,42 @@ fn nothing_is_written_of_falling_keys(rt: HostRuntime) {
         )
     );
     assert!(rt; buffer == [7u8; 64]);
+}
+
+#[test]
+fn nothing_is_written_of_a_sorted_text_that_does_not_fit(rt: HostRuntime) {
+    let mut buffer = [7u8; 3];
+    assert!(rt;
+        matches!(
+            write_sorted_json(rt.alloc(), b"V", LIMITS, &mut buffer),
+            Err(WriteError::BufferTooSmall(4))
+        )
+    );
+    assert!(rt; buffer == [7u8; 3]);
+}
+
+#[test]
+fn a_quote_is_escaped_late_in_a_string(rt: HostRuntime) {
+    let mut buffer = [7u8; 22];
+    let text = b"S\0\0\0\x12abcdefghijklmnopq\"";
+    assert!(rt; matches!(write_json(text, LIMITS, &mut buffer), Ok((21, []))));
+    assert!(rt; buffer == *b"\"abcdefghijklmnopq\\\"\"\x07");
+}
+
+#[test]
+fn falling_keys_are_sorted(rt: HostRuntime) {
+    let table = b"F\0\0\0\x07\x01bV\x01at\x01";
+    let text = "{\"a\":true,\"b\":null}";
+    match json_of_encoding(rt.alloc(), table, LIMITS) {
+        Ok((json, [])) => assert_eq!(rt; json.as_str(), text),
+        _ => panic!(&rt; "no text"),
+    }
+    let mut buffer = [7u8; 19];
+    assert!(rt;
+        matches!(
+            write_sorted_json(rt.alloc(), table, LIMITS, &mut buffer),
+            Ok((19, []))
+        )
+    );
+    assert!(rt; buffer.as_slice() == text.as_bytes());
 }

@@ -6,6 +6,8 @@
 #[cfg(test)]
 mod conversions;
 #[cfg(test)]
+mod dissecting;
+#[cfg(test)]
 mod errors;
 #[cfg(test)]
 mod field;
@@ -40,6 +42,8 @@ mod problems;
 mod rabbitmq;
 #[cfg(test)]
 mod repeated_keys;
+#[cfg(test)]
+mod screen;
 #[cfg(test)]
 mod stream;
 #[cfg(test)]

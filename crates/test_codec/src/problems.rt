@@ -1,7 +1,9 @@
 //! The first problem of a value by each of the rules, by worked bytes.
 
 use amq_protocol_types::stream::Limits;
-use amqp_in_place::ProblemKind::{Cut, KeyCut, KeyNotUtf8, NotFinite, TooDeep, UnknownTag};
+use amqp_in_place::ProblemKind::{
+    Cut, KeyCut, KeyNotUtf8, NotFinite, TooDeep, TooLarge, UnknownTag,
+};
 use amqp_in_place::{ProblemKind, Rules, first_problem, first_problem_in_table};
 
 const LIMITS: Limits = Limits {
@@ -54,6 +56,20 @@ fn rules_differ_in_keys_floats_and_a_type_tag(rt: HostRuntime) {
                 );
                 assert_eq!(rt; found, wanted.map(before));
             }
+        }
+    }
+}
+
+#[test]
+fn a_value_may_have_as_many_bytes_as_the_limit(rt: HostRuntime) {
+    for (frame, wanted) in [(5, None), (4, Some((0, TooLarge)))] {
+        let limits = Limits { frame, depth: 1 };
+        for rules in RULES {
+            let found = first_problem(b"F\0\0\0\0", rules, limits);
+            assert_eq!(rt; found.map(|it| (it.offset, it.kind)), wanted);
+            // the type tag that isn't there counts
+            let found = first_problem_in_table(b"\0\0\0\0", rules, limits);
+            assert_eq!(rt; found.map(|it| (it.offset, it.kind)), wanted);
         }
     }
 }

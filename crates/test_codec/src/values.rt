@@ -51,6 +51,7 @@ fn an_array_takes_values(rt: HostRuntime) -> Result<(), Fail> {
     let array = array_by_push(rt.alloc())?;
     assert_eq!(rt; array.as_slice().len(), 2);
     assert!(rt; array == array_of_vectors(rt.alloc())?);
+    assert!(rt; array != FieldArray::new_in(rt.alloc()));
     Ok(())
 }
 
@@ -123,6 +124,7 @@ fn a_table_keeps_one_value_at_a_key(rt: HostRuntime) -> Result<(), Fail> {
     }
     assert_eq!(rt; keys_of(rt.alloc(), &table)?.as_str(), "Bb");
     assert!(rt; table == table_by_place(rt.alloc())?);
+    assert!(rt; table != FieldTable::new_in(rt.alloc()));
     Ok(())
 }
 

@@ -235,6 +235,24 @@ fn what_is_read_has_its_result(rt: HostRuntime) {
     }
 }
 
+#[test]
+fn a_long_stream_has_a_line_for_each_value(rt: HostRuntime) -> Result<(), Fail> {
+    let bytes = vec![in rt.alloc(); 86u8; 1002]?;
+    let mut lines = Vec::new(rt.alloc());
+    for _ in 0..1001 {
+        lines.extend_from_slice(b"value 56\n")?;
+    }
+    prints(
+        &rt,
+        rt.alloc(),
+        Stream(9, 2, 1001),
+        &bytes,
+        lines.as_slice(),
+        1,
+    );
+    Ok(())
+}
+
 /// A table with an entry of nearly every type, keys in order.
 const TABLE: &str = "46000000c2\
     0461616161622a\

@@ -61,6 +61,7 @@ fn a_generator_is_a_body(rt: HostRuntime) -> Result<(), Fail> {
 #[test]
 fn a_rejected_body_is_taken_back(rt: HostRuntime) -> Result<(), Fail> {
     let mut x = WriteContext::from(Vec::from_slice(rt.alloc(), &[9])?);
+    assert_eq!(rt; x.put(&[8]), Ok(()));
     let returned = gen_with_len(
         |y| {
             y.put(&[1])?;
@@ -69,8 +70,8 @@ fn a_rejected_body_is_taken_back(rt: HostRuntime) -> Result<(), Fail> {
         &mut x,
     );
     assert_eq!(rt; returned, Err(GenError::LengthTooLong));
-    assert_eq!(rt; x.position(), 0);
-    assert_eq!(rt; x.into_inner().0.as_slice(), [9].as_slice());
+    assert_eq!(rt; x.position(), 1);
+    assert_eq!(rt; x.into_inner().0.as_slice(), [9, 8].as_slice());
     Ok(())
 }
 

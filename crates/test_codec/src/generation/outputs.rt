@@ -22,6 +22,14 @@ fn a_vector_is_written_at_its_end(rt: HostRuntime) -> Result<(), Fail> {
 }
 
 #[test]
+fn reserved_bytes_are_zeros(rt: HostRuntime) {
+    let mut slice = [7u8; 3];
+    let mut output = SliceOutput::new(&mut slice);
+    assert_eq!(rt; output.reserve(2), Ok(0));
+    assert_eq!(rt; output.written(), [0, 0].as_slice());
+}
+
+#[test]
 fn a_device_gets_what_is_put(rt: HostRuntime) -> Result<(), Fail> {
     let mut x = WriteContext::from(IoOutput::new(Vec::new(rt.alloc())));
     assert_eq!(rt; gen_long_string(b"test", &mut x), Ok(()));

@@ -90,6 +90,9 @@ fn reports_why_there_is_no_container(rt: HostRuntime) {
     assert!(rt; needs(array, 1));
     let table = parse_field_table(rt.alloc(), SliceInput::new(&[0, 0, 0, 1, 7]));
     assert!(rt; refuses(table, ErrorKind::Eof));
+    // an empty key without a value
+    let table = parse_field_table(rt.alloc(), SliceInput::new(&[0, 0, 0, 1, 0]));
+    assert!(rt; refuses(table, ErrorKind::Eof));
 }
 
 // n pairs with the key `k` and true, and one more with false, after their length

@@ -37,6 +37,7 @@ fn reads_strings(rt: HostRuntime) {
     let long = SliceInput::new(&[0, 0, 0, 2, 255, 105, 7]);
     assert!(rt; reads_long_string(alloc, long, &[255, 105], 1));
     assert!(rt; reads_byte_array(alloc, &[0, 0, 0, 2, 1, 0], &[1, 0]));
+    assert!(rt; reads_byte_array(alloc, &[0, 0, 0, 1, 7], &[7]));
 }
 
 #[test]
