@@ -17,6 +17,7 @@
     rust            the Rust crate's drop-in, and the Rust crates over the calls for C
     crate           1,000,000 fresh requests to the Rust crate and to this library (tests/run oracle)
     broker          the calls for C against a running RabbitMQ
+    wrong-bodies    wrong bodies, which the prover must refuse, of the crates that changed (tests/wrong_bodies)
     mutants         the mutants of the modules that changed, and those of one crate in turn (.ci/mutants)
 
 The variable WITHOUT="broker crate" skips these steps, and the tests of other steps that need RabbitMQ or the Rust crate.
@@ -68,6 +69,7 @@ NEEDS: dict[str, tuple[str, ...]] = {
     "rust": (PYTHON, "cargo", "cargo-clippy", "rustfmt", "valgrind"),
     "crate": (PYTHON,),
     "broker": (f"{BIN}/rabbitmq-server", "epmd", "amqp-publish", "php", PYTHON),
+    "wrong-bodies": (),
     "mutants": (),
 }
 # The step that proves, and those that need nothing that it leaves.
@@ -89,8 +91,9 @@ NO_CRATE = "neither AMQ_PROTOCOL_TYPES names the Rust crate's folder nor cargo h
 REJECTED = re.compile(
     r"(\d+) rejected now, (\d+) carried over from an earlier run, (\d+) where only a proof no longer fits, (\d+) not rejected"
 )
-# The lines of `rt ci` and of .ci/mutants that are printed as they come.
+# The lines of `rt ci`, of tests/wrong_bodies and of .ci/mutants that are printed as they come.
 TELLS_PROOFS = r"(?<=^rt: )\w+(: its tests)? (proved|NOT PROVED|ran|is kept)\b|: NOT REFUSED|BAD EDIT"
+TELLS_WRONG_BODIES = r"NOT REFUSED.*|^\w+: \d+ (were )?refused.*|^self-test: .*"
 TELLS_MUTANTS = r"^\w+: tried$|NOT REJECTED|NOT TRIED|self test: FAILED|^changed.*"
 
 
@@ -224,6 +227,7 @@ def commands(asked: Asked, copy: Path) -> dict[str, list[object]]:
         "rust": [of_copy, "rust", "--built"],
         "crate": [of_copy, "oracle"],
         "broker": [of_copy, "rabbitmq", "--built", "--tables", TABLES[asked.name]],
+        "wrong-bodies": [copy / "tests/wrong_bodies", "--built", *["--all"] * asked.is_whole()],
         "mutants": [copy / ".ci/mutants", "--built", *must_fail, *["--all"] * asked.is_whole()],
     }
 
@@ -237,6 +241,8 @@ def add_steps(steps: Steps, asked: Asked) -> None:
             continue
         if name in NEED_NO_PROOFS:
             steps.add(name, command)
+        elif name == "wrong-bodies":
+            steps.add(name, command, cwd=copy, after=proofs, tells=TELLS_WRONG_BODIES)
         elif name == "mutants":
             steps.add(name, command, cwd=copy, after=proofs, judge=by_rejected, tells=TELLS_MUTANTS)
         else:
