@@ -195,7 +195,7 @@ def add_proofs(steps: Steps, asked: Asked, copy: Path) -> Step:
     # only the step crate asks a crate of tests
     copy_repository(copy, () if is_whole or "crate" in asked.steps else TEST_CRATES)
     if not is_whole:
-        # `make test` runs the tests; the mutants of must-fail/ are tried with the others, and carried over as they are
+        # `make test` runs the tests
         leave_out_tests(copy)
     is_anew = is_whole and PROOFS in asked.steps
     judge = by_proved if is_whole else by_last_line
@@ -209,7 +209,6 @@ def commands(asked: Asked, copy: Path) -> dict[str, list[object]]:
     of_copy = copy / "tests/run"
     # what is random is tried otherwise in each run
     random = ["--random"] * asked.is_whole()
-    must_fail = ["--must-fail", TOP, "--record", TOP / KEYS]
     return {
         "docs": [TOP / "tests/pages"],
         "lint": [TOP / "tests/lint"],
@@ -228,7 +227,7 @@ def commands(asked: Asked, copy: Path) -> dict[str, list[object]]:
         "crate": [of_copy, "oracle"],
         "broker": [of_copy, "rabbitmq", "--built", "--tables", TABLES[asked.name]],
         "wrong-bodies": [copy / "tests/wrong_bodies", "--built", *["--all"] * asked.is_whole()],
-        "mutants": [copy / ".ci/mutants", "--built", *must_fail, *["--all"] * asked.is_whole()],
+        "mutants": [copy / ".ci/mutants", "--built", "--record", TOP / KEYS, *["--all"] * asked.is_whole()],
     }
 
 
