@@ -18,7 +18,6 @@
     crate           1,000,000 fresh requests to the Rust crate and to this library (tests/run oracle)
     broker          the calls for C against a running RabbitMQ
     wrong-bodies    wrong bodies, which the prover must refuse, of the crates that changed (tests/wrong_bodies)
-    mutants         the mutants of the modules that changed, and those of one crate in turn (.ci/mutants)
 
 The variable WITHOUT="broker crate" skips these steps, and the tests of other steps that need RabbitMQ or the Rust crate.
 ONLY="wire sizes" runs only these and the proofs that they need. The last line has the counts, and names what was skipped; the
@@ -70,7 +69,6 @@ NEEDS: dict[str, tuple[str, ...]] = {
     "crate": (PYTHON,),
     "broker": (f"{BIN}/rabbitmq-server", "epmd", "amqp-publish", "php", PYTHON),
     "wrong-bodies": (),
-    "mutants": (),
 }
 # The step that proves, and those that need nothing that it leaves.
 PROOFS, NEED_NO_PROOFS = "proofs", {"docs", "lint", "model", "vendor", "fresh"}
@@ -86,15 +84,10 @@ MODULES = {
     "broker": ("pika", "amqp", "kombu", "celery", "pamqp", "aiormq", "aio_pika"),
 }
 TABLES = {"check": 500, "whole": 10000}
-KEYS = ".ci/mutant-keys"
 NO_CRATE = "neither AMQ_PROTOCOL_TYPES names the Rust crate's folder nor cargo has kept it"
-REJECTED = re.compile(
-    r"(\d+) rejected now, (\d+) carried over from an earlier run, (\d+) where only a proof no longer fits, (\d+) not rejected"
-)
-# The lines of `rt ci`, of tests/wrong_bodies and of .ci/mutants that are printed as they come.
+# The lines of `rt ci` and of tests/wrong_bodies that are printed as they come.
 TELLS_PROOFS = r"(?<=^rt: )\w+(: its tests)? (proved|NOT PROVED|ran|is kept)\b|: NOT REFUSED|BAD EDIT"
 TELLS_WRONG_BODIES = r"NOT REFUSED.*|^\w+: \d+ (were )?refused.*|^self-test: .*"
-TELLS_MUTANTS = r"^\w+: tried$|NOT REJECTED|NOT TRIED|self test: FAILED|^changed.*"
 
 
 class Unknown(Exception):
@@ -176,14 +169,6 @@ def by_proved(step: Step) -> Judged:
     return passed, failed + 1, f"{last}, and {len(wants - ran)} of {len(wants)} tests of test_hostile didn't run"
 
 
-def by_rejected(step: Step) -> Judged:
-    """How many mutants were rejected, and how many weren't, or not by what they name, by the last line."""
-    last = step.out.read_text(errors="replace").rstrip("\n").split("\n")[-1]
-    if not (found := REJECTED.fullmatch(last)):
-        return 0, 1, f"ended with status {step.status} and no last line that counts"
-    return int(found[1]), int(found[4]), last
-
-
 def said_of_itself(*words: str) -> str:
     """What a command prints, on standard error too."""
     return subprocess.run(words, stdout=subprocess.PIPE, stderr=subprocess.STDOUT, text=True, check=False).stdout
@@ -227,7 +212,6 @@ def commands(asked: Asked, copy: Path) -> dict[str, list[object]]:
         "crate": [of_copy, "oracle"],
         "broker": [of_copy, "rabbitmq", "--built", "--tables", TABLES[asked.name]],
         "wrong-bodies": [copy / "tests/wrong_bodies", "--built", *["--all"] * asked.is_whole()],
-        "mutants": [copy / ".ci/mutants", "--built", "--record", TOP / KEYS, *["--all"] * asked.is_whole()],
     }
 
 
@@ -242,8 +226,6 @@ def add_steps(steps: Steps, asked: Asked) -> None:
             steps.add(name, command)
         elif name == "wrong-bodies":
             steps.add(name, command, cwd=copy, after=proofs, tells=TELLS_WRONG_BODIES)
-        elif name == "mutants":
-            steps.add(name, command, cwd=copy, after=proofs, judge=by_rejected, tells=TELLS_MUTANTS)
         else:
             steps.add(name, command, cwd=copy, after=proofs)
 
@@ -268,7 +250,6 @@ def gate(name: str) -> int:
             steps.run(len(os.sched_getaffinity(0)))
         else:
             add_steps(steps, given)
-            os.environ["COMMIT_NUMBER"] = said_by("git", "-C", str(TOP), "rev-list", "--count", "HEAD")
             steps.run()
         return steps.ended(given.skipped)
 
