@@ -8,7 +8,7 @@ INSTALL_SH = packaging/install.sh
 .DEFAULT_GOAL = all
 
 help: ## list the targets
-	@sed -n 's/^\([a-z-]*\):[^#]*## /\1\t/p' $(MAKEFILE_LIST) | expand -t 12
+	@sed -n 's/^\([a-z-]*\):[^#]*## /\1\t/p' $(MAKEFILE_LIST) | expand -t 14
 
 setup: ## install what `make check` needs, as root (WITHOUT=broker leaves RabbitMQ out)
 	@.ci/setup
@@ -21,6 +21,9 @@ check: ## run everything else a change must pass (20 to 80 minutes; WITHOUT="bro
 
 lint: ## check the types and the layout of what is written in Python (a minute)
 	@tests/lint
+
+wrong-bodies: ## try wrong bodies, which the prover must refuse (30 minutes; later only of what changed)
+	@tests/wrong_bodies
 
 all: $(FOLDER)/checksums ## prove and build the C library and amqp_show (40 minutes; plain `make` does this)
 
@@ -54,4 +57,4 @@ rust: all ## put the library where the Rust crate amqp-values-sys links it
 clean: ## remove what these targets made
 	rm -rf out/dist out/aarch64 out/packed out/deb out/wheel out/web out/mypy
 
-.PHONY: help setup test check lint dist deb wheel web rust clean
+.PHONY: help setup test check lint wrong-bodies dist deb wheel web rust clean

@@ -45,7 +45,7 @@ def copy_repository(to: Path, without: Collection[str] = ()) -> None:
 
 
 def leave_out_tests(folder: Path) -> None:
-    """Takes the crates' tests, and must-fail/, out of a copy, for `rt ci`: the modules `tests`, and of TEST_CRATES all."""
+    """Takes the crates' tests out of a copy, for `rt ci`: the modules `tests`, and of TEST_CRATES all."""
     for root in [*folder.glob("crates/*/src/lib.rt"), *folder.glob("crates/*/src/main.rt")]:
         text, crate = root.read_text(), root.parents[1]
         for declared, name in re.findall(r"(#\[cfg\(test\)\]\nmod (\w+);\n)", text):
@@ -56,8 +56,6 @@ def leave_out_tests(folder: Path) -> None:
                 for part in SOURCES:
                     shutil.rmtree(crate / part / name, ignore_errors=True)
         root.write_text(text)
-    for edits in folder.glob("crates/*/must-fail"):
-        shutil.rmtree(edits)
 
 
 def is_up_to_date(built: Path, crates: Crates, name: str, parts: Iterable[str]) -> bool:
@@ -78,6 +76,8 @@ def prove_below(crates: Crates, name: str) -> Done:
         copy = Path(folder) / "copy"
         copy_repository(copy, [it for it in crates.below if it not in needed])
         leave_out_tests(copy)
+        for edits in copy.glob("crates/*/must-fail"):
+            shutil.rmtree(edits)
         done = subprocess.run(["rt", "ci"], cwd=copy, capture_output=True, text=True)
         for it in () if done.returncode else needed:
             shutil.rmtree(crates.library(it), ignore_errors=True)

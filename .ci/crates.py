@@ -1,4 +1,4 @@
-"""The crates of a repository: what each uses, and what rattle is given for it. (A change here has every mutant tried again.)"""
+"""The crates of a repository: what each uses, and what rattle is given for it."""
 
 import subprocess
 from os import PathLike

@@ -17,7 +17,7 @@
     rust            the Rust crate's drop-in, and the Rust crates over the calls for C
     crate           1,000,000 fresh requests to the Rust crate and to this library (tests/run oracle)
     broker          the calls for C against a running RabbitMQ
-    mutants         the mutants of the modules that changed, and those of one crate in turn (.ci/mutants)
+    wrong-bodies    wrong bodies, which the prover must refuse, of the crates that changed (tests/wrong_bodies)
 
 The variable WITHOUT="broker crate" skips these steps, and the tests of other steps that need RabbitMQ or the Rust crate.
 ONLY="wire sizes" runs only these and the proofs that they need. The last line has the counts, and names what was skipped; the
@@ -68,7 +68,7 @@ NEEDS: dict[str, tuple[str, ...]] = {
     "rust": (PYTHON, "cargo", "cargo-clippy", "rustfmt", "valgrind"),
     "crate": (PYTHON,),
     "broker": (f"{BIN}/rabbitmq-server", "epmd", "amqp-publish", "php", PYTHON),
-    "mutants": (),
+    "wrong-bodies": (),
 }
 # The step that proves, and those that need nothing that it leaves.
 PROOFS, NEED_NO_PROOFS = "proofs", {"docs", "lint", "model", "vendor", "fresh"}
@@ -84,14 +84,10 @@ MODULES = {
     "broker": ("pika", "amqp", "kombu", "celery", "pamqp", "aiormq", "aio_pika"),
 }
 TABLES = {"check": 500, "whole": 10000}
-KEYS = ".ci/mutant-keys"
 NO_CRATE = "neither AMQ_PROTOCOL_TYPES names the Rust crate's folder nor cargo has kept it"
-REJECTED = re.compile(
-    r"(\d+) rejected now, (\d+) carried over from an earlier run, (\d+) where only a proof no longer fits, (\d+) not rejected"
-)
-# The lines of `rt ci` and of .ci/mutants that are printed as they come.
+# The lines of `rt ci` and of tests/wrong_bodies that are printed as they come.
 TELLS_PROOFS = r"(?<=^rt: )\w+(: its tests)? (proved|NOT PROVED|ran|is kept)\b|: NOT REFUSED|BAD EDIT"
-TELLS_MUTANTS = r"^\w+: tried$|NOT REJECTED|NOT TRIED|self test: FAILED|^changed.*"
+TELLS_WRONG_BODIES = r"NOT REFUSED.*|^\w+: \d+ (were )?refused.*|^self-test: .*"
 
 
 class Unknown(Exception):
@@ -173,14 +169,6 @@ def by_proved(step: Step) -> Judged:
     return passed, failed + 1, f"{last}, and {len(wants - ran)} of {len(wants)} tests of test_hostile didn't run"
 
 
-def by_rejected(step: Step) -> Judged:
-    """How many mutants were rejected, and how many weren't, or not by what they name, by the last line."""
-    last = step.out.read_text(errors="replace").rstrip("\n").split("\n")[-1]
-    if not (found := REJECTED.fullmatch(last)):
-        return 0, 1, f"ended with status {step.status} and no last line that counts"
-    return int(found[1]), int(found[4]), last
-
-
 def said_of_itself(*words: str) -> str:
     """What a command prints, on standard error too."""
     return subprocess.run(words, stdout=subprocess.PIPE, stderr=subprocess.STDOUT, text=True, check=False).stdout
@@ -192,7 +180,7 @@ def add_proofs(steps: Steps, asked: Asked, copy: Path) -> Step:
     # only the step crate asks a crate of tests
     copy_repository(copy, () if is_whole or "crate" in asked.steps else TEST_CRATES)
     if not is_whole:
-        # `make test` runs the tests; the mutants of must-fail/ are tried with the others, and carried over as they are
+        # `make test` runs the tests
         leave_out_tests(copy)
     is_anew = is_whole and PROOFS in asked.steps
     judge = by_proved if is_whole else by_last_line
@@ -206,7 +194,6 @@ def commands(asked: Asked, copy: Path) -> dict[str, list[object]]:
     of_copy = copy / "tests/run"
     # what is random is tried otherwise in each run
     random = ["--random"] * asked.is_whole()
-    must_fail = ["--must-fail", TOP, "--record", TOP / KEYS]
     return {
         "docs": [TOP / "tests/pages"],
         "lint": [TOP / "tests/lint"],
@@ -224,7 +211,7 @@ def commands(asked: Asked, copy: Path) -> dict[str, list[object]]:
         "rust": [of_copy, "rust", "--built"],
         "crate": [of_copy, "oracle"],
         "broker": [of_copy, "rabbitmq", "--built", "--tables", TABLES[asked.name]],
-        "mutants": [copy / ".ci/mutants", "--built", *must_fail, *["--all"] * asked.is_whole()],
+        "wrong-bodies": [copy / "tests/wrong_bodies", "--built", *["--all"] * asked.is_whole()],
     }
 
 
@@ -237,8 +224,8 @@ def add_steps(steps: Steps, asked: Asked) -> None:
             continue
         if name in NEED_NO_PROOFS:
             steps.add(name, command)
-        elif name == "mutants":
-            steps.add(name, command, cwd=copy, after=proofs, judge=by_rejected, tells=TELLS_MUTANTS)
+        elif name == "wrong-bodies":
+            steps.add(name, command, cwd=copy, after=proofs, tells=TELLS_WRONG_BODIES)
         else:
             steps.add(name, command, cwd=copy, after=proofs)
 
@@ -263,7 +250,6 @@ def gate(name: str) -> int:
             steps.run(len(os.sched_getaffinity(0)))
         else:
             add_steps(steps, given)
-            os.environ["COMMIT_NUMBER"] = said_by("git", "-C", str(TOP), "rev-list", "--count", "HEAD")
             steps.run()
         return steps.ended(given.skipped)
 
