@@ -31,6 +31,7 @@ import shutil
 import subprocess
 import sys
 from collections.abc import Collection, Iterator
+from functools import partial
 from pathlib import Path
 from typing import NamedTuple
 
@@ -158,15 +159,19 @@ def missing(asked: Asked) -> Iterator[str]:
         yield f"{NO_CRATE} (WITHOUT=crate skips its step)"
 
 
-def by_proved(step: Step) -> Judged:
-    """Judges `rt ci` by its last line, and whether it ran the tests of test_hostile, which `make test` doesn't run."""
-    passed, failed, last = by_last_line(step)
-    ran = {*re.findall(r"(?m)^test (?:\w+::)*(\w+) \.\.\. ok$", step.out.read_text(errors="replace"))}
-    sources = "".join(it.read_text() for it in TOP.glob("crates/test_hostile/src/**/*.rt"))
-    wants = {*re.findall(r"#\[test\]\n(?:pub )?fn (\w+)", sources)}
-    if wants <= ran and wants:
-        return passed, failed, last
-    return passed, failed + 1, f"{last}, and {len(wants - ran)} of {len(wants)} tests of test_hostile didn't run"
+def by_proved(is_whole: bool, step: Step) -> Judged:
+    """Judges `rt ci` by its last line, by its must-fail edits, which must apply, and in .ci/whole by the tests of test_hostile.
+
+    `rt ci` passes with an edit that doesn't apply or compile. `make test` runs the tests of all other crates.
+    """
+    (passed, failed, last), text = by_last_line(step), step.out.read_text(errors="replace")
+    wrong = re.findall(r"(?m)^.*BAD EDIT.*$", text)
+    if is_whole:
+        sources = "".join(it.read_text() for it in TOP.glob("crates/test_hostile/src/**/*.rt"))
+        wants = {*re.findall(r"#\[test\]\n(?:pub )?fn (\w+)", sources)}
+        ran = {*re.findall(r"(?m)^test (?:\w+::)*(\w+) \.\.\. ok$", text)}
+        wrong += [f"the test {it} of test_hostile didn't run" for it in sorted(wants - ran)]
+    return passed, failed + len(wrong), "; ".join([last, *wrong])
 
 
 def said_of_itself(*words: str) -> str:
@@ -183,10 +188,9 @@ def add_proofs(steps: Steps, asked: Asked, copy: Path) -> Step:
         # `make test` runs the tests
         leave_out_tests(copy)
     is_anew = is_whole and PROOFS in asked.steps
-    judge = by_proved if is_whole else by_last_line
     # a kit whose `rt ci` keeps nothing has no such word
     anew = ["--anew"] * (is_anew and "--anew" in said_of_itself("rt", "help"))
-    return steps.add(PROOFS, ["rt", "ci", *anew], cwd=copy, judge=judge, tells=TELLS_PROOFS)
+    return steps.add(PROOFS, ["rt", "ci", *anew], cwd=copy, judge=partial(by_proved, is_whole), tells=TELLS_PROOFS)
 
 
 def commands(asked: Asked, copy: Path) -> dict[str, list[object]]:
