@@ -93,14 +93,16 @@ def test_nested(check: nesting.Check) -> None:
     assert check.wrong(program("test_hostile")) == ""
 
 
-@pytest.mark.parametrize("page", ("README.md", "docs/VERIFICATION.md"))
-def test_stack_of_unlimited_parsing(page: str) -> None:
-    """The size of nested arrays that, by the page, overflows a stack: a tenth more does, and a tenth less doesn't."""
-    found = re.search(r"about (\d+) kB of nested arrays overflow a stack of (\d+) MiB", (TOP / page).read_text())
+@pytest.mark.parametrize("page", ("README.md", "SECURITY.md", "docs/PROMISES.md", "docs/VERIFICATION.md"))
+@pytest.mark.parametrize("form", "AF")
+def test_stack_of_unlimited_parsing(page: str, form: str) -> None:
+    """So many nested arrays or tables overflow the stack, as the page says, and half as many don't."""
+    found = re.search(r"(\d+) kB of nested arrays or tables overflow a stack of (\d+) MiB", (TOP / page).read_text())
     assert found, "the page names no size"
-    levels, stack = int(found[1]) * 1000 // 5, int(found[2]) << 20
-    for depth, wants in ((levels * 11 // 10, "status -11"), (levels * 9 // 10, "done")):
-        given = nesting.encoding("A", depth)
+    size, stack = int(found[1]) * 1000, int(found[2]) << 20
+    a_level = len(nesting.encoding(form, 2)) - len(nesting.encoding(form, 1))
+    for depth, wants in ((size // a_level, "status -11"), (size // a_level // 2, "done")):
+        given = nesting.encoding(form, depth)
         assert nesting.answer(program("test_hostile"), nesting.CALLS["parse_value"], depth, given, stack) == wants
 
 
