@@ -11,7 +11,7 @@ from pathlib import Path
 
 import pytest
 from crates import TOP
-from selenium.common.exceptions import TimeoutException
+from selenium.common.exceptions import StaleElementReferenceException, TimeoutException
 from selenium.webdriver.common.action_chains import ActionChains
 from selenium.webdriver.common.keys import Keys
 
@@ -53,9 +53,16 @@ def marked(browser: Browser) -> tuple[list[str], str]:
 
 
 def point(browser: Browser, query: str) -> None:
-    """Moves the pointer to an element."""
-    found = browser.driver.find_element("css selector", query)
-    ActionChains(browser.driver).move_to_element(found).perform()
+    """Moves the pointer to an element, which a busy machine may draw anew meanwhile."""
+
+    def is_moved() -> bool:
+        with suppress(StaleElementReferenceException):
+            found = browser.driver.find_element("css selector", query)
+            ActionChains(browser.driver).move_to_element(found).perform()
+            return True
+        return False
+
+    browser.wait(is_moved)
 
 
 def press(browser: Browser, box: str, *keys: str) -> None:
