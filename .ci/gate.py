@@ -1,6 +1,6 @@
 """Runs the steps of `make test`, `make check` or .ci/whole: gate.py test|check|whole
 
-    proofs          each crate proved from nothing, on a copy without the crates that have only tests, with the stored runs
+    proofs          each crate and its tests proved from nothing, on a copy, with the stored runs
     docs            the pages against the sources (tests/pages)
     lint            the types and the layout of Python (tests/lint)
     model           the model's own tests (tests/run model; so for each name below)
@@ -9,7 +9,7 @@
   and then, over the programs and libraries that `proofs` has left:
     show            amqp_show in each of its forms
     alloc-failures  each allocation, read and write fails in turn
-    sizes           large input
+    sizes           large and deep input
     wire            programs on devices that fail
     c, python       the calls for C; the Python package
     counts          instructions and memory of calls
@@ -31,18 +31,21 @@ import shutil
 import subprocess
 import sys
 from collections.abc import Collection, Iterator
-from functools import partial
 from pathlib import Path
 from typing import NamedTuple
 
-import unproved
-from building import TEST_CRATES, copy_repository, leave_out_tests
-from crates import TOP, Crates, said_by
-from steps import Judged, Step, Steps, by_last_line, print_counts
+TOP = Path(__file__).resolve().parent.parent
+# what is shared with the tests, which are a package, and with what is packed
+sys.path += [str(TOP), str(TOP / "packaging")]
 
-from tests.oracle.sides import is_at_hand
-from tests.rabbitmq.broker import BIN
-from tests.rabbitmq.clients import PYTHON
+import unproved  # noqa: E402
+from building import copy_repository  # noqa: E402
+from crates import Crates, said_by  # noqa: E402
+from steps import Judged, Step, Steps, by_last_line, print_counts  # noqa: E402
+
+from tests.oracle.sides import is_at_hand  # noqa: E402
+from tests.rabbitmq.broker import BIN  # noqa: E402
+from tests.rabbitmq.clients import PYTHON  # noqa: E402
 
 # The program logic in which all of this is proved: `rt version` ends with it, whatever the kit is called.
 LOGIC = "logic dac8208d650f15bf"
@@ -71,24 +74,24 @@ NEEDS: dict[str, tuple[str, ...]] = {
     "broker": (f"{BIN}/rabbitmq-server", "epmd", "amqp-publish", "php", PYTHON),
     "wrong-bodies": (),
 }
-# The step that proves, and those that need nothing that it leaves.
-PROOFS, NEED_NO_PROOFS = "proofs", {"docs", "lint", "model", "vendor", "fresh"}
-# The step that takes root and a network.
-OF_WHOLE = {"fresh"}
+# The steps that need nothing that the proofs leave, and the one that takes root and a network.
+NEED_NO_PROOFS, OF_WHOLE = {"docs", "lint", "model", "vendor", "fresh"}, {"fresh"}
 # What WITHOUT may name too: what some tests of the steps c and rust need.
 OF_TESTS = ("aarch64", "clang", "old-processor", "cargo-clippy", "rustfmt", "valgrind", "rustc")
-# The modules of Debian's Python that a step needs if it needs that at all, and how many tables are sent.
+# The modules of Debian's Python that each step needs if it needs that at all, and those that a step needs besides.
 PYTEST = ("pytest", "xdist", "hypothesis")
 MODULES = {
     "python": ("pip", "setuptools", "wheel"),
     "web": ("selenium",),
     "broker": ("pika", "amqp", "kombu", "celery", "pamqp", "aiormq", "aio_pika"),
 }
+# How many tables are sent through RabbitMQ.
 TABLES = {"check": 500, "whole": 10000}
 NO_CRATE = "neither AMQ_PROTOCOL_TYPES names the Rust crate's folder nor cargo has kept it"
 # The lines of `rt ci` and of tests/wrong_bodies that are printed as they come.
-TELLS_PROOFS = r"(?<=^rt: )\w+(: its tests)? (proved|NOT PROVED|ran|is kept)\b|: NOT REFUSED|BAD EDIT"
-TELLS_WRONG_BODIES = r"NOT REFUSED.*|^\w+: \d+ (were )?refused.*|^self-test: .*"
+TELLS = (
+    r"(?<=^rt: )\w+(: its tests)? (proved|NOT PROVED|ran|is kept)\b|NOT REFUSED.*|BAD EDIT|^\w+: \d+ (were )?refused.*"
+)
 
 
 class Unknown(Exception):
@@ -105,10 +108,6 @@ class Asked(NamedTuple):
     def is_whole(self) -> bool:
         """Whether nothing is carried over."""
         return self.name == "whole"
-
-    def needs_proofs(self) -> bool:
-        """Whether the crates are proved, for the other steps too."""
-        return bool(self.steps - NEED_NO_PROOFS)
 
 
 def words_of(variable: str, known: Collection[str]) -> list[str]:
@@ -135,11 +134,6 @@ def asked(name: str) -> Asked:
     return Asked(name, steps, "; ".join(said))
 
 
-def has_module(name: str) -> bool:
-    """Whether Debian's Python has a module."""
-    return subprocess.run([PYTHON, "-c", f"import {name}"], capture_output=True).returncode == 0
-
-
 def missing(asked: Asked) -> Iterator[str]:
     """Yields what is missing for these steps, before anything is begun."""
     line = said_by("rt", "version")
@@ -153,44 +147,18 @@ def missing(asked: Asked) -> Iterator[str]:
     lacks = [it for it in dict.fromkeys(programs) if not (shutil.which(it) or it.endswith(".h") and Path(it).exists())]
     if PYTHON in programs and PYTHON not in lacks:
         modules = sorted({*PYTEST, *(it for step in asked.steps for it in MODULES.get(step, ()))})
-        lacks += [f"the module {it} of {PYTHON}" for it in modules if not has_module(it)]
+        tried = {it: subprocess.run([PYTHON, "-c", f"import {it}"], capture_output=True) for it in modules}
+        lacks += [f"the module {it} of {PYTHON}" for it, done in tried.items() if done.returncode]
     yield from (f"{it} is missing (make setup installs it, but for cargo and what comes with it)" for it in lacks)
     if "crate" in asked.steps and not is_at_hand():
         yield f"{NO_CRATE} (WITHOUT=crate skips its step)"
 
 
-def by_proved(is_whole: bool, step: Step) -> Judged:
-    """Judges `rt ci` by its last line, by its must-fail edits, which must apply, and in .ci/whole by the tests of test_hostile.
-
-    `rt ci` passes with an edit that doesn't apply or compile. `make test` runs the tests of all other crates.
-    """
-    (passed, failed, last), text = by_last_line(step), step.out.read_text(errors="replace")
-    wrong = re.findall(r"(?m)^.*BAD EDIT.*$", text)
-    if is_whole:
-        sources = "".join(it.read_text() for it in TOP.glob("crates/test_hostile/src/**/*.rt"))
-        wants = {*re.findall(r"#\[test\]\n(?:pub )?fn (\w+)", sources)}
-        ran = {*re.findall(r"(?m)^test (?:\w+::)*(\w+) \.\.\. ok$", text)}
-        wrong += [f"the test {it} of test_hostile didn't run" for it in sorted(wants - ran)]
+def by_proved(step: Step) -> Judged:
+    """Judges `rt ci` by its last line, and by its must-fail edits: it passes with one that doesn't apply or compile."""
+    passed, failed, last = by_last_line(step)
+    wrong = re.findall(r"(?m)^.*BAD EDIT.*$", step.out.read_text(errors="replace"))
     return passed, failed + len(wrong), "; ".join([last, *wrong])
-
-
-def said_of_itself(*words: str) -> str:
-    """What a command prints, on standard error too."""
-    return subprocess.run(words, stdout=subprocess.PIPE, stderr=subprocess.STDOUT, text=True, check=False).stdout
-
-
-def add_proofs(steps: Steps, asked: Asked, copy: Path) -> Step:
-    """Copies the repository, and adds the step that proves the copy."""
-    is_whole = asked.is_whole()
-    # only the step crate asks a crate of tests
-    copy_repository(copy, () if is_whole or "crate" in asked.steps else TEST_CRATES)
-    if not is_whole:
-        # `make test` runs the tests
-        leave_out_tests(copy)
-    is_anew = is_whole and PROOFS in asked.steps
-    # a kit whose `rt ci` keeps nothing has no such word
-    anew = ["--anew"] * (is_anew and "--anew" in said_of_itself("rt", "help"))
-    return steps.add(PROOFS, ["rt", "ci", *anew], cwd=copy, judge=partial(by_proved, is_whole), tells=TELLS_PROOFS)
 
 
 def commands(asked: Asked, copy: Path) -> dict[str, list[object]]:
@@ -221,17 +189,16 @@ def commands(asked: Asked, copy: Path) -> dict[str, list[object]]:
 
 def add_steps(steps: Steps, asked: Asked) -> None:
     """Adds the steps that are asked for."""
-    copy = steps.folder / "copy"
-    proofs = [add_proofs(steps, asked, copy)] if asked.needs_proofs() else []
+    copy, proofs = steps.folder / "copy", list[Step]()
+    if asked.steps - NEED_NO_PROOFS:
+        copy_repository(copy)
+        anew = ["--anew"] * (asked.is_whole() and "proofs" in asked.steps)
+        proofs.append(steps.add("proofs", ["rt", "ci", *anew], cwd=copy, judge=by_proved, tells=TELLS))
     for name, command in commands(asked, copy).items():
-        if name not in asked.steps:
-            continue
-        if name in NEED_NO_PROOFS:
+        if name in asked.steps & NEED_NO_PROOFS:
             steps.add(name, command)
-        elif name == "wrong-bodies":
-            steps.add(name, command, cwd=copy, after=proofs, tells=TELLS_WRONG_BODIES)
-        else:
-            steps.add(name, command, cwd=copy, after=proofs)
+        elif name in asked.steps:
+            steps.add(name, command, cwd=copy, after=proofs, tells=TELLS if name == "wrong-bodies" else None)
 
 
 def gate(name: str) -> int:
@@ -249,8 +216,7 @@ def gate(name: str) -> int:
         os.environ.pop(it, None)
     with Steps(name) as steps:
         if name == "test":
-            unproved.add_steps(steps, Crates())
-            steps.steps = [it for it in steps.steps if it.name in given.steps]
+            unproved.add_steps(steps, Crates(), given.steps)
             steps.run(len(os.sched_getaffinity(0)))
         else:
             add_steps(steps, given)

@@ -1,8 +1,8 @@
 """The steps of `make test`, which prove nothing and need only the kit and Python's standard library.
 
 NAME-tests runs the tests of a crate (rt try --test). NAME-runs runs a program over its file stdin and compares the output with
-its file stdout. amqp_show-runs also runs the cases of tests/show; test_codec and amqp_wire also have to answer the requests of
-tests/oracle as the Rust crate did. stored-output checks the stored files against the model in Python.
+its file stdout; amqp_show-runs also runs the cases of tests/show. stored-output checks the stored files against the model in
+Python.
 
 `make check` tests what needs the programs that the proofs leave: standard error, statuses, terminals, failed allocations, and
 the calls for C.
@@ -10,7 +10,7 @@ the calls for C.
 
 import re
 import sys
-from collections.abc import Iterable, Sequence
+from collections.abc import Collection, Iterable, Sequence
 from functools import partial
 from pathlib import Path
 
@@ -19,22 +19,17 @@ from steps import Judged, Step, Steps
 
 from tests import transcripts
 from tests.checks import content
-from tests.oracle import sides
 
-SHOW = "amqp_show"
+SHOW, STORED_OUTPUT = "amqp_show", "stored-output"
 # `make check` runs this test: it takes all memory, and the checks of `rt try` need some themselves.
 NOT_HERE = {"amqp_wire": {"exhausted::results_come_once_there_is_memory"}}
-# .ci/whole runs these tests: with the checks of `rt try` a million entries take more than its minute.
-TOO_LARGE = {"test_hostile"}
 # `make check` runs these cases: they print the program's own name, or read a folder and a file that tests/run show makes.
 OTHER_CASES = {"help", "file_folder_stream", "file_name_escape"}
-STORED_RUN, STORED_OUTPUT = "stored_run", "stored-output"
-LONGEST = (f"{SHOW}-runs", "test_codec-tests")
 
 
 def tested(crates: Crates) -> list[str]:
-    """The crates whose tests run here."""
-    return [it for it in crates.below if crates.has_tests(it) and it not in TOO_LARGE]
+    """The crates that have tests."""
+    return [it for it in crates.below if crates.has_tests(it)]
 
 
 def programs(crates: Crates) -> list[str]:
@@ -42,8 +37,9 @@ def programs(crates: Crates) -> list[str]:
 
 
 def names(crates: Crates) -> list[str]:
-    """The names of the steps."""
-    return [*(f"{it}-tests" for it in tested(crates)), *(f"{it}-runs" for it in programs(crates)), STORED_OUTPUT]
+    """The names of the steps, the longest first."""
+    runs = sorted((f"{it}-runs" for it in programs(crates)), key=lambda it: SHOW not in it)
+    return [*runs, *(f"{it}-tests" for it in tested(crates)), STORED_OUTPUT]
 
 
 def failures(found: Iterable[str]) -> str:
@@ -72,49 +68,35 @@ def by_cases(count: int, step: Step) -> Judged:
     return len(found) - len(failed), len(failed) + lacks, f"{len(found)} of {count} cases{failures(failed)}"
 
 
-def write_case(path: Path, stdin: bytes, stdout: bytes, words: Sequence[str] = ()) -> None:
+def write_case(path: Path, stdin: bytes, stdout: bytes, words: Sequence[str]) -> None:
     """Writes a case as `rt try --cases` reads it."""
     path.write_bytes(stdin)
     path.with_name(f"{path.name}.stdout").write_bytes(stdout)
     path.with_name(f"{path.name}.args").write_text("".join(f"{it}\n" for it in words))
 
 
-def write_cases(folder: Path) -> int:
-    """Writes the cases of tests/show, and returns how many."""
-    cases = transcripts.cases(TOP / "tests/show").values()
-    found = [it for it in cases if it.output is transcripts.Output.PIPE and it.name not in OTHER_CASES]
-    for case in found:
-        write_case(folder / case.name, case.given, case.wants.out, case.words)
-    return len(found)
-
-
-def write_requests(folder: Path, program: str, answered: Sequence[sides.Row]) -> int:
-    """Writes the requests of tests/oracle that a program is asked as a case, and returns 1 if there are any."""
-    asked = [is_wire for is_wire, name in sides.PROGRAMS.items() if name == program]
-    for is_wire in asked:
-        write_case(folder / "oracle", *sides.case(answered, is_wire))
-    return len(asked)
-
-
-def add_runs(steps: Steps, name: str, crate: Path, answered: Sequence[sides.Row]) -> None:
-    """Adds the stored run of a program, with what else it is run over."""
+def add_runs(steps: Steps, name: str, crate: Path) -> None:
+    """Adds the stored run of a program, and of amqp_show the cases of tests/show."""
     folder = steps.folder / f"{name}-runs"
     folder.mkdir()
     args = content(crate / "args").decode().splitlines()
-    write_case(folder / STORED_RUN, content(crate / "stdin"), (crate / "stdout").read_bytes(), args)
-    count = 1 + (write_cases(folder) if name == SHOW else write_requests(folder, name, answered))
-    # (the files that cases name)
+    write_case(folder / "stored_run", content(crate / "stdin"), (crate / "stdout").read_bytes(), args)
+    found = transcripts.cases(TOP / "tests/show").values() if name == SHOW else ()
+    cases = [it for it in found if it.output is transcripts.Output.PIPE and it.name not in OTHER_CASES]
+    for case in cases:
+        write_case(folder / case.name, case.given, case.wants.out, case.words)
     files = [word for it in sorted(crate.glob("data/*")) for word in ("--data", f"{it.name}={it}")]
     words = ["rt", "try", "--cases", folder, *files]
-    steps.add(f"{name}-runs", words, cwd=crate, judge=partial(by_cases, count))
+    steps.add(f"{name}-runs", words, cwd=crate, judge=partial(by_cases, 1 + len(cases)))
 
 
-def add_steps(steps: Steps, crates: Crates) -> None:
-    """Adds the steps, the longest first."""
-    answered = sides.answered()
-    steps.add(STORED_OUTPUT, [sys.executable, "-m", "tests.model.stored_output"])
-    for name in programs(crates):
-        add_runs(steps, name, crates.folder(name), answered)
-    for name in tested(crates):
-        steps.add(f"{name}-tests", ["rt", "try", "--test"], cwd=crates.folder(name), judge=partial(by_tests, name))
-    steps.steps.sort(key=lambda it: it.name not in LONGEST)
+def add_steps(steps: Steps, crates: Crates, wanted: Collection[str]) -> None:
+    """Adds the steps that are wanted."""
+    for step in (it for it in names(crates) if it in wanted):
+        name, _, kind = step.rpartition("-")
+        if step == STORED_OUTPUT:
+            steps.add(step, [sys.executable, "-m", "tests.model.stored_output"])
+        elif kind == "runs":
+            add_runs(steps, name, crates.folder(name))
+        else:
+            steps.add(step, ["rt", "try", "--test"], cwd=crates.folder(name), judge=partial(by_tests, name))

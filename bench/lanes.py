@@ -161,7 +161,7 @@ def python_sides(given: argparse.Namespace) -> Lanes:
     shutil.rmtree(OUT / "python", ignore_errors=True)
     if wrong := compile_package(library, OUT / "python"):
         sys.exit(f"bench: the package for Python isn't built: {wrong}")
-    process = Process([PYTHON, "-B", HERE / "side.py"], PYTHONPATH=f"{OUT / 'python'}:{TOP}:{TOP / '.ci'}")
+    process = Process([PYTHON, "-B", HERE / "side.py"], PYTHONPATH=f"{OUT / 'python'}:{TOP}:{TOP / 'packaging'}")
     return {lane: process for lane in process.lanes}
 
 

@@ -4,7 +4,7 @@ import re
 import sys
 from datetime import datetime, timezone
 
-from top import TOP
+from crates import TOP
 
 
 def found(pattern: str, name: str) -> str:

@@ -9,11 +9,9 @@ import tempfile
 from collections.abc import Iterator, Sequence
 from pathlib import Path
 
-from released import released_at
-from top import TOP
-
 from building import AARCH64, CALLS_FOR_C, COMPILERS, X86_64, archive, build_archive
-from crates import Crates
+from crates import TOP, Crates
+from released import released_at
 
 PACKAGE, INCLUDE = TOP / "bindings/python", TOP / "include"
 # Debian's Python, by which the package is built.

@@ -1,6 +1,6 @@
-"""What is tested from outside. What the tests share with the gate is in .ci, and what builds the wheels in packaging."""
+"""What is tested from outside. What the tests share with the gate and with what is packed is in packaging."""
 
 import sys
 from pathlib import Path
 
-sys.path += [str(Path(__file__).resolve().parent.parent / it) for it in (".ci", "packaging")]
+sys.path.append(str(Path(__file__).resolve().parent.parent / "packaging"))

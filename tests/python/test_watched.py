@@ -17,7 +17,7 @@ DEBUG = "python3-dbg"
 
 def watched(python: str, what: str, folder: str, seed: int, count: int, env: dict[str, str]) -> int:
     words = [python, "-B", "-m", "tests.python.watched", what, folder, str(seed), str(count)]
-    path = f"{TOP}:{TOP / '.ci'}"
+    path = f"{TOP}:{TOP / 'packaging'}"
     done = subprocess.run(words, cwd=TOP, capture_output=True, text=True, env={**os.environ, **env, "PYTHONPATH": path})
     assert not done.returncode, f"{done.stderr[:3000]}...{done.stderr[-1500:]}"
     return int(done.stdout.split()[-1])

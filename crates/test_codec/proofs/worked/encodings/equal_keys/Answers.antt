@@ -1,0 +1,8 @@
+use Rattle.std.proofs.Common.{refl}
+use Rattle.std.specs.Str.{is_utf8, chars}
+use lib.Utf8.{encode}
+use Rattle.test_codec.proofs.worked.encodings.equal_keys.Goals as goal
+
+pub returns-clause-reads : goal.returns-clause-reads
+unfolding is_utf8 chars encode
+returns-clause-reads c = refl

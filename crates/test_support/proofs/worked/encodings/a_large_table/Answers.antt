@@ -1,8 +1,0 @@
-use Rattle.std.proofs.Common.{refl}
-use Rattle.std.specs.Str.{is_utf8, chars}
-use lib.Utf8.{encode}
-use Rattle.test_support.proofs.worked.encodings.a_large_table.Goals as goal
-
-pub returns : goal.returns
-unfolding is_utf8 chars encode
-returns c = (refl, refl, refl)
