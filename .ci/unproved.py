@@ -27,19 +27,10 @@ NOT_HERE = {"amqp_wire": {"exhausted::results_come_once_there_is_memory"}}
 OTHER_CASES = {"help", "file_folder_stream", "file_name_escape"}
 
 
-def tested(crates: Crates) -> list[str]:
-    """The crates that have tests."""
-    return [it for it in crates.below if crates.has_tests(it)]
-
-
-def programs(crates: Crates) -> list[str]:
-    return [it for it in crates.below if crates.is_program(it)]
-
-
 def names(crates: Crates) -> list[str]:
     """The names of the steps, the longest first."""
-    runs = sorted((f"{it}-runs" for it in programs(crates)), key=lambda it: SHOW not in it)
-    return [*runs, *(f"{it}-tests" for it in tested(crates)), STORED_OUTPUT]
+    runs = sorted((f"{it}-runs" for it in crates.below if crates.is_program(it)), key=lambda it: SHOW not in it)
+    return [*runs, *(f"{it}-tests" for it in crates.below if crates.has_tests(it)), STORED_OUTPUT]
 
 
 def failures(found: Iterable[str]) -> str:
