@@ -1,0 +1,63 @@
+"""amqp_wire, as `rt ci` left it, against the model."""
+
+import subprocess
+from collections.abc import Iterator
+from random import Random
+
+from building import is_up_to_date
+from crates import Crates
+
+from tests.model.printed import write
+from tests.model.stored_output import line
+from tests.model.tables import EVERY_TYPE, odd_table, random_value
+
+CRATES = Crates()
+# What takes the place of a byte: bounds, type tags, and bytes that are none and no UTF-8.
+BYTES = b"\x00\x01\x04AFStxz\x7f\x80\xff"
+COUNT = 2_000
+
+
+def table_of_every_type() -> bytes:
+    return write(EVERY_TYPE)
+
+
+def damaged(data: bytes) -> Iterator[bytes]:
+    """Yields each front of some bytes, and these with a byte replaced, at each place."""
+    yield from (data[:n] for n in range(len(data) + 1))
+    yield from (data[:at] + bytes([it]) + data[at + 1 :] for at in range(len(data)) for it in BYTES)
+
+
+def mutated(make: Random, data: bytes) -> bytes:
+    """Some bytes of which one is replaced, left out or doubled."""
+    at = make.randrange(len(data))
+    return data[:at] + make.choice([b"", data[at : at + 1] * 2, make.randbytes(1)]) + data[at + 1 :]
+
+
+def random_encodings(make: Random) -> Iterator[bytes]:
+    """Yields encodings of random values and of odd tables, each also mutated and with bytes behind it."""
+    for _ in range(COUNT):
+        for data in (write(random_value(make, 4)), odd_table(make)):
+            yield from (data, mutated(make, data), data + make.randbytes(2))
+
+
+def assert_lines(given: list[bytes]) -> None:
+    """The program prints of each the line that the model does."""
+    path = CRATES.folder("amqp_wire") / "out/amqp_wire"
+    assert is_up_to_date(
+        path, CRATES, "amqp_wire", ["src"]
+    ), "amqp_wire isn't there, or is older than its sources: run rt ci"
+    text = "".join(f"{it.hex()}\n" for it in given)
+    done = subprocess.run([path], input=text, capture_output=True, text=True, timeout=60)
+    assert (done.returncode, done.stderr) == (0, "")
+    printed = done.stdout.splitlines()
+    assert len(printed) == len(given)
+    others = [(it.hex(), said, line(it.hex())) for it, said in zip(given, printed) if said != line(it.hex())]
+    assert not others, f"{len(others)} lines; the first is of, is, and is predicted: {others[0]}"
+
+
+def test_fronts_and_replaced_bytes() -> None:
+    assert_lines([*damaged(table_of_every_type())])
+
+
+def test_random_encodings(seed: int) -> None:
+    assert_lines([*random_encodings(Random(seed))])
