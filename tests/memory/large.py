@@ -6,6 +6,8 @@ from functools import cache, partial
 from itertools import repeat
 from typing import NamedTuple
 
+from crates import TOP
+
 LARGE, MANY = 256 << 20, 1_000_000
 WIDE = ["--max-bytes", "4294967295"]
 # A piece of a long string, and how many of them are that.
@@ -13,11 +15,6 @@ PIECE = (b"abcdefghijklmnopqrstuvwxyz" * (1 << 16))[: 1 << 20]
 PIECES = LARGE // len(PIECE)
 # The most address space of a program.
 SPACE = 4 << 30
-
-# Bytes that aren't printable, how many pieces of them are escaped, and the most address space for each byte of them: it is
-# read, and escaped by four bytes, each into a vector that has at most twice the capacity that is needed.
-UNPRINTABLE = (bytes([*range(32), *range(127, 256)]) * (1 << 13))[: 1 << 20]
-UNPRINTABLE_PIECES, SPACE_TO_ESCAPE = 128, 10
 
 Pieces = Iterable[bytes]
 
@@ -42,77 +39,17 @@ def head(tag: bytes, size: int) -> bytes:
     return struct.pack(">cI", tag, size)
 
 
-# Values of each type, of which the last are containers.
-EACH_TYPE = """
-    7401 62ff 42ff 73ffff 75ffff 49ffffffff 69ffffffff 6cffffffffffffffff 663f800000 643ff0000000000000 4402000000ff
-    540000000000000001 56 7800000001ff 41000000027401 4600000004016b7401"""
-SMALL = [bytes.fromhex(it) for it in EACH_TYPE.split()]
-# What a long array and a long table have after a string or a byte array.
-VALUES = b"V" * MANY + b"".join(SMALL)
-MANY_PAIRS = b"".join(b"\7%07dV" % n for n in range(MANY // 4))
-PAIRS = MANY_PAIRS + b"".join(b"\2z%c" % (97 + n) + it for n, it in enumerate(SMALL))
-STRING, BYTES = [head(b"S", LARGE), *letters()], [head(b"x", LARGE), *letters()]
-ARRAY = [head(b"A", LARGE + 5 + len(VALUES)), *STRING, VALUES]
-TABLE = [head(b"F", LARGE + 7 + len(PAIRS)), b"\1-", *BYTES, PAIRS]
-# A table with a key that comes again, at the end.
-AGAIN = [head(b"F", LARGE + 7 + len(PAIRS) + 3), b"\1-", *STRING, PAIRS, b"\1-V"]
+STRING = [head(b"S", LARGE), *letters()]
 
 
-# The calls of test_hostile
-
-ON_STRING = """ValueRef::to_owned parse_long_string LongString::clone LongString::from_slice LongString::from_text gen_long_string gen_with_len escape
-    AMQPValue::try_from"""
-ON_BYTES = "ValueRef::to_owned parse_byte_array ByteArray::clone ByteArray::from_slice gen_byte_array"
-ON_CONTAINERS = """parse_value parse_value_within parse_raw_value ValueReader::next ValueRef::to_owned gen_value gen_raw_value
-    clone"""
-ON_ARRAY = "parse_field_array parse_field_array_within FieldArray::clone FieldArray::push ArrayRef::to_owned"
-ON_TABLE = """parse_field_table parse_field_table_within FieldTable::clone FieldTable::insert FieldTable::place
-    FieldTable::from_pairs FieldTable::from_entries TableRef::to_owned gen_field_table"""
-OF_JSON = "from_value from_json encoding_of_json json_of_encoding"
-ON_FLAGS = "get_bytes parse_flags AMQPFlags::clone add_flag gen_flags"
+# The calls of the library
 
 
-def same(calls: str) -> str:
-    """The lines of calls that return what they should."""
-    return "".join(f"{it} same\n" for it in calls.split())
-
-
-def dissected(parts: int) -> str:
-    """The lines of a dissection, and of one without the last byte, which is a part by itself."""
-    return f"dissect Value {parts} parts\ndissect_partial None {parts - 1} parts\n"
-
-
-def warned(repeated: object) -> str:
-    """Warnings, of which at most a key that comes again is one."""
-    others = "key_not_utf8: None, empty_key: None, too_deep: None, exceeds_frame: false"
-    return f"Ok(Warned {{ repeated_key: {repeated}, {others} }})"
-
-
-def of_array() -> str:
-    of_items = same(ON_ARRAY) + f"warnings {warned(None)}\n" + same("gen_field_array")
-    return same(ON_CONTAINERS) + dissected(1_000_043) + of_items
-
-
-def of_table() -> str:
-    return same(ON_CONTAINERS) + dissected(750_077) + same(ON_TABLE)
-
-
-def of_repeated() -> str:
-    at = 12 + LARGE + len(PAIRS)
-    lines = [f"warnings {warned(f'Some({at})')}", f"warnings_in_table {warned(f'Some({at - 1})')}"]
-    return "".join(f"{it}\n" for it in [*lines, 'repeated_key Ok(Some("-"))'])
-
-
-def calls(word: str, given: Pieces, wants: str) -> Run:
-    """The calls that test_hostile makes by a word, on what comes in, and the lines that come out."""
-    return Run("test_hostile", [word], given, [wants.encode()])
-
-
-def escaped() -> Run:
-    text = "".join(f"\\x{it:02x}" for it in UNPRINTABLE).encode()
-    space = SPACE_TO_ESCAPE * UNPRINTABLE_PIECES * len(UNPRINTABLE)
-    given, wants = repeat(UNPRINTABLE, UNPRINTABLE_PIECES), [*repeat(text, UNPRINTABLE_PIECES), b"\n"]
-    return Run("test_hostile", ["unprintable"], given, wants, space)
+def calls() -> Run:
+    """The rows of large.calls, with their answers."""
+    rows = (TOP / "tests/memory/large.calls").read_bytes()
+    count = sum(b" => " in it for it in rows.splitlines())
+    return Run("test_calls", [], [rows], [f"{count} rows, 0 wrong\n".encode()])
 
 
 # amqp_wire, test_stream and amqp_show
@@ -170,18 +107,7 @@ def array_as_json() -> Run:
 
 # By name, what makes each run.
 RUNS: dict[str, Callable[[], Run]] = {
-    "a string": partial(calls, "bytes", STRING, same(ON_STRING)),
-    "a byte array": partial(calls, "bytes", BYTES, same(ON_BYTES)),
-    "an array": partial(calls, "container", ARRAY, of_array()),
-    "a table": partial(calls, "container", TABLE, of_table()),
-    "an array and JSON": partial(calls, "json", ARRAY, same(OF_JSON)),
-    "a table and JSON": partial(calls, "json", TABLE, same(OF_JSON)),
-    "a key that comes again": partial(calls, "repeated", AGAIN, of_repeated()),
-    "a vector": partial(
-        calls, "vector", [*letters()], f"make_room Ok(())\nput Ok(())\nreserve Ok({LARGE})\n{2 * LARGE}\n"
-    ),
-    "flags": partial(calls, "flags", [PIECE], same(ON_FLAGS)),
-    "unprintable bytes, escaped": escaped,
+    "the calls of the library": calls,
     "a line of 512 MiB": line,
     "a million lines": lines,
     "a stream": stream,

@@ -1,13 +1,12 @@
 """The programs, as rt ci left them, at the sizes that a user has.
 
-No clause can state that memory sufficed, so a body that runs out of it above a size is proved. Each call that may run out
-of memory is made on what has 256 MiB, and a million values or 250,000 pairs (crates/test_hostile), and `escape` on 128 MiB of
-unprintable bytes, each of which it writes as four. A line of 512 MiB and a million lines go through amqp_wire, a stream
-through test_stream, and a string of 256 MiB and a million values through amqp_show, as JSON, as a tree and from JSON. What
-they must print is made in large.py. A program may have 4 GiB of address space, and to escape 10 bytes of it for each that is
-read.
+No clause can state that memory sufficed, so a body that runs out of it above a size is proved. test_calls answers the rows of
+large.calls, in which calls that may run out of memory have 256 MiB, a million values or 250,000 pairs. A line of 512 MiB and
+a million lines go through amqp_wire, a stream through test_stream, and a string of 256 MiB and a million values through
+amqp_show, as JSON, as a tree and from JSON. What they must print is made in large.py. A program may have 4 GiB of address
+space.
 
-Then the calls that recurse, through test_hostile, on small stacks (those of nesting.py), and amqp_show as deep as --depth
+Then the calls that recurse, through test_calls, on small stacks (those of nesting.py), and amqp_show as deep as --depth
 may be, on the stack that docs/SHOW.md names, and on half of it.
 """
 
@@ -90,7 +89,7 @@ def test_large(made: Callable[[], Run]) -> None:
 @pytest.mark.parametrize("check", CHECKS, ids=[it.name for it in CHECKS])
 def test_nested(check: nesting.Check) -> None:
     """A call on a small stack."""
-    assert check.wrong(program("test_hostile")) == ""
+    assert check.wrong(program("test_calls")) == ""
 
 
 @pytest.mark.parametrize("page", ("README.md", "SECURITY.md", "docs/PROMISES.md", "docs/VERIFICATION.md"))
@@ -103,7 +102,7 @@ def test_stack_of_unlimited_parsing(page: str, form: str) -> None:
     a_level = len(nesting.encoding(form, 2)) - len(nesting.encoding(form, 1))
     for depth, wants in ((size // a_level, "status -11"), (size // a_level // 2, "done")):
         given = nesting.encoding(form, depth)
-        assert nesting.answer(program("test_hostile"), nesting.CALLS["parse_value"], depth, given, stack) == wants
+        assert nesting.answer(program("test_calls"), nesting.CALLS["parse_value"], depth, given, stack) == wants
 
 
 def stack_of_show() -> int:

@@ -4,7 +4,7 @@
 that it names. The page's table has a column for x86-64, and one for aarch64.
 
 `python3 -m tests.model.nesting PROGRAM NAME..` prints what a level takes of each call, and the call besides. PROGRAM is
-test_hostile, or nested.c as it was compiled, also with the words by which qemu runs it.
+test_calls, or nested.c as it was compiled, also with the words by which qemu runs it.
 """
 
 import re
@@ -108,16 +108,6 @@ def without_encoding(opened: str, form: str, depth: int) -> bytes:
     return not_an_entry(opened, form, depth - 1)
 
 
-def type_tags(form: str, depth: int) -> bytes:
-    """The type tags of a value that the program makes by itself, the innermost first."""
-    return (form * depth)[:depth].encode()
-
-
-def brackets(form: str, depth: int) -> bytes:
-    """The brackets of a JSON value that the program makes by itself, the innermost first."""
-    return type_tags(form, depth).translate(bytes.maketrans(b"AF", b"[{"))
-
-
 class Threaded(NamedTuple):
     """nested.c, as it was compiled, which makes a call in a thread with the stack that a word says; and what runs it."""
 
@@ -192,27 +182,16 @@ FOR_C = {
     "amqpv_canonical": Call(["amqpv_canonical"], {"": not_canonical}, DEEP),
     **{it: Call([it], TEXTS, OF_JSON) for it in ("amqpv_from_json", "amqpv_from_json_or_problem")},
 }
-MADE: dict[str, dict[str, Make]] = {
-    "encoding": {"": encoding}, "payload": {"": payload}, "values": {"": values}, "tree": {"": type_tags},
-    "document": {"": brackets}, "text": TEXTS,
-}  # fmt: skip
-
-
-# What takes most of this call.
-MOST: dict[str, dict[str, Make]] = {"json_of_encoding": {"": unordered}}
-
-
-def calls() -> Iterator[tuple[str, Call]]:
-    """Yields the calls of test_hostile, by name: the arms of its functions of_encoding and so on."""
-    text = (TOP / "crates/test_hostile/src/nesting.rt").read_text()
-    for kind, makes in MADE.items():
-        (body,) = re.findall(rf"(?ms)^fn of_{kind}\(.*?^}}", text)
-        for name, arm in re.findall(r'(?m)^ {8}"(\S+)" => (.*(?:\n {9}.*)*)', body):
-            depths = OF_JSON if kind == "text" else DEEPER if "limits" in arm else UNLIMITED
-            yield name, Call([kind, name], MOST.get(name, makes), depths)
-
-
-CALLS = dict(calls())
+# The calls that test_calls makes: without a limit, within one, and on JSON.
+CALLS = {
+    **{it: Call([it], {"": encoding}, UNLIMITED) for it in ("parse_value", "read_in_place_unlimited", "skip_value")},
+    **{it: Call([it], {"": encoding}, UNLIMITED) for it in ("gen_value", "clone", "==", "to_json")},
+    **{it: Call([it], {"": encoding}, DEEPER) for it in ("parse_value_within", "SplitInput", "ValueReader::next")},
+    **{it: Call([it], {"": encoding}, DEEPER) for it in ("read_in_place", "to_owned", "is_canonical", "canonical_len")},
+    **{it: Call([it], {"": encoding}, DEEPER) for it in ("measure_value", "first_problem", "warnings")},
+    "json_of_encoding": Call(["json_of_encoding"], {"": unordered}, DEEPER),
+    **{it: Call([it], TEXTS, OF_JSON) for it in ("from_json", "encoding_of_json")},
+}
 
 
 def table(column: int = 0) -> tuple[dict[str, int], int]:
@@ -233,13 +212,14 @@ def table(column: int = 0) -> tuple[dict[str, int], int]:
 
 def answer(program: Program, call: Call, depth: int, given: bytes, stack: int) -> str:
     """What a call returns on a stack of n bytes, or how the program ended."""
-    words = [*call.words, str(depth)]
     if isinstance(program, Threaded):
-        words = [*program.by, str(program.path), *words, str(stack)]
+        words = [*program.by, str(program.path), *call.words, str(depth), str(stack)]
         done = subprocess.run(words, input=given, capture_output=True, timeout=60)
     else:
-        done = within(resource.RLIMIT_STACK, stack, [program, *words], given)
-    return f"status {done.returncode}" if done.returncode else str(done.stdout.decode().strip())
+        row = f"nest {call.words[0]} {depth} {given.hex()}\n"
+        done = within(resource.RLIMIT_STACK, stack, [program], row.encode())
+    text = done.stdout.decode().splitlines()[:1]
+    return f"status {done.returncode}" if done.returncode else "".join(text).rpartition(" => ")[2]
 
 
 @lru_cache(maxsize=32)

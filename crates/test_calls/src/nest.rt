@@ -5,12 +5,12 @@ use super::words::{bytes_of, number};
 use super::{Answer, Trouble};
 use amq_protocol_types::AMQPValue;
 use amq_protocol_types::generation::{WriteContext, gen_value};
-use amq_protocol_types::parsing::{ParserResult, SliceInput, SplitInput, parse_value};
 use amq_protocol_types::parsing::traits::ParsableInput;
+use amq_protocol_types::parsing::{ParserResult, SliceInput, SplitInput, parse_value};
 use amq_protocol_types::stream::{Limits, ValueReader, parse_value_within};
 use amqp_in_place::rabbitmq::warnings;
 use amqp_in_place::{
-    canonical_len, first_problem, is_canonical, measure_value, read_in_place,
+    Rules, canonical_len, first_problem, is_canonical, measure_value, read_in_place,
     read_in_place_unlimited, skip_value,
 };
 use amqp_json::{encoding_of_json, from_json, json_of_encoding, to_json};
@@ -48,13 +48,7 @@ pub fn answer<R: Eprint>(rt: &R, alloc: Global, words: &[&str]) -> Answer {
 }
 
 /// Calls on the bytes of a value that is read in place.
-fn in_place<R: Eprint>(
-    rt: &R,
-    alloc: Global,
-    call: &str,
-    bytes: &[u8],
-    limits: Limits,
-) -> Answer {
+fn in_place<R: Eprint>(rt: &R, alloc: Global, call: &str, bytes: &[u8], limits: Limits) -> Answer {
     match call {
         "read_in_place" => done(alloc, call!(rt; read_in_place(bytes, limits))),
         "read_in_place_unlimited" => done(alloc, call!(rt; read_in_place_unlimited(bytes))),
@@ -63,11 +57,17 @@ fn in_place<R: Eprint>(
             Err(error) => done(alloc, Err::<(), _>(error)),
         },
         "skip_value" => done(alloc, call!(rt; skip_value(bytes))),
-        "is_canonical" => Ok(format!(in alloc; "{}", is_canonical(bytes, limits))?),
-        "canonical_len" => Ok(format!(in alloc; "{}", canonical_len(bytes, limits).is_some())?),
+        "is_canonical" => said(alloc, call!(rt; is_canonical(bytes, limits))),
+        "canonical_len" => said(alloc, call!(rt; canonical_len(bytes, limits)).is_some()),
         "measure_value" => done(alloc, call!(rt; measure_value(bytes, limits))),
-        "first_problem" => Ok(format!(in alloc; "{}", first_problem(bytes, limits).is_none())?),
-        "warnings" => done(alloc, call!(rt; warnings(alloc, bytes, limits, 0, u32::MAX))),
+        "first_problem" => {
+            let problem = call!(rt; first_problem(bytes, Rules::Reading, limits));
+            said(alloc, problem.is_none())
+        }
+        "warnings" => done(
+            alloc,
+            call!(rt; warnings(alloc, bytes, limits, 0, u32::MAX)),
+        ),
         "json_of_encoding" => done(alloc, call!(rt; json_of_encoding(alloc, bytes, limits))),
         _ => Err(Trouble::Unknown),
     }
@@ -85,7 +85,7 @@ fn of_value<R: Eprint>(rt: &R, alloc: Global, call: &str, bytes: &[u8]) -> Answe
         }
         "clone" => done(alloc, call!(rt; value.clone(alloc))),
         "to_json" => done(alloc, call!(rt; to_json(alloc, &value))),
-        _ => Ok(format!(in alloc; "{}", value == value)?),
+        _ => said(alloc, value == value),
     }
 }
 
@@ -96,11 +96,15 @@ fn parsed<I: ParsableInput>(alloc: Global, parsed: ParserResult<I, AMQPValue>) -
     }
 }
 
-fn done<T: Drop, E: Debug + Drop>(alloc: Global, result: Result<T, E>) -> Answer {
-    match result {
+fn done<T: Drop, E: Debug + Drop>(alloc: Global, returned: Result<T, E>) -> Answer {
+    match returned {
         Ok(_) => Ok(String::from_str(alloc, "done")?),
         Err(error) => Ok(format!(in alloc; "{error:?}")?),
     }
+}
+
+fn said(alloc: Global, is_done: bool) -> Answer {
+    Ok(String::from_str(alloc, if is_done { "done" } else { "refused" })?)
 }
 
 fn text_of(bytes: &[u8]) -> Result<&str, Trouble> {
