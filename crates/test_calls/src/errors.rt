@@ -10,22 +10,6 @@ use amq_protocol_types::stream::{Limits, StreamError, parse_value_within};
 use amq_protocol_types::{Error, ShortString, ShortStringError, TryCopyError};
 use std::alloc::{AllocError, Global};
 
-/// How a parser failed.
-pub fn error_text(alloc: Global, error: ParserError) -> Answer {
-    Ok(match error {
-        Err::Incomplete(Needed::Size(count)) => format!(in alloc; "more {count}")?,
-        Err::Incomplete(Needed::Unknown) => format!(in alloc; "more")?,
-        Err::Error(error) => {
-            let kind = error.kind();
-            format!(in alloc; "error {kind:?}")?
-        }
-        Err::Failure(error) => {
-            let kind = error.kind();
-            format!(in alloc; "failure {kind:?}")?
-        }
-    })
-}
-
 /// The text of an error.
 pub fn message(alloc: Global, error: ParserError) -> Answer {
     let own = format!(in alloc; "{error}")?;
