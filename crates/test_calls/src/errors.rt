@@ -1,28 +1,14 @@
 //! Errors and their texts: `message BYTES`, the error of `parse_value`, and `message_of ERROR` of each error by its name.
 
-use super::words::{kind_of, number};
+use super::words::{bytes_of, kind_of, number};
 use super::{Answer, Trouble};
 use amq_protocol_types::generation::GenError;
-use amq_protocol_types::parsing::{Err, Needed, ParserError, SliceInput, parse_value};
-use amq_protocol_types::stream::StreamError;
+use amq_protocol_types::parsing::{
+    Err, Needed, ParserError, SliceInput, parse_short_string, parse_value,
+};
+use amq_protocol_types::stream::{Limits, StreamError, parse_value_within};
 use amq_protocol_types::{Error, ShortString, ShortStringError, TryCopyError};
 use std::alloc::{AllocError, Global};
-
-/// How a parser failed.
-pub fn error_text(alloc: Global, error: ParserError) -> Answer {
-    Ok(match error {
-        Err::Incomplete(Needed::Size(count)) => format!(in alloc; "more {count}")?,
-        Err::Incomplete(Needed::Unknown) => format!(in alloc; "more")?,
-        Err::Error(error) => {
-            let kind = error.kind();
-            format!(in alloc; "error {kind:?}")?
-        }
-        Err::Failure(error) => {
-            let kind = error.kind();
-            format!(in alloc; "failure {kind:?}")?
-        }
-    })
-}
 
 /// The text of an error.
 pub fn message(alloc: Global, error: ParserError) -> Answer {
@@ -73,14 +59,11 @@ pub fn answer(alloc: Global, words: &[&str]) -> Answer {
         ["StreamError::OutOfMemory"] => told!(alloc, StreamError::OutOfMemory),
         ["StreamError::Failed"] => told!(alloc, StreamError::Failed),
         ["StreamError::Read", kind] => told!(alloc, StreamError::Read(kind_of(*kind)?)),
-        ["StreamError::Refused"] => match unknown_tag(alloc) {
-            Err(Err::Error(error)) => told!(alloc, StreamError::Refused(error)),
+        ["StreamError::Refused", word] => match parser_error(alloc, *word)? {
+            Err::Error(error) => told!(alloc, StreamError::Refused(error)),
             _ => Err(Trouble::Unknown),
         },
-        ["ParserError::Error"] => match unknown_tag(alloc) {
-            Err(error) => told!(alloc, error),
-            Ok(()) => Err(Trouble::Unknown),
-        },
+        ["ParserError::Error", word] => told!(alloc, parser_error(alloc, *word)?),
         ["ParserError::Incomplete"] => {
             let error: ParserError = Err::Incomplete(Needed::Unknown);
             told!(alloc, error)
@@ -102,10 +85,21 @@ pub fn answer(alloc: Global, words: &[&str]) -> Answer {
     }
 }
 
-/// The error of an unknown type tag.
-fn unknown_tag(alloc: Global) -> Result<(), ParserError> {
-    drop(parse_value(alloc, SliceInput::new(b"z"))?);
-    Ok(())
+/// The error of a string that isn't UTF-8, of a value that is too large, or of bytes.
+fn parser_error(alloc: Global, word: &str) -> Result<ParserError, Trouble> {
+    let limits = Limits { frame: 0, depth: 0 };
+    let error = match word {
+        "MapRes" => parse_short_string(alloc, SliceInput::new(b"\x01\xff")).err(),
+        "TooLarge" => parse_value_within(alloc, SliceInput::new(b"V"), limits).err(),
+        _ => {
+            let bytes = bytes_of(alloc, word)?;
+            parse_value(alloc, SliceInput::new(bytes.as_slice())).err()
+        }
+    };
+    match error {
+        Some(error) => Ok(error),
+        None => Err(Trouble::Unknown),
+    }
 }
 
 /// The error of a string of so many bytes.

@@ -1,4 +1,5 @@
-//! Inputs: `input N BYTES [BYTES]`, what is at the place N of one slice, or of two.
+//! Inputs: `input N BYTES BYTES`, what is at the place N of an input of two slices; `parse_value` and the other
+//! parsers show one slice.
 
 use super::words::{bytes_of, digits, number};
 use super::{Answer, Trouble};
@@ -7,50 +8,43 @@ use amq_protocol_types::parsing::{SliceInput, SplitInput};
 use std::alloc::Global;
 
 /// The length, the bytes before the place, the byte there and the bytes from it on, each in its slice, and
-/// the first slice that isn't empty.
+/// the first slice that isn't empty. One slice has the same bytes.
 pub fn answer(alloc: Global, words: &[&str]) -> Answer {
-    match words {
-        [place, word] => {
-            let bytes = bytes_of(alloc, *word)?;
-            let input = SliceInput::new(bytes.as_slice());
-            let (before, after) = taken_at(input, number(*place)?)?;
-            let before = digits(alloc, before.as_slice())?;
-            let after = digits(alloc, after.as_slice())?;
-            text_of(
-                alloc,
-                input,
-                number(*place)?,
-                before.as_str(),
-                after.as_str(),
-            )
-        }
-        [place, word, other] => {
-            let (first, second) = (bytes_of(alloc, *word)?, bytes_of(alloc, *other)?);
-            if usize::MAX - first.len() < second.len() {
-                return Err(Trouble::Unknown);
-            }
-            let input = SplitInput::new(first.as_slice(), second.as_slice());
-            let (before, after) = taken_at(input, number(*place)?)?;
-            let before = parts_of(alloc, before)?;
-            let after = parts_of(alloc, after)?;
-            text_of(
-                alloc,
-                input,
-                number(*place)?,
-                before.as_str(),
-                after.as_str(),
-            )
-        }
-        _ => Err(Trouble::Unknown),
-    }
-}
-
-/// The input before a place, and from it on.
-fn taken_at<I: ParsableInput>(input: I, place: usize) -> Result<(I, I), Trouble> {
-    if input.input_len() < place {
+    let [place, word, other] = words else {
+        return Err(Trouble::Unknown);
+    };
+    let (first, second) = (bytes_of(alloc, *word)?, bytes_of(alloc, *other)?);
+    let mut whole = Vec::from_slice(alloc, first.as_slice())?;
+    whole.extend_from_slice(second.as_slice())?;
+    let one = SliceInput::new(whole.as_slice());
+    if usize::MAX - first.len() < second.len() {
         return Err(Trouble::Unknown);
     }
-    Ok((input.take(place), input.take_from(place)))
+    let two = SplitInput::new(first.as_slice(), second.as_slice());
+    let place: usize = number(*place)?;
+    let length = two.input_len();
+    if length < place || one.input_len() != length {
+        return Err(Trouble::Unknown);
+    }
+    let (before, after) = (
+        parts_of(alloc, two.take(place))?,
+        parts_of(alloc, two.take_from(place))?,
+    );
+    let byte = match place < length {
+        true => digits(alloc, &[two.byte_at(place)])?,
+        false => String::from_str(alloc, "none")?,
+    };
+    let chunk = digits(alloc, two.chunk())?;
+    let text = format!(in alloc;
+        "length {length} byte {byte} before {before} after {after} chunk {chunk}"
+    )?;
+    if one.chunk() != whole.as_slice()
+        || one.take(place).as_slice() != whole.as_slice().split_at(place.min(whole.len())).0
+        || one.take_from(place).as_slice() != whole.as_slice().split_at(place.min(whole.len())).1
+    {
+        return Ok(format!(in alloc; "{text} but not of one slice")?);
+    }
+    Ok(text)
 }
 
 /// The two slices of an input.
@@ -58,23 +52,4 @@ fn parts_of(alloc: Global, input: SplitInput<'_>) -> Answer {
     let (first, second) = input.parts();
     let (first, second) = (digits(alloc, first)?, digits(alloc, second)?);
     Ok(format!(in alloc; "{first},{second}")?)
-}
-
-fn text_of<I: ParsableInput>(
-    alloc: Global,
-    input: I,
-    place: usize,
-    before: &str,
-    after: &str,
-) -> Answer {
-    let length = input.input_len();
-    let byte = if place < length {
-        hex::encode(alloc, &[input.byte_at(place)])?
-    } else {
-        String::from_str(alloc, "none")?
-    };
-    let chunk = digits(alloc, input.chunk())?;
-    Ok(format!(in alloc;
-        "length {length} byte {byte} before {before} after {after} chunk {chunk}"
-    )?)
 }

@@ -4,12 +4,12 @@
 //! Steps are `-` for none, or joined by `/`, each a position or a key.
 
 use super::in_place::with_rest;
-use super::types::push_some;
 use super::values::{decimal_text, value_text};
 use super::words::{bytes_of, digits, number, quoted, text_of};
 use super::{Answer, Trouble};
 use amqp_in_place::{ArrayRef, EqualKeys, PathStep, TableRef, ValueRef, read_in_place_unlimited};
 use std::alloc::{AllocError, Global};
+use std::fmt::Display;
 
 /// So many values or pairs of a container are shown, at most.
 const MOST: usize = 12;
@@ -234,4 +234,19 @@ fn numbers(text: &mut String, value: ValueRef<'_>) -> Result<(), AllocError> {
     push_some(text, "as_float", value.as_float().map(|it| it.to_bits()))?;
     push_some(text, "as_double", value.as_double().map(|it| it.to_bits()))?;
     push_some(text, "as_timestamp", value.as_timestamp())
+}
+
+/// Adds a name with what it has, if that is something.
+fn push_some<T: Display + Drop>(
+    text: &mut String,
+    name: &str,
+    held: Option<T>,
+) -> Result<(), AllocError> {
+    let Some(held) = held else {
+        return Ok(());
+    };
+    if !text.is_empty() {
+        text.push(' ')?;
+    }
+    write!(text, "{name}={held}")
 }

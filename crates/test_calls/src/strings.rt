@@ -13,9 +13,11 @@ pub fn answer<R: Eprint>(rt: &R, alloc: Global, call: &str, words: &[&str]) -> A
     match (call, words) {
         ("try_new", [text]) => {
             let text = text_of(alloc, *text)?;
+            let length = text.len();
             match call!(rt; ShortString::try_new(text)) {
                 Ok(string) => short_text(alloc, string),
-                Err(error) => Ok(format!(in alloc; "error {error} length {}", error.length())?),
+                Err(error) if error.length() == length => Ok(format!(in alloc; "error {error}")?),
+                Err(error) => Ok(format!(in alloc; "error {error} not {length}")?),
             }
         }
         ("try_copy", [text]) => {
