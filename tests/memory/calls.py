@@ -13,14 +13,15 @@ from crates import TOP
 CALLS = "test_calls"
 READ = "value raw_value short_string long_string byte_array field_array field_table flags".split()
 WITHIN = "value_within field_array_within field_table_within".split()
-COPIES = "clone clone_flags long_string byte_array try_from from_pairs from_bytes get_bytes repeated_key".split()
+COPIES = "clone clone_held clone_flags long_string byte_array try_from from_pairs from_bytes get_bytes".split()
+FOUND = "repeated_key dissect dissect_partial escape".split()
 # The error by the first word of a request: {0} is the second word, which the call leaves unchanged. A generator into a vector
 # leaves what was there. All other calls allocate nothing.
 FAILED = {
     **dict.fromkeys([f"parse_{it}" for it in READ + WITHIN], "failure OutOfMemory"),
     **dict.fromkeys(("wire", "wire_as", "wire_sizes"), "failure OutOfMemory"),
     **dict.fromkeys(("push", "insert", "place", "add_flag"), "AllocError {0}"),
-    **dict.fromkeys(COPIES, "AllocError"),
+    **dict.fromkeys((*COPIES, *FOUND), "AllocError"),
     **dict.fromkeys(("try_copy", "from_entries", "next"), "OutOfMemory"),
     "message": "Parser error: OutOfMemory",
 }
@@ -39,7 +40,7 @@ WAY = re.compile(r" (cut after \d+|by bytes|of Values)$")
 # How an answer begins for which no memory is needed: nothing may be allocated.
 NEEDS_NONE = re.compile(
     r"more |error (MapOpt|TooLarge|ShortString)|(ok )?(-|\[\]|\{\}|Void|None|(Boolean|\w*Int|Float|Double|DecimalValue|Timestamp)"
-    r"\(.*?\)|(Short|Long)String\(-\)|ByteArray\(-\))(?![^ ;])"
+    r"\(.*?\)|(Short|Long)String\(-\)|ByteArray\(-\)|\"\")(?![^ ;])"
 )
 # How many failed allocations a call gets over: the kit's `collect` asks for room for all pairs, and if it can't have that for less.
 # A long table is read by it.
@@ -64,7 +65,7 @@ class Row(NamedTuple):
         if name.startswith("gen_"):
             before, _, to = words[0].rpartition("/")
             return f"OutOfMemory {before or '-'} counted 0" if to == "vec" else ""
-        if name != "next" and NEEDS_NONE.match(self.answer):
+        if name not in ("next", "repeated_key") and NEEDS_NONE.match(self.answer):
             return ""
         return MIXED.get(name, "") or FAILED.get(name, "").format(*words)
 
