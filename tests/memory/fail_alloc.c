@@ -5,6 +5,10 @@
  * FAIL_WRITE, with the error FAIL_WITH; if that is 0 the call moves nothing. If ONE_BYTE is set, no such
  * call moves more than one byte. At the end it writes the numbers of allocations, reads and writes, and of
  * bytes in all those allocations, to the descriptor COUNTS_TO.
+ *
+ * If EACH_LINE is set, allocations are counted anew for each line on standard output, and one fails in each:
+ * FAIL_ALLOC has a number for every line. Each line comes after its number of allocations and the number of
+ * bytes in the allocations between a `begin` and its `end`, where that is greatest.
  */
 #define _GNU_SOURCE
 #include <dlfcn.h>
@@ -16,8 +20,9 @@
 #include <unistd.h>
 
 static long allocations, fail_alloc, reads, writes, fail_read, fail_write;
-static size_t bytes_allocated;
-static int inside, counts_to = -1, fail_with, one_byte;
+static size_t bytes_allocated, most_allocated;
+static int inside, counts_to = -1, fail_with, one_byte, each_line;
+static char *numbers = "";
 
 static long number(const char *name) {
     const char *text = getenv(name);
@@ -25,11 +30,13 @@ static long number(const char *name) {
 }
 
 __attribute__((constructor)) static void start(void) {
-    fail_alloc = number("FAIL_ALLOC");
+    if (getenv("FAIL_ALLOC")) numbers = getenv("FAIL_ALLOC");
+    fail_alloc = strtol(numbers, &numbers, 10);
     fail_read = number("FAIL_READ");
     fail_write = number("FAIL_WRITE");
     fail_with = number("FAIL_WITH");
     one_byte = getenv("ONE_BYTE") != NULL;
+    each_line = getenv("EACH_LINE") != NULL;
     counts_to = getenv("COUNTS_TO") ? number("COUNTS_TO") : -1;
     inside = getenv("FAIL_ANYWHERE") != NULL;
 }
@@ -41,7 +48,14 @@ __attribute__((destructor)) static void stop(void) {
 static int alloc_fails(size_t n) {
     if (!inside) return 0;
     if (__builtin_add_overflow(bytes_allocated, n, &bytes_allocated)) bytes_allocated = SIZE_MAX;
+    if (most_allocated < bytes_allocated) most_allocated = bytes_allocated;
     return ++allocations == fail_alloc;
+}
+
+static void end_line(void) {
+    dprintf(1, "%ld %zu\n", allocations, most_allocated);
+    allocations = most_allocated = 0;
+    fail_alloc = strtol(numbers, &numbers, 10);
 }
 
 static int io_fails(int is_the_one) {
@@ -61,6 +75,8 @@ void *aligned_alloc(size_t a, size_t n) { if (alloc_fails(n)) return NULL; REAL(
 ssize_t write(int fd, const void *bytes, size_t n) {
     if (fd == 2 && n == 6 && !memcmp(bytes, "begin\n", n)) inside = 1;
     if (fd == 2 && n == 4 && !memcmp(bytes, "end\n", n)) inside = 0;
+    if (fd == 2 && each_line) bytes_allocated = 0;
+    if (fd == 1 && each_line) end_line();
     if (fd == 1 && io_fails(++writes == fail_write)) return fail_with ? -1 : 0;
     if (fd == 1 && one_byte && n > 1) n = 1;
     REAL(write, fd, bytes, n);

@@ -40,6 +40,14 @@ class Run(NamedTuple):
     asked: int
 
 
+class Line(NamedTuple):
+    """How a request is answered, the number of its allocations, and the most bytes that one of its calls asked for."""
+
+    said: str
+    allocations: int
+    asked: int
+
+
 class Preloaded(NamedTuple):
     """What is preloaded, as it is built."""
 
@@ -62,6 +70,17 @@ class Preloaded(NamedTuple):
             yield n, run
             if run.allocations < n:
                 return
+
+    def lines(self, words: Words, requests: list[str], failing: list[int] | None = None) -> list[Line]:
+        """What a program answers to requests, a line each, in which one allocation of each fails, by its number."""
+        if not requests:
+            return []
+        how = {"EACH_LINE": "1", "FAIL_ALLOC": " ".join(map(str, failing or []))}
+        out = self.run(words, "".join(f"{it}\n" for it in requests).encode(), **how).ending.out.decode().splitlines()
+        # (after its lines the program prints how many there were)
+        return [
+            Line(it.partition(" => ")[2], *map(int, n.split())) for n, it in zip(out[:-2:2], out[1:-2:2], strict=True)
+        ]
 
 
 class Stored(NamedTuple):

@@ -1,11 +1,9 @@
 """Each allocation fails in turn, and each read and write, and what is returned then is judged.
 
-Each case of crates/test_alloc_failure runs with its first allocation failing, then with its second, until a run makes
-fewer. Only allocations of the case's calls count. A call whose allocation fails returns an error that the program's
---list has for the case, and leaves all unchanged; made again, it returns what the crate's file `stdout` has. A case that
---list has no error for allocates nothing. The bytes that the others ask for, whether they get them or not, add up to at
-most a multiple of their input: requests.rows has a line `CASE INPUT TIMES` for each, how many bytes its calls are given,
-and how many they may ask for of each of them.
+Each request of crates/test_calls is made with its first allocation failing, then with its second, and so on. Only allocations of its
+calls count. The call whose allocation fails returns the error that calls.py has for it and leaves all unchanged, and all else is
+answered as the row says. A call that calls.py has no error for allocates nothing. The others request at most so many bytes as calls.py
+says for the bytes of their request.
 
 amqp_wire runs so over its stored input, test_stream over a short stream, amqp_show on some cases; and all, amqp_show in each
 of its forms, have too little address space for a long string. The reads and writes of a run of amqp_wire and of amqp_show fail
@@ -27,77 +25,42 @@ import pytest
 from crates import TOP
 
 from tests.checks import within
-from tests.memory.failing import NO_MEMORY, Preloaded, Stored, is_out_of_memory, program, stored_runs
+from tests.memory.calls import CALLS, Row, numbers, rows
+from tests.memory.failing import NO_MEMORY, Line, Preloaded, Stored, is_out_of_memory, program, stored_runs
 from tests.transcripts import Ending
 
-CASES = "test_alloc_failure"
-# Failures that a case's calls recover from. The kit's `collect` asks for as much capacity as its iterator
-# promises items, and if that fails for less. A vector that can't be made smaller stays as it is.
-RECOVERED = {"value_of_many_pairs": 1, "from_pairs": 2, "amqp_show": 1, "encoding_of_json": 1}
-# The most bytes that each case may ask for.
-ROWS = [it.split(" ") for it in Path(__file__).with_name("requests.rows").read_text().splitlines()]
-MOST = {name: int(size) * int(times) for name, size, times in ROWS}
+# Failures that a program recovers from: a vector that can't be made smaller stays as it is.
+RECOVERED = {"amqp_show": 1}
 # A program may allocate fewer bytes than these for a length that claims more, in all.
 MOST_ALLOCATED = 1 << 20
 Written = Callable[[bytes], bytes]
+ROWS, RUNS = rows(), stored_runs()
 
 
 # Allocations
 
 
-def wanted_lines() -> dict[str, list[str]]:
-    """What each case prints, by the crate's file stdout."""
-    text = "\n" + (TOP / "crates" / CASES / "stdout").read_text()
-    return {lines[0]: lines[1:] for lines in (it.splitlines() for it in text.split("\ncase ")[1:])}
-
-
-WANTED, RUNS = wanted_lines(), stored_runs()
-
-
 @pytest.fixture(scope="session")
-def errors() -> dict[str, list[str]]:
-    """What --list has for each case."""
-    listed = subprocess.run([program(CASES), "--list"], capture_output=True, check=True).stdout.decode().splitlines()
-    return {name: of_name for name, *of_name in (it.split("\t") for it in listed)}
+def lines(preloaded: Preloaded) -> dict[str, Line]:
+    """What is printed of each row if nothing fails, by the row's place."""
+    printed = preloaded.lines([program(CALLS)], [it.request for it in ROWS])
+    return dict(zip((it.place for it in ROWS), printed))
 
 
-def without_failure(lines: list[str], errors: list[str]) -> list[str] | None:
-    """The lines without the failed call's, if its error is one of these and it left all unchanged."""
-    at = next((n for n, it in enumerate(lines) if it in [f"refused {error}" for error in errors]), None)
-    if at is None:
-        return None
-    state = [it.partition(" ") for it in lines[at + 1 : at + 3]]
-    if [it[0] for it in state] != ["had", "left"] or state[0][2] != state[1][2]:
-        return None
-    return lines[:at] + lines[at + 3 :]
-
-
-def test_each_listed_case_is_in_stdout(errors: dict[str, list[str]]) -> None:
-    assert {*errors} == {*WANTED}
-
-
-def test_each_case_that_allocates_has_a_row(errors: dict[str, list[str]]) -> None:
-    assert {name for name, of_name in errors.items() if of_name} == {*MOST}
-
-
-@pytest.mark.parametrize("name", WANTED)
-def test_case(name: str, errors: dict[str, list[str]], preloaded: Preloaded, failed: Counter[str]) -> None:
-    of_name, recovered, count = errors[name], 0, 0
-    for n, run in preloaded.each_failed([program(CASES), name]):
-        has_failed = run.allocations >= n
-        lines, how = run.ending.out.decode().splitlines()[1:], f"run {n}, {has_failed=}"
-        # a call that fails is made once more
-        assert run.asked <= MOST.get(name, 0) * (2 if has_failed else 1), how
-        assert run.ending.status == 0, how
-        if has_failed and lines != WANTED[name]:
-            assert without_failure(lines, of_name) == WANTED[name], "\n".join([how, *lines])
-        else:
-            assert lines == WANTED[name], how
-            recovered += has_failed
-        count += has_failed
-    failed["allocations"] += count
-    assert recovered == RECOVERED.get(name, 0)
-    assert (count > 0) == bool(of_name), f"{count} allocations, where --list has {of_name}"
+@pytest.mark.parametrize("row", ROWS, ids=[it.place for it in ROWS])
+def test_row(row: Row, lines: dict[str, Line], preloaded: Preloaded, failed: Counter[str]) -> None:
+    """A request is answered as stored; and as it may be if its first allocation fails, or its second, and so on."""
+    line = lines[row.place]
+    assert (line.said, line.allocations > 0 and not row.error()) == (row.answer, False)
+    assert line.asked <= row.most_asked()
+    failing, over = numbers(line.allocations), 0
+    for n, line in zip(failing, preloaded.lines([program(CALLS)], [row.request] * len(failing), failing)):
+        how = f"allocation {n} of {row.request} fails: {line.said}"
+        assert n <= line.allocations and line.asked <= row.most_asked(), how
+        assert row.allows(line.said) or line.said == row.answer, how
+        over += line.said == row.answer
+    failed["allocations"] += len(failing)
+    assert over <= row.most_over()
 
 
 @pytest.mark.parametrize("stored", RUNS.values(), ids=RUNS)
