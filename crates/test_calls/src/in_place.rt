@@ -4,7 +4,7 @@
 //! and then fewer, and a depth of a few levels, and then fewer. The answer names the limits at which it changes, as in
 //! `ok [[]]; frame 9 error TooLarge; depth 1 error Eof`: with 8 bytes it is as with 9, and with no level as with one.
 
-use super::errors::error_text;
+use super::parse::error_text;
 use super::values::{table_text, value_text};
 use super::words::{bytes_of, digits, number};
 use super::{Answer, Trouble, json};

@@ -1,8 +1,8 @@
 //! JSON: `to_json VALUE`, `json TEXT`, `json_bytes BYTES` for a text of any bytes, and `json_of_encoding BYTES`, which
 //! is asked with each small limit as the calls of `in_place` are.
 
-use super::errors::error_text;
 use super::in_place::with_rest;
+use super::parse::error_text;
 use super::values::{value_of, value_text};
 use super::words::{digits, text_of};
 use super::{Answer, Trouble};
