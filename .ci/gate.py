@@ -40,7 +40,7 @@ from building import TEST_CRATES, copy_repository, leave_out_tests
 from crates import TOP, Crates, said_by
 from steps import Judged, Step, Steps, by_last_line, print_counts
 
-from tests.oracle.sides import is_at_hand
+from tests.oracle.crate import is_at_hand
 from tests.rabbitmq.broker import BIN
 from tests.rabbitmq.clients import PYTHON
 
@@ -182,8 +182,7 @@ def said_of_itself(*words: str) -> str:
 def add_proofs(steps: Steps, asked: Asked, copy: Path) -> Step:
     """Copies the repository, and adds the step that proves the copy."""
     is_whole = asked.is_whole()
-    # only the step crate asks a crate of tests
-    copy_repository(copy, () if is_whole or "crate" in asked.steps else TEST_CRATES)
+    copy_repository(copy, () if is_whole else TEST_CRATES)
     if not is_whole:
         # `make test` runs the tests
         leave_out_tests(copy)

@@ -1,8 +1,8 @@
 """The steps of `make test`, which prove nothing and need only the kit and Python's standard library.
 
 NAME-tests runs the tests of a crate (rt try --test). NAME-runs runs a program over its file stdin and compares the output with
-its file stdout. amqp_show-runs also runs the cases of tests/show; test_codec and amqp_wire also have to answer the requests of
-tests/oracle as the Rust crate did. stored-output checks the stored files against the model in Python.
+its file stdout; amqp_show-runs also runs the cases of tests/show. stored-output checks the stored files against the model in
+Python.
 
 `make check` tests what needs the programs that the proofs leave: standard error, statuses, terminals, failed allocations, and
 the calls for C.
@@ -19,7 +19,6 @@ from steps import Judged, Step, Steps
 
 from tests import transcripts
 from tests.checks import content
-from tests.oracle import sides
 
 SHOW = "amqp_show"
 # `make check` runs this test: it takes all memory, and the checks of `rt try` need some themselves.
@@ -88,21 +87,13 @@ def write_cases(folder: Path) -> int:
     return len(found)
 
 
-def write_requests(folder: Path, program: str, answered: Sequence[sides.Row]) -> int:
-    """Writes the requests of tests/oracle that a program is asked as a case, and returns 1 if there are any."""
-    asked = [is_wire for is_wire, name in sides.PROGRAMS.items() if name == program]
-    for is_wire in asked:
-        write_case(folder / "oracle", *sides.case(answered, is_wire))
-    return len(asked)
-
-
-def add_runs(steps: Steps, name: str, crate: Path, answered: Sequence[sides.Row]) -> None:
+def add_runs(steps: Steps, name: str, crate: Path) -> None:
     """Adds the stored run of a program, with what else it is run over."""
     folder = steps.folder / f"{name}-runs"
     folder.mkdir()
     args = content(crate / "args").decode().splitlines()
     write_case(folder / STORED_RUN, content(crate / "stdin"), (crate / "stdout").read_bytes(), args)
-    count = 1 + (write_cases(folder) if name == SHOW else write_requests(folder, name, answered))
+    count = 1 + (write_cases(folder) if name == SHOW else 0)
     # (the files that cases name)
     files = [word for it in sorted(crate.glob("data/*")) for word in ("--data", f"{it.name}={it}")]
     words = ["rt", "try", "--cases", folder, *files]
@@ -111,10 +102,9 @@ def add_runs(steps: Steps, name: str, crate: Path, answered: Sequence[sides.Row]
 
 def add_steps(steps: Steps, crates: Crates) -> None:
     """Adds the steps, the longest first."""
-    answered = sides.answered()
     steps.add(STORED_OUTPUT, [sys.executable, "-m", "tests.model.stored_output"])
     for name in programs(crates):
-        add_runs(steps, name, crates.folder(name), answered)
+        add_runs(steps, name, crates.folder(name))
     for name in tested(crates):
         steps.add(f"{name}-tests", ["rt", "try", "--test"], cwd=crates.folder(name), judge=partial(by_tests, name))
     steps.steps.sort(key=lambda it: it.name not in LONGEST)
