@@ -46,13 +46,16 @@ fn main() {
 
 fn answer(words: &[&str]) -> Answer {
     match *words {
-        [call, room, word] if call.starts_with("gen_") => generate(call, &Room::of(room)?, word),
+        [call, room, word] if call.starts_with("gen_") => match room.strip_suffix("least") {
+            Some(before) => generate_in_least(call, before, word),
+            None => generate(call, &Room::of(room)?, word),
+        },
         ["parse_raw_value", name, word] => {
             let bytes = bytes_of(word)?;
             Ok(parsed(nom::Parser::parse(&mut parse_raw_value(type_of(name)?), &bytes[..]), |it| value_text(&it)))
         }
         ["parse_flags", names, word] => {
-            Ok(parsed(parse_flags(&bytes_of(word)?[..], &names_of(names)), |it| flags_text(&it)))
+            Ok(parsed(parse_flags(&bytes_of(word)?[..], &names_of(names)?), |it| flags_text(&it)))
         }
         ["message", word] => message(&bytes_of(word)?),
         [call, word] if call.starts_with("parse_") || call == "wire" => parse(call, &bytes_of(word)?),
@@ -218,6 +221,21 @@ fn failed(error: GenError) -> String {
     }
 }
 
+/// In the shortest slice in which a generator doesn't fail, after `BYTES/`.
+fn generate_in_least(call: &str, before: &str, word: &str) -> Answer {
+    for capacity in bytes_of(before.trim_end_matches('/'))?.len()..512 {
+        let room = Room::of(&format!("{before}{capacity}"))?;
+        // (over fewer than four bytes, what begins with a length panics)
+        if let Ok(answer) = catch_unwind(AssertUnwindSafe(|| generate(call, &room, word))) {
+            let answer = answer?;
+            if answer.starts_with("ok") {
+                return Ok(format!("{answer} in {capacity}"));
+            }
+        }
+    }
+    Err(Unknown)
+}
+
 fn generate(call: &str, room: &Room, word: &str) -> Answer {
     Ok(match call {
         "gen_value" => to_buffer!(room, gen_value(&value_of(word)?)),
@@ -243,7 +261,7 @@ fn generate(call: &str, room: &Room, word: &str) -> Answer {
         "gen_short_string" => to_any!(room, gen_short_string(&text_of(word)?)),
         "gen_long_string" => to_any!(room, gen_long_string(&bytes_of(word)?)),
         "gen_byte_array" => to_any!(room, gen_byte_array(&bytes_of(word)?.into())),
-        "gen_flags" => to_any!(room, gen_flags(&flags_of(word))),
+        "gen_flags" => to_any!(room, gen_flags(&flags_of(word)?)),
         _ => return Err(Unknown),
     })
 }
@@ -253,16 +271,16 @@ fn generate(call: &str, room: &Room, word: &str) -> Answer {
 fn of_flags(words: &[&str]) -> Answer {
     Ok(match *words {
         ["add_flag", word, name, flag] => {
-            let mut flags = flags_of(word);
+            let mut flags = flags_of(word)?;
             flags.add_flag(name.to_owned(), number(flag)?);
             format!("ok {}", flags_text(&flags))
         }
-        ["get_flag", word, name] => format!("{:?}", flags_of(word).get_flag(name)),
-        ["get_bytes", word] => format!("ok {}", digits(&flags_of(word).get_bytes())),
+        ["get_flag", word, name] => format!("{:?}", flags_of(word)?.get_flag(name)),
+        ["get_bytes", word] => format!("ok {}", digits(&flags_of(word)?.get_bytes())),
         ["from_bytes", names, word] => {
-            format!("ok {}", flags_text(&AMQPFlags::from_bytes(&names_of(names), &bytes_of(word)?[..])))
+            format!("ok {}", flags_text(&AMQPFlags::from_bytes(&names_of(names)?, &bytes_of(word)?[..])))
         }
-        ["clone_flags", word] => format!("ok {}", flags_text(&flags_of(word).clone())),
+        ["clone_flags", word] => format!("ok {}", flags_text(&flags_of(word)?.clone())),
         _ => return Err(Unknown),
     })
 }

@@ -44,24 +44,23 @@ pub fn quoted(text: &str) -> String {
 
 /// The bytes of a word.
 pub fn bytes_of(word: &str) -> Result<Vec<u8>> {
-    if word == "-" {
-        return Ok(Vec::new());
-    }
     let parts: Vec<Vec<u8>> = word.split('+').map(part_of).collect::<Result<_>>()?;
     Ok(parts.concat())
 }
 
-/// The bytes of one part: hexadecimal digits or a string in quotes, maybe after `N*`.
+/// The bytes of one part: `-` for none, hexadecimal digits or a string in quotes, maybe after `N*`.
 fn part_of(part: &str) -> Result<Vec<u8>> {
-    let (count, part) = match part.split_once('*') {
-        Some((count, part)) => (number(count)?, part),
-        None => (1, part),
-    };
+    let (count, part) = counted(part)?;
     let bytes = match part.strip_prefix('\'') {
         Some(text) => text.strip_suffix('\'').ok_or(Unknown)?.as_bytes().to_vec(),
-        None => hex(part)?,
+        None => hex(part.trim_start_matches('-'))?,
     };
     Ok(bytes.repeat(count))
+}
+
+/// The number before a `*`, and what comes after it.
+fn counted(word: &str) -> Result<(usize, &str)> {
+    word.split_once('*').map_or(Ok((1, word)), |(count, word)| Ok((number(count)?, word)))
 }
 
 fn hex(digits: &str) -> Result<Vec<u8>> {
@@ -95,19 +94,23 @@ pub fn double(word: &str) -> Result<f64> {
 
 // ---- flags and types
 
-/// `-` for no names, else names joined by `,`.
-pub fn names_of(word: &str) -> Vec<&str> {
-    if word == "-" { Vec::new() } else { word.split(',').collect() }
+/// `-` for no names, else names joined by `,`. `N*NAME` is a name N times.
+pub fn names_of(word: &str) -> Result<Vec<&str>> {
+    let mut names = Vec::new();
+    for (count, name) in word.split(',').filter(|_| word != "-").map(counted).collect::<Result<Vec<_>>>()? {
+        names.extend(std::iter::repeat_n(name, count));
+    }
+    Ok(names)
 }
 
 /// Flags are names, those that are false after a `!`.
-pub fn flags_of(word: &str) -> AMQPFlags {
+pub fn flags_of(word: &str) -> Result<AMQPFlags> {
     let mut flags = AMQPFlags::default();
-    for name in names_of(word) {
+    for name in names_of(word)? {
         let bare = name.strip_prefix('!');
         flags.add_flag(bare.unwrap_or(name).to_owned(), bare.is_none());
     }
-    flags
+    Ok(flags)
 }
 
 /// The word of flags. Only serde shows all of them, in their order.

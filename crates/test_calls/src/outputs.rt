@@ -1,0 +1,102 @@
+//! Outputs: `output WHERE CALLS`, what each call answers, and what the output has then.
+//!
+//! WHERE is a slice's length, `vec`, or `io:STEPS`. A call is `put:BYTES`, `make_room:N`, and of a buffer
+//! `reserve:N`, `fill:AT:BYTES` or `back_to:AT`.
+
+use super::devices::Device;
+use super::words::{bytes_of, digits, number};
+use super::{Answer, Trouble};
+use amq_protocol_types::generation::{BackToTheBuffer, GenResult, IoOutput, Output, SliceOutput};
+use std::alloc::Global;
+
+/// What the calls answer in turn, then the bytes.
+pub fn answer(alloc: Global, words: &[&str]) -> Answer {
+    let [place, calls @ ..] = words else {
+        return Err(Trouble::Unknown);
+    };
+    let mut text = String::new(alloc);
+    if *place == "vec" {
+        let mut output: Vec<u8> = Vec::new(alloc);
+        for call in calls {
+            buffer_call(alloc, &mut text, &mut output, *call)?;
+        }
+        return with_state(alloc, text, &output, output.as_slice());
+    }
+    if let Some(steps) = place.strip_prefix("io:") {
+        let mut output = IoOutput::new(Device::of(alloc, steps)?);
+        for call in calls {
+            output_call(alloc, &mut text, &mut output, *call)?;
+        }
+        let text = with_state(alloc, text, &output, &[])?;
+        let taken = digits(alloc, output.into_inner().taken.as_slice())?;
+        return Ok(format!(in alloc; "{text} taken {taken}")?);
+    }
+    let mut slice = vec![in alloc; 0xee_u8; number(*place)?]?;
+    let mut output = SliceOutput::new(slice.as_mut_slice());
+    for call in calls {
+        buffer_call(alloc, &mut text, &mut output, *call)?;
+    }
+    with_state(alloc, text, &output, output.written())
+}
+
+fn with_state<W: Output>(alloc: Global, text: String, output: &W, written: &[u8]) -> Answer {
+    let written = digits(alloc, written)?;
+    let (position, faults) = (output.position(), output.faults());
+    Ok(format!(in alloc; "{text}{written} position {position} faults {faults}")?)
+}
+
+/// A call of a buffer.
+fn buffer_call<W: BackToTheBuffer>(
+    alloc: Global,
+    text: &mut String,
+    output: &mut W,
+    call: &str,
+) -> Result<(), Trouble> {
+    let (name, words) = call.split_once(':').unwrap_or((call, ""));
+    match name {
+        "reserve" => match output.reserve(number(words)?) {
+            Ok(at) => write!(text, "ok {at}; ")?,
+            Err(error) => write!(text, "{error:?}; ")?,
+        },
+        "fill" => {
+            let (at, bytes) = words.split_once(':').unwrap_or((words, "-"));
+            let (at, bytes): (u64, _) = (number(at)?, bytes_of(alloc, bytes)?);
+            let position = output.position();
+            if position < at || position - at < bytes.len() as u64 {
+                return Err(Trouble::Unknown);
+            }
+            output.fill(at, bytes.as_slice());
+            text.push_str("ok; ")?;
+        }
+        "back_to" => {
+            let at = number(words)?;
+            if output.position() < at {
+                return Err(Trouble::Unknown);
+            }
+            output.back_to(at);
+            text.push_str("ok; ")?;
+        }
+        _ => output_call(alloc, text, output, call)?,
+    }
+    Ok(())
+}
+
+/// A call of any output.
+fn output_call<W: Output>(
+    alloc: Global,
+    text: &mut String,
+    output: &mut W,
+    call: &str,
+) -> Result<(), Trouble> {
+    let (name, word) = call.split_once(':').unwrap_or((call, ""));
+    let how: GenResult = match name {
+        "put" => output.put(bytes_of(alloc, word)?.as_slice()),
+        "make_room" => output.make_room(number(word)?),
+        _ => return Err(Trouble::Unknown),
+    };
+    match how {
+        Ok(()) => text.push_str("ok; ")?,
+        Err(error) => write!(text, "{error:?}; ")?,
+    }
+    Ok(())
+}

@@ -1,0 +1,134 @@
+//! Strings: `try_new STRING`, `try_copy STRING`, `order STRING STRING`, `order_bytes BYTES BYTES`, `long_string BYTES`,
+//! `byte_array BYTES`, and `hash_decimal DECIMAL DECIMAL`.
+
+use super::values::{decimal_of, string_text};
+use super::words::{bytes_of, digits, quoted, text_of};
+use super::{Answer, Trouble};
+use amq_protocol_types::{ByteArray, LongString, ShortString, TryCopyError};
+use std::alloc::Global;
+use std::hash::{DefaultHasher, Hash, Hasher};
+
+/// What a call of strings answers.
+pub fn answer<R: Eprint>(rt: &R, alloc: Global, call: &str, words: &[&str]) -> Answer {
+    match (call, words) {
+        ("try_new", [text]) => {
+            let text = text_of(alloc, *text)?;
+            let length = text.len();
+            match call!(rt; ShortString::try_new(text)) {
+                Ok(string) => short_text(alloc, string),
+                Err(error) if error.length() == length => Ok(format!(in alloc; "error {error}")?),
+                Err(error) => Ok(format!(in alloc; "error {error} not {length}")?),
+            }
+        }
+        ("try_copy", [text]) => {
+            let text = text_of(alloc, *text)?;
+            match call!(rt; ShortString::try_copy(alloc, text.as_str())) {
+                Ok(string) => short_text(alloc, string),
+                Err(TryCopyError::TooLong(error)) => Ok(format!(in alloc; "error {error}")?),
+                Err(TryCopyError::OutOfMemory) => Ok(format!(in alloc; "OutOfMemory")?),
+            }
+        }
+        ("order", [one, other]) => {
+            let (first, second) = (short_string(alloc, *one)?, short_string(alloc, *other)?);
+            let short = ordered(alloc, &first, &second)?;
+            let bytes = order_of_bytes(alloc, bytes_of(alloc, *one)?, bytes_of(alloc, *other)?)?;
+            if short.as_str() != bytes.as_str() {
+                return Ok(format!(in alloc; "{short} but {bytes} as bytes")?);
+            }
+            Ok(short)
+        }
+        ("order_bytes", [one, other]) => {
+            order_of_bytes(alloc, bytes_of(alloc, *one)?, bytes_of(alloc, *other)?)
+        }
+        ("hash_decimal", [one, other]) => {
+            let (one, other) = (decimal_of(*one)?, decimal_of(*other)?);
+            let (is_equal, is_hashed) = (one == other, hash_of(&one) == hash_of(&other));
+            Ok(format!(in alloc; "equal {is_equal} hashed {is_hashed}")?)
+        }
+        ("long_string", [bytes]) => long_string(rt, alloc, bytes_of(alloc, *bytes)?),
+        ("byte_array", [bytes]) => byte_array(rt, alloc, bytes_of(alloc, *bytes)?),
+        _ => Err(Trouble::Unknown),
+    }
+}
+
+/// What a string is hashed to.
+fn hash_of<T: Hash>(string: &T) -> u64 {
+    let mut hasher = DefaultHasher::new();
+    string.hash(&mut hasher);
+    hasher.finish()
+}
+
+/// How strings compare, and whether they are hashed alike.
+fn ordered<T: Ord + Hash>(alloc: Global, one: &T, other: &T) -> Answer {
+    let (how, partial) = (one.cmp(other), one.partial_cmp(other));
+    let (is_equal, is_hashed) = (one == other, hash_of(one) == hash_of(other));
+    Ok(format!(in alloc; "{how:?} {partial:?} equal {is_equal} hashed {is_hashed}")?)
+}
+
+/// How bytes compare as long strings. Byte arrays have no order.
+fn order_of_bytes(alloc: Global, one: Vec<u8>, other: Vec<u8>) -> Answer {
+    let first = ByteArray::from_slice(alloc, one.as_slice())?;
+    let second = ByteArray::from_slice(alloc, other.as_slice())?;
+    let (one, other) = (LongString::from(one), LongString::from(other));
+    let (is_equal, is_hashed) = (first == second, hash_of(&first) == hash_of(&second));
+    if is_equal != (one == other) || is_hashed != (hash_of(&one) == hash_of(&other)) {
+        return Ok(format!(in alloc; "byte arrays equal {is_equal} hashed {is_hashed}")?);
+    }
+    ordered(alloc, &one, &other)
+}
+
+/// The short string of a word.
+pub fn short_string(alloc: Global, word: &str) -> Result<ShortString, Trouble> {
+    match ShortString::try_new(text_of(alloc, word)?) {
+        Ok(string) => Ok(string),
+        Err(_) => Err(Trouble::Unknown),
+    }
+}
+
+/// A short string as it is held, as it is printed, and as a string.
+fn short_text(alloc: Global, string: ShortString) -> Answer {
+    let held = quoted(alloc, string.as_str())?;
+    let shown = format!(in alloc; "{string}")?;
+    let shown = quoted(alloc, shown.as_str())?;
+    let made = String::from(string);
+    let made = quoted(alloc, made.as_str())?;
+    if held.as_str() != shown.as_str() || held.as_str() != made.as_str() {
+        return Ok(format!(in alloc; "ok {held} printed {shown} as a string {made}")?);
+    }
+    Ok(format!(in alloc; "ok {held}")?)
+}
+
+/// A long string's bytes, their number, whether there are none, and what is printed; made in each way.
+fn long_string<R: Eprint>(rt: &R, alloc: Global, bytes: Vec<u8>) -> Answer {
+    let string = match call!(rt; LongString::from_slice(alloc, bytes.as_slice())) {
+        Ok(string) => string,
+        Err(error) => return Ok(format!(in alloc; "{error:?}")?),
+    };
+    if let Ok(text) = std::str::from_utf8(bytes.as_slice()) {
+        let owned = LongString::from(String::from_str(alloc, text)?);
+        match call!(rt; LongString::from_text(alloc, text)) {
+            Ok(copied) if copied == string && owned == string => {}
+            Ok(_) => return Ok(format!(in alloc; "other from a string")?),
+            Err(error) => return Ok(format!(in alloc; "{error:?}")?),
+        }
+    }
+    if LongString::from(bytes) != string {
+        return Ok(format!(in alloc; "other from a vector")?);
+    }
+    let held = string_text(alloc, &string)?;
+    let (length, is_empty) = (string.len(), string.is_empty());
+    Ok(format!(in alloc; "ok {held} {length} {is_empty} \"{string}\"")?)
+}
+
+/// A byte array's bytes, their number, and whether there are none; made in each way.
+fn byte_array<R: Eprint>(rt: &R, alloc: Global, bytes: Vec<u8>) -> Answer {
+    let array = match call!(rt; ByteArray::from_slice(alloc, bytes.as_slice())) {
+        Ok(array) => array,
+        Err(error) => return Ok(format!(in alloc; "{error:?}")?),
+    };
+    if ByteArray::from(bytes) != array {
+        return Ok(format!(in alloc; "other from a vector")?);
+    }
+    let held = digits(alloc, array.as_slice())?;
+    Ok(format!(in alloc; "ok {held} {} {}", array.len(), array.is_empty())?)
+}
