@@ -68,7 +68,7 @@ def number(make: Random, width: int) -> bytes:
     """The bytes of a number: ends of ranges, and any. A Void has none."""
     if not width:
         return b""
-    ends = [b"\0" * width, b"\xff" * width, (2 ** (8 * width - 1) - 1).to_bytes(width, "big")]
+    ends = [b"\0" * width, b"\xff" * width, ((1 << 8 * width - 1) - 1).to_bytes(width, "big")]
     ends += [b"\x80" + b"\0" * (width - 1), b"\0" * (width - 1) + b"\1"]
     return make.choice([*ends, make.randbytes(width), make.randbytes(width)])
 
@@ -98,18 +98,15 @@ def encoding(make: Random) -> bytes:
 
 
 def changed(make: Random, data: bytes, count: int) -> bytes:
-    """Changes so many bytes, or takes them out, or puts some in."""
-    now = bytearray(data)
-    for _ in range(count if now else 0):
-        at = make.randrange(len(now))
-        byte = [make.randrange(256), (now[at] + make.choice([-1, 1])) % 256, make.choice(b"tbBsUuIilLfdDSAFxTV_z")]
-        new = make.choice(
-            [*([it] for it in byte), [now[at] ^ 1 << make.randrange(8)], [], [now[at], make.choice(b"tV\0\1\xff")]]
-        )
-        now[at : at + 1] = bytes(new)
-        if not now:
-            break
-    return bytes(now)
+    """Changes so many bytes, or takes them out, or puts one after them."""
+    for _ in range(count if data else 0):
+        at = make.randrange(len(data))
+        byte = data[at]
+        near, flipped = (byte + make.choice([-1, 1])) % 256, byte ^ 1 << make.randrange(8)
+        new = bytes([make.choice([make.randrange(256), near, make.choice(b"tbBsUuIilLfdDSAFxTV_z"), flipped])])
+        piece = make.choice([new] * 4 + [b"", bytes([byte, make.choice(b"tV\0\1\xff")])])
+        data = data[:at] + piece + data[at + 1 :] or new
+    return data
 
 
 def cut(make: Random, data: bytes, how_often: float) -> bytes:
