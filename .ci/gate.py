@@ -43,7 +43,7 @@ from building import copy_repository  # noqa: E402
 from crates import Crates, said_by  # noqa: E402
 from steps import Judged, Step, Steps, by_last_line, print_counts  # noqa: E402
 
-from tests.oracle.sides import is_at_hand  # noqa: E402
+from tests.oracle.crate import is_at_hand  # noqa: E402
 from tests.rabbitmq.broker import BIN  # noqa: E402
 from tests.rabbitmq.clients import PYTHON  # noqa: E402
 

@@ -1,12 +1,11 @@
-"""What the tests over the Rust crate are given: its folder, how much is asked, and which program answers."""
+"""What the tests over the Rust crate are given: its folder, how many requests, and which program answers."""
 
 import time
 from pathlib import Path
 
 import pytest
 
-from tests.oracle.crate import Driver, build
-from tests.oracle.sides import named
+from tests.oracle.crate import Driver, build, named
 
 
 def pytest_addoption(parser: pytest.Parser) -> None:
@@ -14,7 +13,8 @@ def pytest_addoption(parser: pytest.Parser) -> None:
     group.addoption("--crate", type=Path, metavar="FOLDER", default=named(), help="the Rust crate's folder")
     group.addoption("--packages", type=Path, metavar="FOLDER", help="from where cargo takes all packages")
     group.addoption("--count", type=int, default=1_000_000, help="how many fresh requests are asked (1,000,000)")
-    group.addoption("--tried", action="store_true", help="this library by `rt try`, with nothing proved")
+    group.addoption("--program", type=Path, metavar="PATH", help="a test_calls that is built elsewhere")
+    group.addoption("--tried", action="store_true", help="test_calls by `rt try`, with nothing proved")
 
 
 def pytest_configure(config: pytest.Config) -> None:

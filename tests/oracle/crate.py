@@ -1,17 +1,18 @@
 """The Rust crate, asked by a driver that cargo builds."""
 
 import json
+import os
 import re
+import shutil
 import subprocess
-from collections.abc import Iterable
 from pathlib import Path
 from typing import NamedTuple
 
 from crates import TOP
 
-from tests.oracle.sides import DEBIAN, HERE, Row, asked, lines
-
-OUT = TOP / "out/oracle"
+HERE, OUT = TOP / "tests/oracle", TOP / "out/oracle"
+# Debian's Rust packages.
+DEBIAN = Path("/usr/share/cargo/registry")
 CARGO = """\
 [package]
 name = "driver"
@@ -34,13 +35,29 @@ class Driver(NamedTuple):
     program: Path
     nom: str
 
-    def judged(self, requests: list[str]) -> list[Row]:
-        """These requests, and what the crate answers, as this library has to."""
-        return [*zip(requests, asked(self.program, [], lines(requests)), strict=True)]
+    def rows(self, requests: bytes) -> bytes:
+        """These requests, each with the answer that this library has to give by the crate's."""
+        return self.said([], requests)
 
-    def as_it_is(self, requests: Iterable[str]) -> list[str]:
-        """What the crate itself answers to these."""
-        return asked(self.program, ["--as-it-is"], lines(requests))
+    def as_it_is(self, requests: bytes) -> bytes:
+        """These requests, each with what the crate itself answers."""
+        return self.said(["--as-it-is"], requests)
+
+    def said(self, words: list[str], requests: bytes) -> bytes:
+        return subprocess.run([self.program, *words], input=requests, stdout=subprocess.PIPE, check=True).stdout
+
+
+def named() -> Path | None:
+    """The folder of the Rust crate, as the environment names it."""
+    folder = os.environ.get("AMQ_PROTOCOL_TYPES")
+    return Path(folder) if folder else None
+
+
+def is_at_hand() -> bool:
+    """Whether there are cargo and the Rust crate, in that folder or in what cargo has kept of its registry."""
+    home = Path(os.environ.get("CARGO_HOME") or Path.home() / ".cargo")
+    kept = home.glob("registry/cache/*/amq-protocol-types-10.6.3.crate")
+    return bool(shutil.which("cargo")) and (named() is not None or any(kept))
 
 
 def quoted(path: Path) -> str:
@@ -53,10 +70,15 @@ def asked_nom(crate: Path | None) -> str:
     return found[1] if found else "8"
 
 
+def packages_for(crate: Path) -> Path | None:
+    """Where cargo finds the packages that the crate asks for without a network: beside the crate, or Debian's."""
+    has_nom = lambda it: any(it.glob(f"nom-{asked_nom(crate)}.*"))
+    return next(filter(has_nom, (crate.resolve().parent / "packages", DEBIAN)), None)
+
+
 def build(crate: Path | None, packages: Path | None) -> Driver:
     """Builds the driver over the Rust crate."""
-    if not packages and crate and any(DEBIAN.glob(f"nom-{asked_nom(crate)}.*")):
-        packages = DEBIAN
+    packages = packages or (packages_for(crate) if crate else None)
     OUT.mkdir(parents=True, exist_ok=True)
     place = f"path = {quoted(crate)}, " if crate else ""
     text = CARGO.format(driver=quoted(HERE / "driver.rs"), place=place, nom=asked_nom(crate))
@@ -66,6 +88,6 @@ def build(crate: Path | None, packages: Path | None) -> Driver:
         words += ["--offline", "--config", 'source.crates-io.replace-with="given"']
         words += ["--config", f"source.given.directory={quoted(packages)}"]
     done = subprocess.run(words, cwd=OUT, capture_output=True, text=True)
-    assert done.returncode == 0, f"the driver isn't built: {done.stderr[-2000:]}"
+    assert done.returncode == 0, f"cargo can't build the driver: {done.stderr[-2000:]}"
     found = re.search(r'name = "nom"\nversion = "([^"]*)"', (OUT / "Cargo.lock").read_text())
     return Driver(OUT / "target/release/driver", found[1] if found else "?")

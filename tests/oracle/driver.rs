@@ -1,456 +1,368 @@
-//! What the Rust crate answers, a line for each line of standard input. README.md has both forms of line.
+//! What the Rust crate answers, in the form of `crates/test_calls`: standard input has requests, a line each, and
+//! standard output each with its answer. An answer that a request has already is replaced. Comments stay.
+//!
+//! `--as-it-is` prints what differs from this library on purpose as the crate answers it.
+
+mod departures;
+mod words;
 
 use amq_protocol_types::flags::AMQPFlags;
 use amq_protocol_types::generation::*;
 use amq_protocol_types::parsing::*;
 use amq_protocol_types::*;
-use cookie_factory::GenError;
+use cookie_factory::combinator::slice;
+use cookie_factory::r#gen;
 use std::fmt::Display;
-use std::io::{BufRead, BufWriter, Write};
+use std::hash::{DefaultHasher, Hash, Hasher};
+use std::io::{self, ErrorKind, Read, Write};
 use std::panic::{AssertUnwindSafe, catch_unwind};
+use words::*;
 
-mod departures;
-
-/// Why a line is no request.
-struct Unknown;
-
-type Answer = Result<String, Unknown>;
-
-/// The generator over a slice, and how many bytes it wrote.
-macro_rules! over {
-    ($room:expr, $generator:expr) => {
-        generated($room, |buffer| cookie_factory::r#gen($generator, buffer).map(|(_, position)| position))
-    };
-}
+type Answer = words::Result<String>;
 
 fn main() {
     // a panic is an answer
     std::panic::set_hook(Box::new(|_| {}));
     let departs = std::env::args().nth(1).as_deref() != Some("--as-it-is");
-    let mut out = BufWriter::new(std::io::stdout().lock());
-    for line in std::io::stdin().lock().lines() {
-        let line = line.expect("standard input is UTF-8");
-        let words: Vec<&str> = line.split(' ').collect();
-        let said = match catch_unwind(AssertUnwindSafe(|| answer(&words))) {
-            Ok(Ok(said)) => said,
+    let mut text = String::new();
+    io::stdin().read_to_string(&mut text).expect("standard input is UTF-8");
+    let mut out = io::BufWriter::new(io::stdout().lock());
+    for line in text.split_terminator('\n') {
+        if line.is_empty() || line.starts_with('#') {
+            writeln!(out, "{line}").expect("standard output can be written");
+            continue;
+        }
+        let request = line.split(" => ").next().unwrap_or(line);
+        let words: Vec<&str> = request.split(' ').collect();
+        let answer = match catch_unwind(AssertUnwindSafe(|| answer(&words))) {
+            Ok(Ok(answer)) => answer,
             Ok(Err(Unknown)) => "no request".to_owned(),
             Err(_) => "panic".to_owned(),
         };
-        let said = if departs { departures::translated(&words, said) } else { said };
-        writeln!(out, "{said}").expect("standard output can be written");
+        let answer = if departs { departures::translated(&words, answer) } else { answer };
+        writeln!(out, "{request} => {answer}").expect("standard output can be written");
     }
 }
 
 fn answer(words: &[&str]) -> Answer {
     match *words {
-        ["parse", call, bytes] => parse(call, &hex(bytes)?),
-        ["wire", bytes] => Ok(wire(&hex(bytes)?)),
-        ["parse_raw_value", name, bytes] => raw(type_of(name)?, &hex(bytes)?),
-        ["parse_flags", names, bytes] => {
-            let names = names_of(names)?;
-            let names: Vec<&str> = names.iter().map(String::as_str).collect();
-            Ok(parsed(parse_flags(&hex(bytes)?[..], &names), |it| flags_text(&it, &names)))
-        }
-        ["from_bytes", names, bytes] => {
-            let names = names_of(names)?;
-            let names: Vec<&str> = names.iter().map(String::as_str).collect();
-            Ok(flags_text(&AMQPFlags::from_bytes(&names, &hex(bytes)?[..]), &names))
-        }
-        ["flags", flags, name] => {
-            let flags = flags_of(flags)?;
-            let name = text(name)?;
-            let found = flags.get_flag(&name).map_or("none".to_owned(), |it| it.to_string());
-            Ok(format!("{found} {}", digits(&flags.get_bytes())))
-        }
-        ["gen_flags", room, flags] => {
-            let flags = flags_of(flags)?;
-            over!(number(room)?, gen_flags(&flags))
+        [call, room, word] if call.starts_with("gen_") => match room.strip_suffix("least") {
+            Some(before) => generate_in_least(call, before, word),
+            None => generate(call, &Room::of(room)?, word),
         },
-        ["gen_type", room, name] => {
-            let name = type_of(name)?;
-            over!(number(room)?, gen_type(name))
+        ["parse_raw_value", name, word] => {
+            let bytes = bytes_of(word)?;
+            Ok(parsed(nom::Parser::parse(&mut parse_raw_value(type_of(name)?), &bytes[..]), |it| value_text(&it)))
         }
-        ["gen_id", room, id] => {
-            let id = id.parse().map_err(|_| Unknown)?;
-            over!(number(room)?, gen_id(id))
-        },
-        ["gen_with_len", room, bytes] => {
-            let bytes = hex(bytes)?;
-            over!(number(room)?, gen_with_len(cookie_factory::combinator::slice(&bytes[..])))
+        ["parse_flags", names, word] => {
+            Ok(parsed(parse_flags(&bytes_of(word)?[..], &names_of(names)?), |it| flags_text(&it)))
         }
-        ["gen", call, room, value] => generate(call, number(room)?, &value_of(value)?),
-        ["append", before, value] => {
-            let mut all = hex(before)?;
-            let at = all.len();
-            match cookie_factory::r#gen(gen_value(&value_of(value)?), std::mem::take(&mut all)) {
-                Ok((all, position)) => Ok(format!("ok {} {} position {position}", digits(&all[..at]), digits(&all[at..]))),
-                Err(why) => Ok(fault(&why)),
-            }
-        }
-        ["value", value] => Ok(getters(value_of(value)?)),
-        ["equal", one, other] => Ok((value_of(one)? == value_of(other)?).to_string()),
-        ["contains_key", table, key] => match value_of(table)? {
-            AMQPValue::FieldTable(it) => Ok(it.contains_key(&text(key)?).to_string()),
-            _ => Err(Unknown),
-        },
-        ["from_id", code] => {
-            let id = code.parse().ok().and_then(char::from_u32).ok_or(Unknown)?;
-            Ok(AMQPType::from_id(id).map_or("none".to_owned(), |it| it.to_string()))
-        }
-        ["get_id", name] => Ok(u32::from(type_of(name)?.get_id()).to_string()),
-        ["try_from", name, json] => {
-            let json: serde_json::Value = serde_json::from_slice(&hex(json)?).map_err(|_| Unknown)?;
-            Ok(AMQPValue::try_from(&json, type_of(name)?).map_or("none".to_owned(), |it| value_text(&it)))
-        }
-        ["try_new", bytes] => Ok(match ShortString::try_new(text(bytes)?) {
-            Ok(it) => {
-                let (shown, held) = (it.to_string(), it.as_str().to_owned());
-                format!("ok {} {} {}", digits(shown.as_bytes()), digits(held.as_bytes()), digits(String::from(it).as_bytes()))
-            }
-            Err(why) => said("error", &why),
-        }),
-        ["long_string", bytes] => {
-            let it = LongString::from(hex(bytes)?);
-            Ok(format!("{} {} {}", it.len(), it.is_empty(), digits(it.to_string().as_bytes())))
-        }
-        ["byte_array", bytes] => {
-            let it = ByteArray::from(hex(bytes)?);
-            Ok(format!("{} {} {}", it.len(), it.is_empty(), digits(it.as_slice())))
-        }
-        ["order", one, other] => {
-            let of = |it| text(it).and_then(|it| ShortString::try_new(it).map_err(|_| Unknown));
-            Ok(format!("{:?}", of(one)?.cmp(&of(other)?)))
-        }
-        _ => Err(Unknown),
+        ["message", word] => message(&bytes_of(word)?),
+        [call, word] if call.starts_with("parse_") || call == "wire" => parse(call, &bytes_of(word)?),
+        ["add_flag" | "get_flag" | "get_bytes" | "from_bytes" | "clone_flags", ..] => of_flags(words),
+        ["push" | "insert" | "contains_key" | "clone" | "equal", ..] => of_values(words),
+        ["get_type" | "getters" | "from" | "from_id" | "get_id" | "try_from", ..] => of_types(words),
+        _ => of_strings(words),
     }
-}
-
-// ---- texts of both sides
-
-fn said(how: &str, why: &dyn Display) -> String {
-    format!("{how} {why}")
-}
-
-fn digits(bytes: &[u8]) -> String {
-    if bytes.is_empty() {
-        return "-".to_owned();
-    }
-    bytes.iter().map(|it| format!("{it:02x}")).collect()
-}
-
-fn hex(digits: &str) -> Result<Vec<u8>, Unknown> {
-    if digits == "-" {
-        return Ok(Vec::new());
-    }
-    if digits.len() % 2 != 0 || !digits.is_ascii() {
-        return Err(Unknown);
-    }
-    (0..digits.len()).step_by(2).map(|at| u8::from_str_radix(&digits[at..at + 2], 16).map_err(|_| Unknown)).collect()
-}
-
-fn text(digits: &str) -> Result<String, Unknown> {
-    String::from_utf8(hex(digits)?).map_err(|_| Unknown)
-}
-
-fn number(word: &str) -> Result<usize, Unknown> {
-    word.parse().map_err(|_| Unknown)
-}
-
-/// `-` for none, else texts in hexadecimal, each after a `.`.
-fn names_of(word: &str) -> Result<Vec<String>, Unknown> {
-    if word == "-" {
-        return Ok(Vec::new());
-    }
-    word.strip_prefix('.').ok_or(Unknown)?.split('.').map(|it| if it.is_empty() { Ok(String::new()) } else { text(it) }).collect()
-}
-
-/// Flags: `-` for none, else names in hexadecimal, each after a `.`, with `+` if it is set, and `!` if it isn't.
-fn flags_of(word: &str) -> Result<AMQPFlags, Unknown> {
-    let mut flags = AMQPFlags::default();
-    if word == "-" {
-        return Ok(flags);
-    }
-    for part in word.strip_prefix('.').ok_or(Unknown)?.split('.') {
-        let (name, flag) = match part.strip_suffix('+') {
-            Some(name) => (name, true),
-            None => (part.strip_suffix('!').ok_or(Unknown)?, false),
-        };
-        flags.add_flag(if name.is_empty() { String::new() } else { text(name)? }, flag);
-    }
-    Ok(flags)
-}
-
-/// Of each name its flag, as `+`, `!`, or `?` for none, and the bytes.
-fn flags_text(flags: &AMQPFlags, names: &[&str]) -> String {
-    let found: String = names.iter().map(|it| flags.get_flag(it).map_or('?', |it| if it { '+' } else { '!' })).collect();
-    format!(".{found} {}", digits(&flags.get_bytes()))
-}
-
-fn type_of(name: &str) -> Result<AMQPType, Unknown> {
-    use AMQPType::*;
-    let all = [
-        Boolean, ShortShortInt, ShortShortUInt, ShortInt, ShortUInt, LongInt, LongUInt, LongLongInt, LongLongUInt, Float,
-        Double, DecimalValue, ShortString, LongString, FieldArray, Timestamp, FieldTable, ByteArray, Void,
-    ];
-    all.into_iter().find(|it| format!("{it:?}") == name).ok_or(Unknown)
-}
-
-/// A value by tokens: each is a value, but for `A` and `F`, which take as many values before them as they count or have keys.
-fn value_of(word: &str) -> Result<AMQPValue, Unknown> {
-    let mut values = Vec::new();
-    for token in word.split(';') {
-        let (kind, held) = token.split_once(':').ok_or(Unknown)?;
-        let value = match kind {
-            "Boolean" => AMQPValue::Boolean(held.parse().map_err(|_| Unknown)?),
-            "ShortShortInt" => AMQPValue::ShortShortInt(held.parse().map_err(|_| Unknown)?),
-            "ShortShortUInt" => AMQPValue::ShortShortUInt(held.parse().map_err(|_| Unknown)?),
-            "ShortInt" => AMQPValue::ShortInt(held.parse().map_err(|_| Unknown)?),
-            "ShortUInt" => AMQPValue::ShortUInt(held.parse().map_err(|_| Unknown)?),
-            "LongInt" => AMQPValue::LongInt(held.parse().map_err(|_| Unknown)?),
-            "LongUInt" => AMQPValue::LongUInt(held.parse().map_err(|_| Unknown)?),
-            "LongLongInt" => AMQPValue::LongLongInt(held.parse().map_err(|_| Unknown)?),
-            "Float" => AMQPValue::Float(f32::from_bits(held.parse().map_err(|_| Unknown)?)),
-            "Double" => AMQPValue::Double(f64::from_bits(held.parse().map_err(|_| Unknown)?)),
-            "DecimalValue" => {
-                let (scale, value) = held.split_once('.').ok_or(Unknown)?;
-                let (scale, value) = (scale.parse().map_err(|_| Unknown)?, value.parse().map_err(|_| Unknown)?);
-                AMQPValue::DecimalValue(DecimalValue { scale, value })
-            }
-            "ShortString" => AMQPValue::ShortString(ShortString::try_new(text(held)?).map_err(|_| Unknown)?),
-            "LongString" => AMQPValue::LongString(hex(held)?.into()),
-            "ByteArray" => AMQPValue::ByteArray(hex(held)?.into()),
-            "Timestamp" => AMQPValue::Timestamp(held.parse().map_err(|_| Unknown)?),
-            "Void" => AMQPValue::Void,
-            "FieldArray" => {
-                let first = values.len().checked_sub(number(held)?).ok_or(Unknown)?;
-                let mut array = FieldArray::default();
-                values.drain(first..).for_each(|it| array.push(it));
-                AMQPValue::FieldArray(array)
-            }
-            "FieldTable" => {
-                let keys = names_of(held)?;
-                let first = values.len().checked_sub(keys.len()).ok_or(Unknown)?;
-                let mut table = FieldTable::default();
-                for (key, value) in keys.into_iter().zip(values.drain(first..)) {
-                    table.insert(ShortString::try_new(key).map_err(|_| Unknown)?, value);
-                }
-                AMQPValue::FieldTable(table)
-            }
-            _ => return Err(Unknown),
-        };
-        values.push(value);
-    }
-    let value = values.pop().ok_or(Unknown)?;
-    if values.is_empty() { Ok(value) } else { Err(Unknown) }
-}
-
-fn value_text(value: &AMQPValue) -> String {
-    let kind = value.get_type();
-    match value {
-        AMQPValue::Boolean(it) => said_of(kind, it),
-        AMQPValue::ShortShortInt(it) => said_of(kind, it),
-        AMQPValue::ShortShortUInt(it) => said_of(kind, it),
-        AMQPValue::ShortInt(it) => said_of(kind, it),
-        AMQPValue::ShortUInt(it) => said_of(kind, it),
-        AMQPValue::LongInt(it) => said_of(kind, it),
-        AMQPValue::LongUInt(it) => said_of(kind, it),
-        AMQPValue::LongLongInt(it) => said_of(kind, it),
-        AMQPValue::Float(it) => said_of(kind, &it.to_bits()),
-        AMQPValue::Double(it) => said_of(kind, &it.to_bits()),
-        AMQPValue::DecimalValue(it) => said_of(kind, &decimal_text(it)),
-        AMQPValue::ShortString(it) => said_of(kind, &digits(it.as_str().as_bytes())),
-        AMQPValue::LongString(it) => said_of(kind, &digits(it.as_bytes())),
-        AMQPValue::ByteArray(it) => said_of(kind, &digits(it.as_slice())),
-        AMQPValue::Timestamp(it) => said_of(kind, it),
-        AMQPValue::Void => said_of(kind, &"-"),
-        AMQPValue::FieldArray(it) => array_text(it),
-        AMQPValue::FieldTable(it) => table_text(it),
-    }
-}
-
-fn said_of(kind: AMQPType, held: &dyn Display) -> String {
-    format!("{kind}:{held}")
-}
-
-fn decimal_text(it: &DecimalValue) -> String {
-    format!("{}.{}", it.scale, it.value)
-}
-
-fn array_text(array: &FieldArray) -> String {
-    let mut tokens: Vec<String> = array.as_slice().iter().map(value_text).collect();
-    tokens.push(format!("FieldArray:{}", tokens.len()));
-    tokens.join(";")
-}
-
-/// The entries in the order of `for`, which is that of `inner` too.
-fn table_text(table: &FieldTable) -> String {
-    assert!(table.into_iter().map(|(key, _)| key).eq(table.inner().keys()));
-    let mut tokens: Vec<String> = table.into_iter().map(|(_, it)| value_text(it)).collect();
-    let keys: String = table.into_iter().map(|(key, _)| format!(".{}", if key.as_str().is_empty() { String::new() } else { digits(key.as_str().as_bytes()) })).collect();
-    tokens.push(format!("FieldTable:{}", if keys.is_empty() { "-" } else { &keys }));
-    tokens.join(";")
 }
 
 // ---- parsing
 
-fn parsed<T>(result: ParserResult<&[u8], T>, text_of: impl Fn(T) -> String) -> String {
+fn parsed<T>(result: ParserResult<&[u8], T>, text: impl Fn(T) -> String) -> String {
     match result {
-        Ok((rest, it)) => format!("ok {} rest {}", text_of(it), digits(rest)),
-        Err(nom::Err::Incomplete(nom::Needed::Size(n))) => format!("incomplete {n}"),
-        Err(nom::Err::Incomplete(nom::Needed::Unknown)) => "incomplete unknown".to_owned(),
-        Err(nom::Err::Error(why)) => said("error", &why),
-        Err(nom::Err::Failure(why)) => said("failure", &why),
+        Ok(([], it)) => format!("ok {}", text(it)),
+        Ok((rest, it)) => format!("ok {} rest {}", text(it), digits(rest)),
+        Err(nom::Err::Incomplete(nom::Needed::Size(count))) => format!("more {count}"),
+        Err(nom::Err::Incomplete(nom::Needed::Unknown)) => "more".to_owned(),
+        Err(nom::Err::Error(error)) => format!("error {}", kind_of(&error)),
+        Err(nom::Err::Failure(error)) => format!("failure {}", kind_of(&error)),
     }
 }
 
+/// The kind of an error, which is private, by its text.
+fn kind_of(error: &ParserErrors) -> String {
+    let text = error.to_string();
+    let kind = text.strip_prefix("Parser error: Nom(").and_then(|it| it.strip_suffix(')'));
+    kind.unwrap_or(&text).to_owned()
+}
+
 fn parse(call: &str, bytes: &[u8]) -> Answer {
-    let plain = |it: &dyn Display| it.to_string();
+    fn plain(it: impl Display) -> String {
+        it.to_string()
+    }
     Ok(match call {
         "parse_value" => parsed(parse_value(bytes), |it| value_text(&it)),
-        "parse_type" => parsed(parse_type(bytes), |it| plain(&it)),
-        "parse_id" => parsed(parse_id(bytes), |it| plain(&it)),
-        "parse_boolean" => parsed(parse_boolean(bytes), |it| plain(&it)),
-        "parse_short_short_int" => parsed(parse_short_short_int(bytes), |it| plain(&it)),
-        "parse_short_short_uint" => parsed(parse_short_short_uint(bytes), |it| plain(&it)),
-        "parse_short_int" => parsed(parse_short_int(bytes), |it| plain(&it)),
-        "parse_short_uint" => parsed(parse_short_uint(bytes), |it| plain(&it)),
-        "parse_long_int" => parsed(parse_long_int(bytes), |it| plain(&it)),
-        "parse_long_uint" => parsed(parse_long_uint(bytes), |it| plain(&it)),
-        "parse_long_long_int" => parsed(parse_long_long_int(bytes), |it| plain(&it)),
-        "parse_long_long_uint" => parsed(parse_long_long_uint(bytes), |it| plain(&it)),
-        "parse_timestamp" => parsed(parse_timestamp(bytes), |it| plain(&it)),
-        "parse_float" => parsed(parse_float(bytes), |it| plain(&it.to_bits())),
-        "parse_double" => parsed(parse_double(bytes), |it| plain(&it.to_bits())),
-        "parse_decimal_value" => parsed(parse_decimal_value(bytes), |it| decimal_text(&it)),
-        "parse_short_string" => parsed(parse_short_string(bytes), |it| digits(it.as_str().as_bytes())),
-        "parse_long_string" => parsed(parse_long_string(bytes), |it| digits(it.as_bytes())),
+        "parse_type" => parsed(parse_type(bytes), plain),
+        "parse_id" => parsed(parse_id(bytes), plain),
+        "parse_boolean" => parsed(parse_boolean(bytes), plain),
+        "parse_short_short_int" => parsed(parse_short_short_int(bytes), plain),
+        "parse_short_short_uint" => parsed(parse_short_short_uint(bytes), plain),
+        "parse_short_int" => parsed(parse_short_int(bytes), plain),
+        "parse_short_uint" => parsed(parse_short_uint(bytes), plain),
+        "parse_long_int" => parsed(parse_long_int(bytes), plain),
+        "parse_long_uint" => parsed(parse_long_uint(bytes), plain),
+        "parse_long_long_int" => parsed(parse_long_long_int(bytes), plain),
+        "parse_long_long_uint" => parsed(parse_long_long_uint(bytes), plain),
+        "parse_timestamp" => parsed(parse_timestamp(bytes), plain),
+        "parse_float" => parsed(parse_float(bytes), |it| plain(it.to_bits())),
+        "parse_double" => parsed(parse_double(bytes), |it| plain(it.to_bits())),
+        "parse_decimal_value" => parsed(parse_decimal_value(bytes), decimal_text),
+        "parse_short_string" => parsed(parse_short_string(bytes), |it| quoted(it.as_str())),
+        "parse_long_string" => parsed(parse_long_string(bytes), |it| string_text(&it)),
         "parse_byte_array" => parsed(parse_byte_array(bytes), |it| digits(it.as_slice())),
         "parse_field_array" => parsed(parse_field_array(bytes), |it| array_text(&it)),
         "parse_field_table" => parsed(parse_field_table(bytes), |it| table_text(&it)),
+        "wire" => parsed(parse_value(bytes), |it| match r#gen(gen_value(&it), Vec::new()) {
+            Ok((written, _)) => digits(&written),
+            Err(error) => error.to_string(),
+        }),
         _ => return Err(Unknown),
     })
 }
 
-/// As amqp_wire says it: the value written again, and how many bytes are left.
-fn wire(bytes: &[u8]) -> String {
+/// The text of an error; the library's own has no text for one of nom's, which is nom's.
+fn message(bytes: &[u8]) -> Answer {
     match parse_value(bytes) {
-        Ok((rest, it)) => match cookie_factory::r#gen(gen_value(&it), Vec::new()) {
-            Ok((written, _)) => format!("value {} rest {}", digits(&written), rest.len()),
-            Err(why) => fault(&why),
-        },
-        Err(nom::Err::Incomplete(nom::Needed::Size(n))) => format!("more {n}"),
-        Err(nom::Err::Error(why)) => {
-            let text = why.to_string();
-            let kind = text.strip_prefix("Parser error: Nom(").and_then(|it| it.strip_suffix(')'));
-            said("refused", &kind.unwrap_or(&text))
-        }
-        Err(_) => "refused otherwise".to_owned(),
+        Ok(_) => Err(Unknown),
+        Err(nom::Err::Error(error)) => Ok(error.to_string()),
+        Err(error) => Ok(error.to_string()),
     }
-}
-
-fn raw(kind: AMQPType, bytes: &[u8]) -> Answer {
-    use nom::Parser;
-    Ok(parsed(parse_raw_value(kind).parse(bytes), |it| value_text(&it)))
 }
 
 // ---- generation
 
-fn fault(why: &GenError) -> String {
-    match why {
-        GenError::BufferTooSmall(_) => "error buffer too small".to_owned(),
-        GenError::IoError(_) => "error write failed".to_owned(),
-        GenError::InvalidOffset => "error invalid offset".to_owned(),
-        other => format!("error {other:?}"),
+/// Where a generator writes.
+enum Room {
+    /// Into a slice of so many bytes, after these.
+    Slice(Vec<u8>, usize),
+    /// To the end of a vector that has these bytes.
+    Vector(Vec<u8>),
+    /// To a device that takes all, or fails at once.
+    Device(Option<ErrorKind>),
+}
+
+impl Room {
+    /// The room of a word: `[BYTES/]CAPACITY`, `[BYTES/]vec` or `io:STEPS`.
+    fn of(word: &str) -> words::Result<Room> {
+        let (before, to) = word.split_once('/').unwrap_or(("-", word));
+        let before = bytes_of(before)?;
+        Ok(match to {
+            "vec" => Room::Vector(before),
+            "io:9999" => Room::Device(None),
+            "io:BrokenPipe" => Room::Device(Some(ErrorKind::BrokenPipe)),
+            "io:TimedOut" => Room::Device(Some(ErrorKind::TimedOut)),
+            _ => {
+                let capacity: usize = number(to)?;
+                let capacity = capacity.checked_sub(before.len()).ok_or(Unknown)?;
+                Room::Slice(before, capacity)
+            }
+        })
     }
 }
 
-/// Writes to a buffer of that many bytes, and says what is in it up to the end of what was written.
-fn generated(room: usize, write: impl FnOnce(&mut [u8]) -> Result<u64, GenError>) -> Answer {
-    let mut buffer = vec![0; room];
-    Ok(match write(&mut buffer) {
-        Ok(position) => format!("ok {} position {position}", digits(&buffer[..position as usize])),
-        Err(why) => fault(&why),
+/// A device that fails so, or takes everything.
+struct Device(Option<ErrorKind>, Vec<u8>);
+
+impl Write for Device {
+    fn write(&mut self, bytes: &[u8]) -> io::Result<usize> {
+        match self.0 {
+            Some(kind) => Err(kind.into()),
+            None => self.1.write(bytes),
+        }
+    }
+
+    fn flush(&mut self) -> io::Result<()> {
+        Ok(())
+    }
+}
+
+/// What a generator answers that writes to a buffer.
+macro_rules! to_buffer {
+    ($room:expr, $generator:expr) => {
+        match $room {
+            Room::Slice(before, capacity) => {
+                let mut buffer = vec![0; *capacity];
+                let made = r#gen($generator, &mut buffer[..]).map(|(_, position)| position);
+                made.map(|it| written(&[&before[..], &buffer[..it as usize]].concat(), it)).unwrap_or_else(failed)
+            }
+            Room::Vector(before) => {
+                let made = r#gen($generator, before.clone());
+                made.map(|(bytes, position)| written(&bytes, position)).unwrap_or_else(failed)
+            }
+            Room::Device(_) => return Err(Unknown),
+        }
+    };
+}
+
+/// What a generator answers that writes to anything.
+macro_rules! to_any {
+    ($room:expr, $generator:expr) => {
+        match $room {
+            Room::Device(fault) => {
+                let made = r#gen($generator, Device(*fault, Vec::new()));
+                let all = made.map(|(device, it)| format!("{} position {it} faults 0", written(&device.1, it)));
+                all.unwrap_or_else(failed)
+            }
+            room => to_buffer!(room, $generator),
+        }
+    };
+}
+
+fn written(bytes: &[u8], position: u64) -> String {
+    format!("ok {} counted {position}", digits(bytes))
+}
+
+/// Why a generator failed. It keeps the context.
+fn failed(error: GenError) -> String {
+    match error {
+        GenError::BufferTooSmall(_) => "BufferTooSmall".to_owned(),
+        GenError::IoError(error) => format!("IoError({:?})", error.kind()),
+        other => other.to_string(),
+    }
+}
+
+/// In the shortest slice in which a generator doesn't fail, after `BYTES/`.
+fn generate_in_least(call: &str, before: &str, word: &str) -> Answer {
+    for capacity in bytes_of(before.trim_end_matches('/'))?.len()..512 {
+        let room = Room::of(&format!("{before}{capacity}"))?;
+        // (over fewer than four bytes, what begins with a length panics)
+        if let Ok(answer) = catch_unwind(AssertUnwindSafe(|| generate(call, &room, word))) {
+            let answer = answer?;
+            if answer.starts_with("ok") {
+                return Ok(format!("{answer} in {capacity}"));
+            }
+        }
+    }
+    Err(Unknown)
+}
+
+fn generate(call: &str, room: &Room, word: &str) -> Answer {
+    Ok(match call {
+        "gen_value" => to_buffer!(room, gen_value(&value_of(word)?)),
+        "gen_raw_value" => to_buffer!(room, gen_raw_value(&value_of(word)?)),
+        "gen_field_array" => to_buffer!(room, gen_field_array(&array_of(word)?)),
+        "gen_field_table" => to_buffer!(room, gen_field_table(&table_of(word)?)),
+        "gen_with_len" => to_buffer!(room, gen_with_len(slice(bytes_of(word)?))),
+        "gen_type" => to_any!(room, gen_type(type_of(word)?)),
+        "gen_id" => to_any!(room, gen_id(number(word)?)),
+        "gen_boolean" => to_any!(room, gen_boolean(number(word)?)),
+        "gen_short_short_int" => to_any!(room, gen_short_short_int(number(word)?)),
+        "gen_short_short_uint" => to_any!(room, gen_short_short_uint(number(word)?)),
+        "gen_short_int" => to_any!(room, gen_short_int(number(word)?)),
+        "gen_short_uint" => to_any!(room, gen_short_uint(number(word)?)),
+        "gen_long_int" => to_any!(room, gen_long_int(number(word)?)),
+        "gen_long_uint" => to_any!(room, gen_long_uint(number(word)?)),
+        "gen_long_long_int" => to_any!(room, gen_long_long_int(number(word)?)),
+        "gen_long_long_uint" => to_any!(room, gen_long_long_uint(number(word)?)),
+        "gen_timestamp" => to_any!(room, gen_timestamp(number(word)?)),
+        "gen_float" => to_any!(room, gen_float(float(word)?)),
+        "gen_double" => to_any!(room, gen_double(double(word)?)),
+        "gen_decimal_value" => to_any!(room, gen_decimal_value(decimal_of(word)?)),
+        "gen_short_string" => to_any!(room, gen_short_string(&text_of(word)?)),
+        "gen_long_string" => to_any!(room, gen_long_string(&bytes_of(word)?)),
+        "gen_byte_array" => to_any!(room, gen_byte_array(&bytes_of(word)?.into())),
+        "gen_flags" => to_any!(room, gen_flags(&flags_of(word)?)),
+        _ => return Err(Unknown),
     })
 }
 
-fn generate(call: &str, room: usize, value: &AMQPValue) -> Answer {
-    match (call, value) {
-        ("gen_value", it) => over!(room, gen_value(it)),
-        ("gen_raw_value", it) => over!(room, gen_raw_value(it)),
-        ("gen_boolean", AMQPValue::Boolean(it)) => over!(room, gen_boolean(*it)),
-        ("gen_short_short_int", AMQPValue::ShortShortInt(it)) => over!(room, gen_short_short_int(*it)),
-        ("gen_short_short_uint", AMQPValue::ShortShortUInt(it)) => over!(room, gen_short_short_uint(*it)),
-        ("gen_short_int", AMQPValue::ShortInt(it)) => over!(room, gen_short_int(*it)),
-        ("gen_short_uint", AMQPValue::ShortUInt(it)) => over!(room, gen_short_uint(*it)),
-        ("gen_long_int", AMQPValue::LongInt(it)) => over!(room, gen_long_int(*it)),
-        ("gen_long_uint", AMQPValue::LongUInt(it)) => over!(room, gen_long_uint(*it)),
-        ("gen_long_long_int", AMQPValue::LongLongInt(it)) => over!(room, gen_long_long_int(*it)),
-        ("gen_long_long_uint", AMQPValue::Timestamp(it)) => over!(room, gen_long_long_uint(*it)),
-        ("gen_timestamp", AMQPValue::Timestamp(it)) => over!(room, gen_timestamp(*it)),
-        ("gen_float", AMQPValue::Float(it)) => over!(room, gen_float(*it)),
-        ("gen_double", AMQPValue::Double(it)) => over!(room, gen_double(*it)),
-        ("gen_decimal_value", AMQPValue::DecimalValue(it)) => over!(room, gen_decimal_value(*it)),
-        ("gen_long_string", AMQPValue::LongString(it)) => over!(room, gen_long_string(it.as_bytes())),
-        ("gen_byte_array", AMQPValue::ByteArray(it)) => over!(room, gen_byte_array(it)),
-        ("gen_field_array", AMQPValue::FieldArray(it)) => over!(room, gen_field_array(it)),
-        ("gen_field_table", AMQPValue::FieldTable(it)) => over!(room, gen_field_table(it)),
-        // any text, also a longer one than a ShortString holds
-        ("gen_short_string", AMQPValue::LongString(it)) => {
-            let text = std::str::from_utf8(it.as_bytes()).map_err(|_| Unknown)?;
-            over!(room, gen_short_string(text))
+// ---- flags, values and types
+
+fn of_flags(words: &[&str]) -> Answer {
+    Ok(match *words {
+        ["add_flag", word, name, flag] => {
+            let mut flags = flags_of(word)?;
+            flags.add_flag(name.to_owned(), number(flag)?);
+            format!("ok {}", flags_text(&flags))
         }
-        _ => Err(Unknown),
-    }
+        ["get_flag", word, name] => format!("{:?}", flags_of(word)?.get_flag(name)),
+        ["get_bytes", word] => format!("ok {}", digits(&flags_of(word)?.get_bytes())),
+        ["from_bytes", names, word] => {
+            format!("ok {}", flags_text(&AMQPFlags::from_bytes(&names_of(names)?, &bytes_of(word)?[..])))
+        }
+        ["clone_flags", word] => format!("ok {}", flags_text(&flags_of(word)?.clone())),
+        _ => return Err(Unknown),
+    })
 }
 
-// ---- getters
+fn of_values(words: &[&str]) -> Answer {
+    Ok(match *words {
+        ["push", array, value] => {
+            let mut array = array_of(array)?;
+            array.push(value_of(value)?);
+            format!("ok {}", array_text(&array))
+        }
+        ["insert", table, key, value] => {
+            let mut table = table_of(table)?;
+            table.insert(short_string(key)?, value_of(value)?);
+            format!("ok {}", table_text(&table))
+        }
+        ["contains_key", table, key] => table_of(table)?.contains_key(&text_of(key)?).to_string(),
+        ["clone", value] => {
+            let value = value_of(value)?;
+            let copy = value.clone();
+            format!("ok {} equal {}", value_text(&copy), copy == value)
+        }
+        ["equal", one, other] => (value_of(one)? == value_of(other)?).to_string(),
+        _ => return Err(Unknown),
+    })
+}
 
-/// The type, and the getters that return something, each with what; then the value again, made of that by `From`.
-fn getters(value: AMQPValue) -> String {
-    let mut found = vec![value.get_type().to_string()];
-    let mut join = |name: &str, held: Option<String>| found.extend(held.map(|it| format!("{name}={it}")));
-    join("as_bool", value.as_bool().map(|it| it.to_string()));
-    join("as_short_short_int", value.as_short_short_int().map(|it| it.to_string()));
-    join("as_short_short_uint", value.as_short_short_uint().map(|it| it.to_string()));
-    join("as_short_int", value.as_short_int().map(|it| it.to_string()));
-    join("as_short_uint", value.as_short_uint().map(|it| it.to_string()));
-    join("as_long_int", value.as_long_int().map(|it| it.to_string()));
-    join("as_long_uint", value.as_long_uint().map(|it| it.to_string()));
-    join("as_long_long_int", value.as_long_long_int().map(|it| it.to_string()));
-    join("as_float", value.as_float().map(|it| it.to_bits().to_string()));
-    join("as_double", value.as_double().map(|it| it.to_bits().to_string()));
-    join("as_decimal_value", value.as_decimal_value().map(|it| decimal_text(&it)));
-    join("as_timestamp", value.as_timestamp().map(|it| it.to_string()));
-    join("as_short_string", value.as_short_string().map(|it| digits(it.as_str().as_bytes())));
-    join("as_long_string", value.as_long_string().map(|it| digits(it.as_bytes())));
-    join("as_array", value.as_array().map(array_text));
-    join("as_field_table", value.as_field_table().map(table_text));
-    join("as_byte_array", value.as_byte_array().map(|it| digits(it.as_slice())));
-    join("as_void", value.as_void().map(|()| "-".to_owned()));
-    found.push(value_text(&made_again(value)));
+fn of_types(words: &[&str]) -> Answer {
+    Ok(match *words {
+        ["get_type", value] => value_of(value)?.get_type().to_string(),
+        ["getters", value] => getters(&value_of(value)?),
+        ["from", value] => value_text(&value_of(value)?),
+        ["from_id", code] => format!("{:?}", AMQPType::from_id(char::from_u32(number(code)?).ok_or(Unknown)?)),
+        ["get_id", name] => type_of(name)?.get_id().to_string(),
+        ["try_from", name, json] => {
+            let json = serde_json::from_str(json).map_err(|_| Unknown)?;
+            AMQPValue::try_from(&json, type_of(name)?).map_or("None".to_owned(), |it| value_text(&it))
+        }
+        _ => return Err(Unknown),
+    })
+}
+
+fn getters(value: &AMQPValue) -> String {
+    let found: Vec<String> = got(value).map(|(name, held)| format!("{name}={held}")).collect();
     found.join(" ")
 }
 
-/// The value, by the conversion from what it holds.
-fn made_again(value: AMQPValue) -> AMQPValue {
-    match value {
-        AMQPValue::Boolean(it) => it.into(),
-        AMQPValue::ShortShortInt(it) => it.into(),
-        AMQPValue::ShortShortUInt(it) => it.into(),
-        AMQPValue::ShortInt(it) => it.into(),
-        AMQPValue::ShortUInt(it) => it.into(),
-        AMQPValue::LongInt(it) => it.into(),
-        AMQPValue::LongUInt(it) => it.into(),
-        AMQPValue::LongLongInt(it) => it.into(),
-        AMQPValue::Float(it) => it.into(),
-        AMQPValue::Double(it) => it.into(),
-        AMQPValue::DecimalValue(it) => it.into(),
-        AMQPValue::ShortString(it) => it.into(),
-        AMQPValue::LongString(it) => it.into(),
-        AMQPValue::FieldArray(it) => it.into(),
-        AMQPValue::Timestamp(it) => it.into(),
-        AMQPValue::FieldTable(it) => it.into(),
-        AMQPValue::ByteArray(it) => it.into(),
-        AMQPValue::Void => AMQPValue::Void,
-    }
+// ---- strings
+
+fn of_strings(words: &[&str]) -> Answer {
+    Ok(match *words {
+        ["try_new", text] => match ShortString::try_new(text_of(text)?) {
+            Ok(string) => short_text(string),
+            Err(error) => format!("error {error}"),
+        },
+        ["order", one, other] => {
+            let (one, other) = (short_string(one)?, short_string(other)?);
+            let (how, partial) = (one.cmp(&other), one.partial_cmp(&other));
+            format!("{how:?} {partial:?} equal {} hashed {}", one == other, hash_of(&one) == hash_of(&other))
+        }
+        ["long_string", word] => {
+            let it = LongString::from(bytes_of(word)?);
+            format!("ok {} {} {} \"{it}\"", string_text(&it), it.len(), it.is_empty())
+        }
+        ["byte_array", word] => {
+            let it = ByteArray::from(&bytes_of(word)?[..]);
+            format!("ok {} {} {}", digits(it.as_slice()), it.len(), it.is_empty())
+        }
+        _ => return Err(Unknown),
+    })
+}
+
+/// A short string, which is held, printed and made a string alike.
+fn short_text(string: ShortString) -> String {
+    let held = quoted(string.as_str());
+    assert_eq!(held, quoted(&string.to_string()));
+    assert_eq!(held, quoted(&String::from(string)));
+    format!("ok {held}")
+}
+
+fn hash_of(string: &ShortString) -> u64 {
+    let mut hasher = DefaultHasher::new();
+    string.hash(&mut hasher);
+    hasher.finish()
 }

@@ -1,99 +1,91 @@
-"""What the Rust crate and this library answer, and what both have to by the sample and by `departures`.
-
-Both sides are asked fresh requests, of every call, and their kinds are counted. The crate is 10.6.3. This library's programs
-are those that `rt run` or .ci/whole has left; with --tried `rt try` runs them, with nothing proved.
-"""
+"""What the Rust crate answers, in the rows of crates/test_calls; and both it and this library to fresh requests."""
 
 import os
+import re
+import subprocess
+import tempfile
 from collections import Counter
-from collections.abc import Sequence
+from collections.abc import Iterable, Iterator
 from concurrent.futures import ProcessPoolExecutor
+from itertools import repeat
+from pathlib import Path
 from random import Random
 
 import pytest
+from crates import TOP
 
+from tests.calls import DATA, rows
 from tests.oracle.crate import Driver
 from tests.oracle.inputs import request as made
-from tests.oracle.inputs import sample
-from tests.oracle.sides import Difference, Row, departures, differing, differing_tried, store, stored
 
-# How many requests are made and asked at once: `rt try` takes no more than 1 MiB of an answer. And how many the sample has
-# beside those that are worked.
-BLOCK, SAMPLE = 15_000, 5_100
-# How many requests of each kind, by their first word.
-Kinds = Counter[str]
-SHOWN = departures()
+CALLS = TOP / "crates/test_calls"
+STORED, DEPARTURES = DATA / "rust.calls", DATA / "departures.calls"
+# How many requests are made and asked at once: `rt try` takes no more than 1 MiB of standard error.
+BLOCK = 10_000
+# What the driver answers to a request for which the Rust crate has no call.
+NO_REQUEST = "no request"
 
 
-def fresh(driver: Driver, seed: int, count: int) -> list[Row]:
-    """So many requests that are made anew, with answers."""
-    make = Random(seed)
-    return driver.judged([made(make) for _ in range(count)])
-
-
-def compared(driver: Driver, seed: int, count: int) -> tuple[Kinds, list[Difference]]:
-    """Asks this library's programs too, and returns how many of each kind were asked, and what they answer otherwise."""
-    rows = fresh(driver, seed, count)
-    return kinds(rows), differing(rows)
-
-
-def kinds(rows: list[Row]) -> Kinds:
-    return Counter(it.partition(" ")[0] for it, _ in rows)
-
-
-def shown(found: list[Difference]) -> str:
-    """The first of what is answered otherwise."""
-    parts = (
-        f"{it}\n    has to be answered by {wants}\n    and is by            {line}" for it, wants, line in found[:20]
-    )
-    return "\n".join([f"answered otherwise: {len(found)}", *parts])
-
-
-def test_sample_is_of_the_crate(driver: Driver, is_writing: bool, notes: list[str]) -> None:
-    """The crate answers the sample as it is stored, which --write writes anew."""
-    rows = driver.judged([*dict.fromkeys(sample(SAMPLE))])
+def test_stored_rows(driver: Driver, is_writing: bool) -> None:
+    """The crate answers the requests of rust.calls as it is stored, which --write writes anew."""
+    said = driver.rows(STORED.read_bytes())
     if is_writing:
-        store(rows)
-        notes.append(f"{len(rows)} answers are written")
-    kept = stored()
-    assert [request for request, _ in kept] == [request for request, _ in rows]
-    found = [(request, wants, said) for (request, wants), (_, said) in zip(kept, rows) if wants != said]
-    assert not found, shown(found)
+        STORED.write_bytes(said)
+    assert NO_REQUEST not in said.decode()
+    assert said.decode().split("\n") == STORED.read_text().split("\n")
 
 
-@pytest.mark.parametrize(("request_", "theirs"), [it[:2] for it in SHOWN], ids=[it[0][:40] for it in SHOWN])
-def test_crate_departs(driver: Driver, request_: str, theirs: str) -> None:
-    """The crate itself answers what `departures` has."""
-    assert driver.as_it_is([request_]) == [theirs]
+@pytest.mark.parametrize("file", sorted(it for it in DATA.glob("*.calls") if it != STORED), ids=lambda it: str(it.stem))
+def test_other_rows(driver: Driver, file: Path, notes: list[str]) -> None:
+    """The crate answers the other rows too as they have it, if it has such a call."""
+    said = dict(rows(driver.rows(file.read_bytes()).decode()))
+    wants = {request: wants for request, wants in rows(file.read_text()) if said[request] != NO_REQUEST}
+    notes.append(f"{file.name}: {len(wants)} of {len(said)} rows are of calls that the crate has")
+    assert {request: said[request] for request in wants} == wants
 
 
-def blocks(seed: int, count: int) -> tuple[Sequence[int], list[int]]:
-    """The seed of each block of requests, and how many it has."""
-    counts = [min(BLOCK, count - at) for at in range(0, count, BLOCK)]
-    return range(seed * 1000, seed * 1000 + len(counts)), counts
+def test_departures(driver: Driver) -> None:
+    """The crate itself answers as the line above each row of departures.calls has it."""
+    found = re.findall(r"(?m)^# There: (.*)\n(.*?) => ", DEPARTURES.read_text())
+    said = driver.as_it_is("".join(f"{request}\n" for _, request in found).encode()).decode()
+    assert [*rows(said)] == [(request, theirs) for theirs, request in found]
+    assert len(found) == len([*rows(DEPARTURES.read_text())])
 
 
-def otherwise(driver: Driver, seed: int, count: int, is_tried: bool) -> tuple[Kinds, list[Difference]]:
-    """How many fresh requests of each kind were asked, and what of them and of `departures` this library answers otherwise."""
-    ours, of_kinds = [(it, answer) for it, _, answer in SHOWN], Kinds()
-    seeds, counts = blocks(seed, count)
-    drivers = [driver] * len(counts)
-    with ProcessPoolExecutor(len(os.sched_getaffinity(0))) as pool:
-        if is_tried:
-            made_anew = [*pool.map(fresh, drivers, seeds, counts)]
-            return sum(map(kinds, made_anew), of_kinds), differing_tried([ours, *made_anew])
-        found = differing(ours)
-        for of_block, differs in pool.map(compared, drivers, seeds, counts):
-            of_kinds += of_block
-            found += differs
-    return of_kinds, found
+def answered(driver: Driver, seed: int, count: int) -> bytes:
+    """So many fresh requests, with the crate's answers."""
+    make = Random(seed)
+    return driver.rows("".join(f"{made(make)}\n" for _ in range(count)).encode())
 
 
-def test_library_answers_as_the_crate(
-    driver: Driver, request: pytest.FixtureRequest, seed: int, notes: list[str]
-) -> None:
-    """Fresh requests, and those of `departures`, which this library answers otherwise on purpose."""
+def judged(program: Path, block: bytes) -> str:
+    """What test_calls prints of these rows."""
+    done = subprocess.run([program], input=block, stdout=subprocess.PIPE, stderr=subprocess.DEVNULL)
+    return done.stdout.decode()
+
+
+def tried(blocks: Iterable[bytes]) -> Iterator[str]:
+    """What test_calls prints of each of these, as `rt try` runs it with nothing proved."""
+    with tempfile.TemporaryDirectory() as folder:
+        for number, block in enumerate(blocks):
+            (Path(folder) / f"{number:05}").write_bytes(block)
+        # (one step, since the interpreter would be too slow: only the compiled program is to answer)
+        words = ["rt", "try", "--steps", "1", "--seconds", "600", "--cases", folder]
+        done = subprocess.run(words, cwd=CALLS, stdout=subprocess.PIPE, stderr=subprocess.DEVNULL, text=True)
+    yield from re.split(r"(?m)^(?:== \d{5}\n|case=.*\n?(?s:.*))", done.stdout)[1:]
+
+
+def test_fresh_requests(driver: Driver, request: pytest.FixtureRequest, seed: int, notes: list[str]) -> None:
+    """This library answers fresh requests as the crate does."""
     option = request.config.getoption
-    of_kinds, found = otherwise(driver, seed, int(option("--count")), bool(option("--tried")))
-    notes.append(", ".join(f"{kind} {number}" for kind, number in sorted(of_kinds.items())))
-    assert not found, shown(found)
+    count, program = int(option("--count")), option("--program") or CALLS / "out/test_calls"
+    counts = [min(BLOCK, count - at) for at in range(0, count, BLOCK)]
+    assert option("--tried") or program.is_file(), "test_calls isn't built: `rt run` in crates/test_calls builds it"
+    with ProcessPoolExecutor(len(os.sched_getaffinity(0))) as pool:
+        blocks = [*pool.map(answered, repeat(driver), range(seed * 1000, seed * 1000 + len(counts)), counts)]
+        said = [*tried(blocks)] if option("--tried") else [*pool.map(judged, repeat(program), blocks)]
+    calls = Counter(it.partition(" ")[0] for block in blocks for it, _ in rows(block.decode()))
+    notes.append(", ".join(f"{call} {number}" for call, number in sorted(calls.items())))
+    assert not [it for block in blocks for it in rows(block.decode()) if it[1] == NO_REQUEST]
+    wrong = [it for it, rows_ in zip(said, counts, strict=True) if it != f"{rows_} rows, 0 wrong\n"]
+    assert not wrong, "answered otherwise:\n" + "".join(wrong)[:5000]
