@@ -61,11 +61,10 @@ fn buffer_call<W: BackToTheBuffer>(
         "fill" => {
             let (at, bytes) = words.split_once(':').unwrap_or((words, "-"));
             let (at, bytes): (u64, _) = (number(at)?, bytes_of(alloc, bytes)?);
-            let position = output.position();
-            if position < at || position - at < bytes.len() as u64 {
-                return Err(Trouble::Unknown);
+            match at.checked_add(bytes.len() as u64) {
+                Some(end) if end <= output.position() => output.fill(at, bytes.as_slice()),
+                _ => return Err(Trouble::Unknown),
             }
-            output.fill(at, bytes.as_slice());
             text.push_str("ok; ")?;
         }
         "back_to" => {
