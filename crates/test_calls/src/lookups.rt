@@ -8,9 +8,7 @@ use super::types::push_some;
 use super::values::{decimal_text, value_text};
 use super::words::{bytes_of, digits, number, quoted, text_of};
 use super::{Answer, Trouble};
-use amqp_in_place::{
-    ArrayRef, EqualKeys, PathStep, TableRef, ValueRef, read_in_place_unlimited,
-};
+use amqp_in_place::{ArrayRef, EqualKeys, PathStep, TableRef, ValueRef, read_in_place_unlimited};
 use std::alloc::{AllocError, Global};
 
 /// So many values or pairs of a container are shown, at most.
@@ -46,14 +44,19 @@ pub fn answer<R: Eprint>(rt: &R, alloc: Global, call: &str, words: &[&str]) -> A
     }
 }
 
-/// The word of what was found.
-fn found_text(alloc: Global, found: Option<ValueRef<'_>>) -> Answer {
-    let Some(value) = found else {
-        return Ok(format!(in alloc; "None")?);
-    };
-    match value.to_owned(alloc) {
-        Ok(copy) => Ok(value_text(alloc, &copy)?),
-        Err(AllocError) => Err(Trouble::OutOfMemory),
+/// The word of what was found, of a container its bytes.
+fn found_text(alloc: Global, found: Option<ValueRef<'_>>) -> Result<String, AllocError> {
+    match found {
+        None => format!(in alloc; "None"),
+        Some(ValueRef::FieldArray(array)) => {
+            let bytes = digits(alloc, array.as_bytes())?;
+            format!(in alloc; "FieldArray({bytes})")
+        }
+        Some(ValueRef::FieldTable(table)) => {
+            let bytes = digits(alloc, table.as_bytes())?;
+            format!(in alloc; "FieldTable({bytes})")
+        }
+        Some(value) => value_text(alloc, &value.to_owned(alloc)?),
     }
 }
 
@@ -173,9 +176,9 @@ fn get_path<R: Eprint>(rt: &R, alloc: Global, value: ValueRef<'_>, steps: &str) 
         let by_first = found_text(alloc, call!(rt; table.get_path(path, EqualKeys::First)))?;
         let by_last = found_text(alloc, call!(rt; table.get_path(path, EqualKeys::Last)))?;
         if by_first.as_str() != first.as_str() || by_last.as_str() != last.as_str() {
-            return Ok(
-                format!(in alloc; "first {first} last {last} of the table {by_first} {by_last}")?,
-            );
+            return Ok(format!(in alloc;
+                "first {first} last {last} of the table {by_first} {by_last}"
+            )?);
         }
     }
     let is_there = last.as_str() != "None";
@@ -198,7 +201,11 @@ fn getters(alloc: Global, value: ValueRef<'_>) -> Answer {
     let mut text = format!(in alloc; "{amqp_type}")?;
     numbers(&mut text, value)?;
     if let Some(it) = value.as_decimal_value() {
-        push_some(&mut text, "as_decimal_value", Some(decimal_text(alloc, it)?))?;
+        push_some(
+            &mut text,
+            "as_decimal_value",
+            Some(decimal_text(alloc, it)?),
+        )?;
     }
     if let Some(it) = value.as_long_string() {
         push_some(&mut text, "as_long_string", Some(digits(alloc, it)?))?;
@@ -207,7 +214,11 @@ fn getters(alloc: Global, value: ValueRef<'_>) -> Answer {
         push_some(&mut text, "as_array", Some(digits(alloc, it.as_bytes())?))?;
     }
     if let Some(it) = value.as_field_table() {
-        push_some(&mut text, "as_field_table", Some(digits(alloc, it.as_bytes())?))?;
+        push_some(
+            &mut text,
+            "as_field_table",
+            Some(digits(alloc, it.as_bytes())?),
+        )?;
     }
     if let Some(it) = value.as_byte_array() {
         push_some(&mut text, "as_byte_array", Some(digits(alloc, it)?))?;
