@@ -22,14 +22,27 @@ const WIDE: Limits = Limits {
     depth: u32::MAX,
 };
 
-/// An input of so many bytes is tried with three frames only.
-const LONG: usize = 1000;
+/// How many limits are tried: frames from so many bytes more than the input has, and depths.
+#[derive(Clone, Copy)]
+struct Tried {
+    beyond: usize,
+    frames: usize,
+    depth: u32,
+}
 
-/// So many frames are tried, at most.
-const FRAMES: usize = 72;
+/// The limits of an input of fewer than 1,000 bytes.
+const SHORT: Tried = Tried {
+    beyond: 8,
+    frames: 72,
+    depth: 8,
+};
 
-/// The greatest depth that is tried.
-const DEPTH: u32 = 8;
+/// The limits of a longer one.
+const LONG: Tried = Tried {
+    beyond: 0,
+    frames: 2,
+    depth: 0,
+};
 
 /// The calls.
 pub const CALLS: [&str; 13] = [
@@ -91,14 +104,14 @@ pub fn answer<R: Eprint>(rt: &R, alloc: Global, call: &str, words: &[&str]) -> A
 fn by_limits<R: Eprint>(rt: &R, alloc: Global, request: Request<'_>) -> Answer {
     let mut text = within(rt, alloc, request, WIDE)?;
     let whole = String::from_str(alloc, text.as_str())?;
-    let (beyond, frames) = if request.bytes.len() < LONG {
-        (8, FRAMES)
+    let tried = if request.bytes.len() < 1000 {
+        SHORT
     } else {
-        (1, 3)
+        LONG
     };
-    let most = request.bytes.len().saturating_add(beyond);
+    let most = request.bytes.len().saturating_add(tried.beyond);
     let mut last = String::from_str(alloc, whole.as_str())?;
-    for fewer in 0..frames {
+    for fewer in 0..tried.frames {
         let Some(frame) = most.checked_sub(fewer) else {
             break;
         };
@@ -113,8 +126,8 @@ fn by_limits<R: Eprint>(rt: &R, alloc: Global, request: Request<'_>) -> Answer {
         }
     }
     last = whole;
-    for fewer in 0..=DEPTH {
-        let depth = DEPTH.saturating_sub(fewer);
+    for fewer in 0..=tried.depth {
+        let depth = tried.depth.saturating_sub(fewer);
         let answer = within(rt, alloc, request, Limits { depth, ..WIDE })?;
         if answer.as_str() != last.as_str() {
             write!(text, "; depth {depth} {answer}")?;

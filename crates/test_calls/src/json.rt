@@ -1,5 +1,5 @@
-//! JSON: `to_json VALUE`, `json TEXT`, `json_bytes BYTES` for a text of any bytes, and `json_of_encoding BYTES`, which
-//! is asked with each small limit as the calls of `in_place` are.
+//! JSON: `to_json VALUE`, `json TEXT`, `json_bytes BYTES` for a text of any bytes, `json_message TEXT`, and
+//! `json_of_encoding BYTES`, which is asked with each small limit as the calls of `in_place` are.
 
 use super::in_place::with_rest;
 use super::parse::error_text;
@@ -14,7 +14,7 @@ use amqp_json::{
     write_whole_json,
 };
 use serde_json::Value;
-use std::alloc::Global;
+use std::alloc::{AllocError, Global};
 
 /// What a buffer is filled with at first.
 const FILL: u8 = 0xee;
@@ -22,10 +22,17 @@ const FILL: u8 = 0xee;
 /// A longer text is written to buffers of a byte less and of just enough alone.
 const EACH_SIZE: usize = 64;
 
+/// A longer text is shown as bytes.
+const LONG: usize = 256;
+
 /// What a call of JSON texts answers.
 pub fn answer<R: Eprint>(rt: &R, alloc: Global, call: &str, words: &[&str]) -> Answer {
     match (call, words) {
         ("to_json", [word]) => written(rt, alloc, &value_of(alloc, *word)?),
+        ("json_message", [word]) => match encoding_of_json(alloc, *word) {
+            Ok(_) => Err(Trouble::Unknown),
+            Err(error) => Ok(format!(in alloc; "{error}")?),
+        },
         ("json_bytes", [word]) => read(rt, alloc, text_of(alloc, *word)?.as_str()),
         ("json", words) => {
             let mut text = String::new(alloc);
@@ -52,7 +59,9 @@ fn written<R: Eprint>(rt: &R, alloc: Global, value: &AMQPValue) -> Answer {
         Err(error) => return Ok(format!(in alloc; "{error:?}")?),
     };
     let back = from_json(alloc, text.as_str());
-    if printed.as_str() != text.as_str() {
+    let is_same = printed.as_str() == text.as_str();
+    text = text_word(alloc, text.as_str())?;
+    if !is_same {
         write!(text, " but to_value {printed}")?;
     }
     match back {
@@ -133,7 +142,7 @@ pub fn of_encoding<R: Eprint>(rt: &R, alloc: Global, bytes: &[u8], limits: Limit
         Err(DecodeError::OutOfMemory) => return Ok(format!(in alloc; "OutOfMemory")?),
     };
     let shown = text.as_str();
-    let mut answer = with_rest(alloc, String::from_str(alloc, shown)?, rest)?;
+    let mut answer = with_rest(alloc, text_word(alloc, shown)?, rest)?;
     let wanted = String::from_str(alloc, answer.as_str())?;
     for call in ["write_json", "write_whole_json", "write_sorted_json"] {
         let other = into_buffer(rt, alloc, call, bytes, limits, shown)?;
@@ -142,6 +151,14 @@ pub fn of_encoding<R: Eprint>(rt: &R, alloc: Global, bytes: &[u8], limits: Limit
         }
     }
     Ok(answer)
+}
+
+/// A text as it is, or its bytes if it is long.
+fn text_word(alloc: Global, text: &str) -> Result<String, AllocError> {
+    if LONG < text.len() {
+        return digits(alloc, text.as_bytes());
+    }
+    String::from_str(alloc, text)
 }
 
 /// What is written to a buffer of just enough bytes and one more; and if that is the text, what else than
@@ -196,7 +213,7 @@ fn into_one<R: Eprint>(
                 return Ok(format!(in alloc; "{count} and past it others")?);
             }
             match std::str::from_utf8(text) {
-                Ok(text) => with_rest(alloc, String::from_str(alloc, text)?, rest),
+                Ok(text) => with_rest(alloc, text_word(alloc, text)?, rest),
                 Err(_) => Ok(format!(in alloc; "no text")?),
             }
         }

@@ -44,14 +44,19 @@ pub fn answer<R: Eprint>(rt: &R, alloc: Global, call: &str, words: &[&str]) -> A
     }
 }
 
-/// The word of what was found.
-fn found_text(alloc: Global, found: Option<ValueRef<'_>>) -> Answer {
-    let Some(value) = found else {
-        return Ok(format!(in alloc; "None")?);
-    };
-    match value.to_owned(alloc) {
-        Ok(copy) => Ok(value_text(alloc, &copy)?),
-        Err(AllocError) => Err(Trouble::OutOfMemory),
+/// The word of what was found, of a container its bytes.
+fn found_text(alloc: Global, found: Option<ValueRef<'_>>) -> Result<String, AllocError> {
+    match found {
+        None => format!(in alloc; "None"),
+        Some(ValueRef::FieldArray(array)) => {
+            let bytes = digits(alloc, array.as_bytes())?;
+            format!(in alloc; "FieldArray({bytes})")
+        }
+        Some(ValueRef::FieldTable(table)) => {
+            let bytes = digits(alloc, table.as_bytes())?;
+            format!(in alloc; "FieldTable({bytes})")
+        }
+        Some(value) => value_text(alloc, &value.to_owned(alloc)?),
     }
 }
 
