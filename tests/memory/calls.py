@@ -29,19 +29,22 @@ IN_PLACE = "read_in_place read_in_place_unlimited read_table_in_place warnings w
 # The words of the errors, for requests that make calls of several kinds.
 MIXED = {
     **dict.fromkeys(IN_PLACE, "AllocError"),
-    **dict.fromkeys(("json", "json_bytes"), "OutOfMemory Json(OutOfMemory)"),
+    **dict.fromkeys(("json", "json_bytes"), "OutOfMemory"),
     "json_of_encoding": "OutOfMemory NeedsMemory",
     "prefixes": "failure OutOfMemory",
 }
-# What else the answers of these say, of the calls and of what they were called with.
-BESIDES = re.compile(r"\b(frame|depth|of) \d+ |\b(but|encoded|from_value|to_value|write_sorted_json) ")
+# What else these answers have: which call it was, what it was called with, and how it wraps another call's error.
+BESIDES = re.compile(
+    r"\b(frame|depth|of) \d+ |\b(but|encoded|from_value|to_value|write_sorted_json) | but no JSON\b|\bJson(?=\()|(?<=NotAValue)\(\d+\)"
+)
 # In which way another answer was given.
 WAY = re.compile(r" (cut after \d+|by bytes|of Values)$")
-# How an answer begins for which no memory is needed: nothing may be allocated.
+# How an answer begins for which no memory is needed: nothing may be allocated. The answers of some calls don't tell.
 NEEDS_NONE = re.compile(
     r"more |error (MapOpt|TooLarge|ShortString)|(ok )?(-|\[\]|\{\}|Void|None|(Boolean|\w*Int|Float|Double|DecimalValue|Timestamp)"
     r"\(.*?\)|(Short|Long)String\(-\)|ByteArray\(-\)|\"\")(?![^ ;])"
 )
+DONT_TELL = "next repeated_key to_json json json_bytes json_of_encoding".split()
 # How many failed allocations a call gets over: the kit's `collect` asks for room for all pairs, and if it can't have that for less.
 # A long table is read by it.
 GETS_OVER = {"from_pairs": 1, "wire 4600004e20": 2}
@@ -65,7 +68,7 @@ class Row(NamedTuple):
         if name.startswith("gen_"):
             before, _, to = words[0].rpartition("/")
             return f"OutOfMemory {before or '-'} counted 0" if to == "vec" else ""
-        if name not in ("next", "repeated_key") and NEEDS_NONE.match(self.answer):
+        if name not in DONT_TELL and NEEDS_NONE.match(self.answer):
             return ""
         return MIXED.get(name, "") or FAILED.get(name, "").format(*words)
 
@@ -73,8 +76,8 @@ class Row(NamedTuple):
         """Whether it may be answered so if an allocation fails."""
         error = self.error()
         if self.request.split(" ")[0] in MIXED:
-            words, of_error = {*re.split("[;,]? ", BESIDES.sub("", said))}, {*error.split(" ")}
-            return bool(words & of_error) and words <= of_error | {*re.split("[;,]? ", self.answer)}
+            words, usual = words_of(said), words_of(self.answer)
+            return bool(words & {*error.split(" ")}) and words <= usual | {*error.split(" ")}
         found = [WAY.sub("", it).split("; ") for it in said.split(" but ")]
         others = [[it for it in parts if it != error] for parts in found]
         return others != found and all(it in ([], self.answer.split("; ")) for it in others)
@@ -87,6 +90,11 @@ class Row(NamedTuple):
         """The number of bytes that one of its calls may request."""
         written_out = re.findall(r"(\d+)[*@]([^+ ,)]*)", self.request)
         return TIMES * (len(self.request) + sum(int(count) * (len(part) + 4) for count, part in written_out)) + BLOCKS
+
+
+def words_of(answer: str) -> set[str]:
+    """The words of an answer of several calls."""
+    return {it.strip("()") for it in re.split("[;,]? ", BESIDES.sub("", answer))}
 
 
 def rows() -> list[Row]:

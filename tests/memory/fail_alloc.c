@@ -21,7 +21,7 @@
 
 static long allocations, fail_alloc, reads, writes, fail_read, fail_write;
 static size_t bytes_allocated, most_allocated;
-static int inside, counts_to = -1, fail_with, one_byte, each_line;
+static int inside, counts_to = -1, fail_with, one_byte, each_line, is_in_line;
 static char *numbers = "";
 
 static long number(const char *name) {
@@ -52,10 +52,14 @@ static int alloc_fails(size_t n) {
     return ++allocations == fail_alloc;
 }
 
-static void end_line(void) {
-    dprintf(1, "%ld %zu\n", allocations, most_allocated);
-    allocations = most_allocated = 0;
-    fail_alloc = strtol(numbers, &numbers, 10);
+/* A line may be written in pieces. */
+static void write_counts(const char *piece, size_t n) {
+    if (!is_in_line) {
+        dprintf(1, "%ld %zu\n", allocations, most_allocated);
+        allocations = most_allocated = 0;
+        fail_alloc = strtol(numbers, &numbers, 10);
+    }
+    is_in_line = !n || piece[n - 1] != '\n';
 }
 
 static int io_fails(int is_the_one) {
@@ -76,7 +80,7 @@ ssize_t write(int fd, const void *bytes, size_t n) {
     if (fd == 2 && n == 6 && !memcmp(bytes, "begin\n", n)) inside = 1;
     if (fd == 2 && n == 4 && !memcmp(bytes, "end\n", n)) inside = 0;
     if (fd == 2 && each_line) bytes_allocated = 0;
-    if (fd == 1 && each_line) end_line();
+    if (fd == 1 && each_line) write_counts(bytes, n);
     if (fd == 1 && io_fails(++writes == fail_write)) return fail_with ? -1 : 0;
     if (fd == 1 && one_byte && n > 1) n = 1;
     REAL(write, fd, bytes, n);
