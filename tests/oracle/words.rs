@@ -123,12 +123,7 @@ pub fn flags_text(flags: &AMQPFlags) -> String {
 }
 
 pub fn type_of(name: &str) -> Result<AMQPType> {
-    use AMQPType::*;
-    let all = [
-        Boolean, ShortShortInt, ShortShortUInt, ShortInt, ShortUInt, LongInt, LongUInt, LongLongInt, LongLongUInt,
-        Float, Double, DecimalValue, ShortString, LongString, FieldArray, Timestamp, FieldTable, ByteArray, Void,
-    ];
-    all.into_iter().find(|it| format!("{it:?}") == name).ok_or(Unknown)
+    serde_json::from_value(name.into()).map_err(|_| Unknown)
 }
 
 // ---- values
