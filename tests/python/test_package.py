@@ -470,6 +470,20 @@ def test_offsets_count_from_the_start(seed: int) -> None:
     assert rejected > 200
 
 
+def test_offsets_of_values_that_are_not_taken() -> None:
+    """An offset counts from the start of the data, also if the value is well-formed and an option refuses it."""
+    endless, late = own.dumps_table({"a": [float("inf")]}), own.dumps_table({"a": own.Timestamp(2**40)})
+    rows: list[tuple[bytes, dict[str, Any], str, int]] = [
+        (LATIN, {"keys": "bytes"}, "text not UTF-8", 12),
+        (endless, {"finite": True}, "not finite", 11),
+        (late, {"plain": True}, "out of range", 6),
+    ]
+    for table, options, kind, offset in rows:
+        for before in (b"", b"..."):
+            found = own_error(lambda: own.decode_table(before + table, len(before), **options))
+            assert found == (kind, len(before) + offset, 0)
+
+
 # Errors
 
 WRITES: list[tuple[Any, tuple[str, int, int], tuple[Any, ...]]] = [

@@ -64,6 +64,16 @@ stream_keep_going_no_hex
   2> amqp_show: "-": line 1, column 17: no hexadecimal
   [2]
 
+stream_keep_going_status
+  $ echo 4600000003 01ff56 7401 | xxd -r -p | amqp_show --stream --keep-going
+  FieldTable
+    ?
+  ! offset 6: a key is expected; the bytes aren't UTF-8
+  = no value at 0: refused, Eof
+  Boolean true
+  = a value of 2 bytes at 8
+  [1]
+
 stream_no_hex
   $ echo 74 01 zz | amqp_show --stream --hex
   Boolean true
