@@ -1,5 +1,4 @@
-//! Inputs: `input N BYTES BYTES`, what is at the place N of an input of two slices; `parse_value` and the other
-//! parsers show one slice.
+//! Inputs: `input N BYTES BYTES` splits an input of two slices at N. The bytes in one slice have to be the same.
 
 use super::words::{bytes_of, digits, number};
 use super::{Answer, Trouble};
@@ -7,8 +6,7 @@ use amq_protocol_types::parsing::traits::ParsableInput;
 use amq_protocol_types::parsing::{SliceInput, SplitInput};
 use std::alloc::Global;
 
-/// The length, the bytes before the place, the byte there and the bytes from it on, each in its slice, and
-/// the first slice that isn't empty. One slice has the same bytes.
+/// The length, the byte at N, the bytes before it and from it on, each in its slice, and the chunk.
 pub fn answer(alloc: Global, words: &[&str]) -> Answer {
     let [place, word, other] = words else {
         return Err(Trouble::Unknown);

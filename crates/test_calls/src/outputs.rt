@@ -1,4 +1,4 @@
-//! Outputs: `output WHERE CALLS`, what each call answers, and what the output has then.
+//! Outputs: `output WHERE CALLS` makes the calls one after another. The answer has that of each, and what was written.
 //!
 //! WHERE is a slice's length, `vec`, or `io:STEPS`. A call is `put:BYTES`, `make_room:N`, and of a buffer
 //! `reserve:N`, `fill:AT:BYTES` or `back_to:AT`.
@@ -9,7 +9,7 @@ use super::{Answer, Trouble};
 use amq_protocol_types::generation::{BackToTheBuffer, GenResult, IoOutput, Output, SliceOutput};
 use std::alloc::Global;
 
-/// What the calls answer in turn, then the bytes.
+/// What each call answers, and the state after them.
 pub fn answer(alloc: Global, words: &[&str]) -> Answer {
     let [place, calls @ ..] = words else {
         return Err(Trouble::Unknown);
