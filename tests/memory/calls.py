@@ -42,7 +42,7 @@ WAY = re.compile(r" (cut after \d+|by bytes|of Values)$")
 # How an answer begins for which no memory is needed: nothing may be allocated. The answers of some calls don't tell.
 NEEDS_NONE = re.compile(
     r"more |error (MapOpt|TooLarge)|(ok )?(-|\[\]|\{\}|Void|None|(Boolean|\w*Int|Float|Double|DecimalValue|Timestamp)"
-    r"\(.*?\)|(Short|Long)String\(-\)|ByteArray\(-\)|\"\")(?![^ ;])"
+    r"\(.*?\)|(Short|Long)String\(-\)|ByteArray\(-\)|\"\"|Problem\(\w+\)|0)(?![^ ;])"
 )
 DONT_TELL = "next repeated_key to_json json json_bytes json_of_encoding".split()
 # How many failed allocations a call gets over: the kit's `collect` asks for room for all pairs, and if it can't have that for less.
