@@ -47,7 +47,7 @@ NEEDS_NONE = re.compile(
 DONT_TELL = "next repeated_key to_json json json_bytes json_of_encoding".split()
 # How many failed allocations a call gets over: the kit's `collect` asks for room for all pairs, and if it can't have that for less.
 # A long table is read by it.
-GETS_OVER = {"from_pairs": 1, "wire 4600004e20": 2}
+GETS_OVER = {"from_pairs": 1, "wire 4600004": 2}
 # An encoding has at most as many values as bytes, and what a call requests for each of them is bounded; so are the blocks in which
 # a reader reads.
 TIMES, BLOCKS = 200, 1 << 14
