@@ -41,18 +41,19 @@ BESIDES = re.compile(
 WAY = re.compile(r" (cut after \d+|by bytes|of Values)$")
 # How an answer begins for which no memory is needed: nothing may be allocated. The answers of some calls don't tell.
 NEEDS_NONE = re.compile(
-    r"more |error (MapOpt|TooLarge|ShortString)|(ok )?(-|\[\]|\{\}|Void|None|(Boolean|\w*Int|Float|Double|DecimalValue|Timestamp)"
-    r"\(.*?\)|(Short|Long)String\(-\)|ByteArray\(-\)|\"\")(?![^ ;])"
+    r"more |error (MapOpt|TooLarge)|(ok )?(-|\[\]|\{\}|Void|None|(Boolean|\w*Int|Float|Double|DecimalValue|Timestamp)"
+    r"\(.*?\)|(Short|Long)String\(-\)|ByteArray\(-\)|\"\"|Problem\(\w+\)|0)(?![^ ;])"
 )
 DONT_TELL = "next repeated_key to_json json json_bytes json_of_encoding".split()
 # How many failed allocations a call gets over: the kit's `collect` asks for room for all pairs, and if it can't have that for less.
 # A long table is read by it.
-GETS_OVER = {"from_pairs": 1, "wire 4600004e20": 2}
+GETS_OVER = {"from_pairs": 1, "wire 4600004": 2}
 # An encoding has at most as many values as bytes, and what a call requests for each of them is bounded; so are the blocks in which
 # a reader reads.
 TIMES, BLOCKS = 200, 1 << 14
-# If a request allocates more often, so many of its allocations fail, evenly spread: a prime, to meet all of those in a loop.
-MOST_FAILED = 499
+# A request is made once for each of its allocations; if they are many only for some of them, evenly spread: so many that all of these
+# together allocate about WORK times, but LEAST at least, a prime, to meet all allocations in a loop.
+WORK, LEAST = 250_000, 17
 
 
 class Row(NamedTuple):
@@ -68,7 +69,8 @@ class Row(NamedTuple):
         if name.startswith("gen_"):
             before, _, to = words[0].rpartition("/")
             return f"OutOfMemory {before or '-'} counted 0" if to == "vec" else ""
-        if name not in DONT_TELL and NEEDS_NONE.match(self.answer):
+        is_too_long = name == "try_copy" and self.answer.startswith("error")
+        if is_too_long or name not in DONT_TELL and NEEDS_NONE.match(self.answer):
             return ""
         return MIXED.get(name, "") or FAILED.get(name, "").format(*words)
 
@@ -110,5 +112,5 @@ def rows() -> list[Row]:
 
 def numbers(allocations: int) -> list[int]:
     """Which of so many allocations fail."""
-    count = min(allocations, MOST_FAILED)
+    count = min(allocations, max(LEAST, WORK // max(allocations, 1)))
     return [1 + n * allocations // count for n in range(count)]

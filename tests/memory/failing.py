@@ -57,7 +57,7 @@ class Preloaded(NamedTuple):
         """Runs a program."""
         reads, writes = os.pipe()
         env = {"LD_PRELOAD": str(self.library), "COUNTS_TO": str(writes), **how}
-        done = subprocess.run(words, input=given, env=env, pass_fds=[writes], capture_output=True, timeout=60)
+        done = subprocess.run(words, input=given, env=env, pass_fds=[writes], capture_output=True, timeout=300)
         os.close(writes)
         with os.fdopen(reads) as counts:
             numbers = counts.read().split() or ["-1"] * 4
