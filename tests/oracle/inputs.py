@@ -114,11 +114,12 @@ def cut(make: Random, data: bytes, how_often: float) -> bytes:
 
 
 def nested(make: Random) -> bytes:
-    """Containers in one another, the innermost with anything."""
+    """Containers in one another, the innermost with anything. Rarely a pair lacks its key, or a value has one."""
     data = make.choice([b"", b"V", b"z", b"\1aV", b"\1aV\1at\2", b"\1\xffV"])
-    for _ in range(make.randrange(1, 60)):
-        body = make.choice([b"", b"\1k"]) + data
-        data = make.choice([b"A", b"F"]) + len(body).to_bytes(4, "big") + body
+    for _ in range(make.randrange(1, make.choice([10, 60, 200]))):
+        tag, is_broken = make.choice([b"A", b"F"]), make.random() < 0.01
+        body = data if (tag == b"A") != is_broken else b"\1k" + data
+        data = tag + len(body).to_bytes(4, "big") + body
     return data
 
 
