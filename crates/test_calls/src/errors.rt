@@ -1,4 +1,4 @@
-//! Errors and their texts: `message BYTES`, the error of `parse_value`, and `message_of ERROR` of each error by its name.
+//! Texts of errors: `message BYTES` of the error that `parse_value` returns, `message_of ERROR` of an error by its name.
 
 use super::words::{bytes_of, kind_of, number};
 use super::{Answer, Trouble};
@@ -21,7 +21,7 @@ pub fn message(alloc: Global, error: ParserError) -> Answer {
     Ok(text)
 }
 
-/// The one error that an error becomes, the variant first, and then its text, which is the error's own.
+/// The variant of `Error` that an error becomes, and the text of both.
 macro_rules! told {
     ($alloc:expr, $error:expr) => {{
         let error = $error;
@@ -47,7 +47,7 @@ fn variant_of(error: &Error) -> &str {
     }
 }
 
-/// What an error becomes, and its text.
+/// The variant of `Error` that the named error becomes, and its text.
 pub fn answer(alloc: Global, words: &[&str]) -> Answer {
     match words {
         ["GenError::BufferTooSmall"] => told!(alloc, GenError::BufferTooSmall),
@@ -85,7 +85,7 @@ pub fn answer(alloc: Global, words: &[&str]) -> Answer {
     }
 }
 
-/// The error of a string that isn't UTF-8, of a value that is too large, or of bytes.
+/// The error for a string that isn't UTF-8, for a value that is too large, or for these bytes.
 fn parser_error(alloc: Global, word: &str) -> Result<ParserError, Trouble> {
     let limits = Limits { frame: 0, depth: 0 };
     let error = match word {
@@ -102,7 +102,7 @@ fn parser_error(alloc: Global, word: &str) -> Result<ParserError, Trouble> {
     }
 }
 
-/// The error of a string of so many bytes.
+/// The error for a string of this length.
 fn too_long(alloc: Global, length: usize) -> Result<ShortStringError, Trouble> {
     let mut text = String::new(alloc);
     for _ in 0..length {

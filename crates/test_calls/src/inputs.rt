@@ -1,5 +1,4 @@
-//! Inputs: `input N BYTES BYTES`, what is at the place N of an input of two slices; `parse_value` and the other
-//! parsers show one slice.
+//! Inputs: `input N BYTES BYTES` splits an input of two slices at N. The bytes in one slice have to be the same.
 
 use super::words::{bytes_of, digits, number};
 use super::{Answer, Trouble};
@@ -7,44 +6,43 @@ use amq_protocol_types::parsing::traits::ParsableInput;
 use amq_protocol_types::parsing::{SliceInput, SplitInput};
 use std::alloc::Global;
 
-/// The length, the bytes before the place, the byte there and the bytes from it on, each in its slice, and
-/// the first slice that isn't empty. One slice has the same bytes.
+/// The length, the byte at N, the bytes before it and from it on, each in its slice, and the chunk.
 pub fn answer(alloc: Global, words: &[&str]) -> Answer {
     let [place, word, other] = words else {
         return Err(Trouble::Unknown);
     };
-    let (first, second) = (bytes_of(alloc, *word)?, bytes_of(alloc, *other)?);
-    let mut whole = Vec::from_slice(alloc, first.as_slice())?;
-    whole.extend_from_slice(second.as_slice())?;
-    let one = SliceInput::new(whole.as_slice());
-    if usize::MAX - first.len() < second.len() {
-        return Err(Trouble::Unknown);
-    }
-    let two = SplitInput::new(first.as_slice(), second.as_slice());
+    let mut whole = bytes_of(alloc, *word)?;
+    let cut = whole.len();
+    whole.extend_from_slice(bytes_of(alloc, *other)?.as_slice())?;
+    let whole = whole.as_slice();
+    let (first, second) = whole.split_at(cut.min(whole.len()));
+    let (one, two) = (SliceInput::new(whole), SplitInput::new(first, second));
     let place: usize = number(*place)?;
-    let length = two.input_len();
-    if length < place || one.input_len() != length {
+    if two.input_len() < place || one.input_len() < place {
         return Err(Trouble::Unknown);
     }
-    let (before, after) = (
-        parts_of(alloc, two.take(place))?,
-        parts_of(alloc, two.take_from(place))?,
-    );
-    let byte = match place < length {
-        true => digits(alloc, &[two.byte_at(place)])?,
-        false => String::from_str(alloc, "none")?,
+    let (before, after) = (two.take(place), two.take_from(place));
+    let byte = if place < two.input_len() {
+        digits(alloc, &[two.byte_at(place)])?
+    } else {
+        String::from_str(alloc, "none")?
     };
-    let chunk = digits(alloc, two.chunk())?;
-    let text = format!(in alloc;
-        "length {length} byte {byte} before {before} after {after} chunk {chunk}"
-    )?;
-    if one.chunk() != whole.as_slice()
-        || one.take(place).as_slice() != whole.as_slice().split_at(place.min(whole.len())).0
-        || one.take_from(place).as_slice() != whole.as_slice().split_at(place.min(whole.len())).1
-    {
-        return Ok(format!(in alloc; "{text} but not of one slice")?);
-    }
-    Ok(text)
+    let (first, second) = whole.split_at(place.min(whole.len()));
+    let is_same = one.chunk() == whole
+        && one.take(place).as_slice() == first
+        && one.take_from(place).as_slice() == second;
+    Ok(format!(in alloc;
+        "length {} byte {byte} before {} after {} chunk {}{}",
+        two.input_len(),
+        parts_of(alloc, before)?,
+        parts_of(alloc, after)?,
+        digits(alloc, two.chunk())?,
+        if is_same {
+            ""
+        } else {
+            " but one slice has others"
+        }
+    )?)
 }
 
 /// The two slices of an input.

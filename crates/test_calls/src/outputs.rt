@@ -1,4 +1,4 @@
-//! Outputs: `output WHERE CALLS`, what each call answers, and what the output has then.
+//! Outputs: `output WHERE CALLS` makes the calls one after another. The answer has that of each, and what was written.
 //!
 //! WHERE is a slice's length, `vec`, or `io:STEPS`. A call is `put:BYTES`, `make_room:N`, and of a buffer
 //! `reserve:N`, `fill:AT:BYTES` or `back_to:AT`.
@@ -9,7 +9,7 @@ use super::{Answer, Trouble};
 use amq_protocol_types::generation::{BackToTheBuffer, GenResult, IoOutput, Output, SliceOutput};
 use std::alloc::Global;
 
-/// What the calls answer in turn, then the bytes.
+/// What each call answers, and the state after them.
 pub fn answer(alloc: Global, words: &[&str]) -> Answer {
     let [place, calls @ ..] = words else {
         return Err(Trouble::Unknown);
@@ -61,11 +61,10 @@ fn buffer_call<W: BackToTheBuffer>(
         "fill" => {
             let (at, bytes) = words.split_once(':').unwrap_or((words, "-"));
             let (at, bytes): (u64, _) = (number(at)?, bytes_of(alloc, bytes)?);
-            let position = output.position();
-            if position < at || position - at < bytes.len() as u64 {
-                return Err(Trouble::Unknown);
+            match at.checked_add(bytes.len() as u64) {
+                Some(end) if end <= output.position() => output.fill(at, bytes.as_slice()),
+                _ => return Err(Trouble::Unknown),
             }
-            output.fill(at, bytes.as_slice());
             text.push_str("ok; ")?;
         }
         "back_to" => {

@@ -1,7 +1,7 @@
-//! What `gen_value` writes of values that `parse_value` read.
+//! What `gen_value` writes for values that `parse_value` read.
 //!
-//! Each is written to a vector, and to a slice as long as the bytes that it was read of, and is read back.
-//! `replaced BYTES BYTES` is how the first bytes are read with each of them replaced in turn by each of the second.
+//! Each value is written to a vector and to a slice as long as the bytes that it was read from, and is read back.
+//! `replaced BYTES BYTES` replaces each of the first bytes in turn by each of the second, and counts the outcomes.
 
 use super::values::measure;
 use super::words::{bytes_of, digits};
@@ -11,7 +11,7 @@ use amq_protocol_types::generation::{SliceOutput, WriteContext, gen_value};
 use amq_protocol_types::parsing::{Err, SliceInput, parse_value};
 use std::alloc::Global;
 
-/// What the answer to `wire`, `wire_as` and `wire_sizes` has of a value that was read of some bytes.
+/// The word of `wire`, `wire_as` or `wire_sizes` for a value that was read from `taken` bytes.
 pub fn word_of(
     alloc: Global,
     call: &str,
@@ -44,7 +44,7 @@ pub fn word_of(
     })
 }
 
-/// Whether a value is written to so many bytes as these.
+/// Whether a value is written as these bytes into a slice of this length.
 fn is_written(
     alloc: Global,
     value: &AMQPValue,
@@ -65,7 +65,7 @@ fn is_read(alloc: Global, value: &AMQPValue, bytes: &[u8]) -> bool {
     }
 }
 
-/// How often a replaced byte gives a value, and each of the errors.
+/// How many of the changed inputs are values, need more bytes, and are rejected.
 pub fn replaced(alloc: Global, words: &[&str]) -> Answer {
     let [word, others] = words else {
         return Err(Trouble::Unknown);

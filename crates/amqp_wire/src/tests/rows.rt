@@ -290,3 +290,24 @@ fn a_table_is_read_over_each_cut(rt: HostRuntime) -> Result<(), Fail> {
     }
     Ok(())
 }
+
+/// Of each proper prefix of the table its type tag, its length or its body isn't complete.
+#[test]
+fn each_prefix_of_a_table_needs_more(rt: HostRuntime) -> Result<(), Fail> {
+    let alloc = rt.alloc();
+    let digits = TABLE.as_bytes();
+    let (mut lines, mut want) = (Vec::new(alloc), String::new(alloc));
+    for n in 0..digits.len() / 2 {
+        let needed = match n {
+            0 => 1,
+            1..5 => 5_usize.saturating_sub(n),
+            _ => 199_usize.saturating_sub(n),
+        };
+        let end = n.saturating_mul(2).min(digits.len());
+        lines.extend_from_slice(digits.split_at(end).0)?;
+        lines.push(b'\n')?;
+        want.push_str(format!(in alloc; "more {needed}\n")?.as_str())?;
+    }
+    prints(&rt, alloc, Lines, lines.as_slice(), want.as_bytes(), 0);
+    Ok(())
+}
