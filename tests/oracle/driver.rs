@@ -275,6 +275,7 @@ fn of_flags(words: &[&str]) -> Answer {
             flags.add_flag(name.to_owned(), number(flag)?);
             format!("ok {}", flags_text(&flags))
         }
+        ["get_flag", word, "-"] => format!("{:?}", flags_of(word)?.get_flag("")),
         ["get_flag", word, name] => format!("{:?}", flags_of(word)?.get_flag(name)),
         ["get_bytes", word] => format!("ok {}", digits(&flags_of(word)?.get_bytes())),
         ["from_bytes", names, word] => {
