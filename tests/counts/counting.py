@@ -1,48 +1,52 @@
-"""What calls take: counts.c makes each of them over each input, by itself and under callgrind."""
+"""What each call takes over each input: counts.c makes it, by itself and under callgrind, which counts instructions."""
 
 import re
 import subprocess
+import tempfile
+from collections.abc import Iterator
 from pathlib import Path
+from typing import NamedTuple
 
-from building import CALLS_FOR_C
-from crates import TOP
+from building import CALLS_FOR_C, MALLOC, archive, build_archive
+from crates import TOP, Crates
 
-from tests.counts.inputs import inputs
+from tests.counts.inputs import INPUTS
 
-HERE = Path(__file__).resolve().parent
+SOURCE = Path(__file__).with_name("counts.c")
 LIBRARIES = (*CALLS_FOR_C, "amqp_bench", "amqp_bench_dissect")
-INSTRUCTIONS, REQUESTS, STACK, OF_C = "instructions", "requests", "stack", "instructions of the C library"
-COLUMNS = (INSTRUCTIONS, REQUESTS, "bytes requested", "bytes at once", STACK, "bytes copied or filled", OF_C)
-# The sources whose own instructions aren't counted.
-OWN_SOURCES = ("counts.c", "wrapped.h", "inputs.h")
-# What of the C library is counted by how much it is asked for: the archives import no more.
+# How counts.c is compiled. The libraries use no other function of the C library than these.
 WRAPPED = [f"-Wl,--wrap={it}" for it in ("malloc", "realloc", "free", "memcpy", "memmove", "memset")]
-# How counts.c is compiled.
 C = ["cc", "-O1", "-g", "-std=c11", "-Wall", "-Wextra", "-Werror", f"-I{TOP}/include", *WRAPPED, "-Wl,-z,now"]
-# How callgrind writes its dumps.
-DUMPS = ["--compress-strings=no", "--compress-pos=no"]
-# The counts of a call and an input, by its label.
-Rows = dict[str, list[int]]
+CALLGRIND = ["valgrind", "--tool=callgrind", "--compress-strings=no", "--compress-pos=no"]
 
 
-def instructions(dump: Path, program: Path) -> tuple[str, int, int]:
-    """The label of a dump of callgrind, and the instructions in the program, but for its own sources, and outside."""
-    label, own, outside, skips, is_in_program, is_own = "", 0, 0, False, False, False
-    for line in dump.read_text().split("\n"):
-        if line.startswith("desc: Trigger: "):
-            label = line.partition("Client Request: ")[2]
-        elif line.startswith("ob="):
-            is_in_program = line.endswith(f"/{program.name}")
-        elif line.startswith("fl="):
-            is_own = line.endswith(OWN_SOURCES)
-        elif line.startswith("calls="):
-            skips = True
-        elif found := re.match(r"\d+ (\d+)$", line):
-            count = 0 if skips else int(found[1])
-            own += count if is_in_program and not is_own else 0
-            outside += 0 if is_in_program else count
-            skips = False
-    return label, own, outside
+class Taken(NamedTuple):
+    """What a call takes over an input: what counts.c prints, and instructions."""
+
+    result: int
+    given: int
+    values: int
+    levels: int
+    allocations: int
+    held: int
+    moved: int
+    stack: int
+    instructions: int
+
+
+# By the name of the input.
+OfCall = dict[str, Taken]
+
+
+def build(program: Path, is_built: bool) -> None:
+    """Builds counts.c over the libraries."""
+    crates = Crates()
+    for name in LIBRARIES:
+        done = build_archive(crates, name, is_built)
+        assert done.returncode == 0, f"lib{name}.a: {(done.stderr or done.stdout)[-1000:]}"
+    words = [*C, "-o", program, SOURCE, MALLOC, *(archive(crates, it) for it in LIBRARIES), "-lpthread"]
+    done = subprocess.run([str(it) for it in words], capture_output=True, text=True)
+    assert done.returncode == 0, f"counts.c: {done.stderr[-2000:]}"
 
 
 def printed(words: list[str | Path], **env: str) -> str:
@@ -52,23 +56,53 @@ def printed(words: list[str | Path], **env: str) -> str:
     return done.stdout
 
 
-def counted(folder: Path, program: Path) -> Rows:
-    """The counts of each call and input."""
-    given = folder / "inputs"
-    given.mkdir()
-    for name, data in inputs():
-        (given / name).write_bytes(data)
-    found = {}
-    for line in printed([program, given]).splitlines():
-        label, _, numbers = line.rpartition(" | ")
-        found[label] = [0, *map(int, numbers.split()), 0]
-    callgrind = ["valgrind", "--tool=callgrind", f"--callgrind-out-file={folder}/dump", *DUMPS]
-    printed([*callgrind, program, given], PATH="/usr/bin")
-    for dump in folder.glob("dump.*"):
-        label, own, outside = instructions(dump, program)
-        if label in found:
-            found[label][0], found[label][-1] = own, outside
-    for label in found:
-        if label.startswith("gen_value | "):
-            found[label] = [both - one for both, one in zip(found[label], found[f"parse_value and {label}"])]
-    return found
+def instructions(dump: Path, program: Path) -> tuple[str, int]:
+    """The label of a dump of callgrind, and the instructions of the libraries, whose sources it can't name."""
+    label, total, is_inclusive, of_program, is_unnamed = "", 0, False, False, False
+    for line in dump.read_text().splitlines():
+        if line.startswith("desc: Trigger: "):
+            label = line.partition("Client Request: ")[2]
+        elif line.startswith("ob="):
+            of_program = line.endswith(f"/{program.name}")
+        elif line.startswith("fl="):
+            is_unnamed = line == "fl=???"
+        elif line.startswith("calls="):
+            is_inclusive = True
+        elif found := re.match(r"\d+ (\d+)$", line):
+            total += int(found[1]) if of_program and is_unnamed and not is_inclusive else 0
+            is_inclusive = False
+    return label, total
+
+
+def taken(is_built: bool) -> dict[str, OfCall]:
+    """What each call takes over each input. A byte that is copied or filled counts as an instruction."""
+    found: dict[str, OfCall] = {}
+    with tempfile.TemporaryDirectory(prefix="counts-") as made:
+        folder, program = Path(made), Path(made) / "program"
+        build(program, is_built)
+        for name, given in INPUTS.items():
+            (folder / name).write_bytes(given.given)
+        counted = [folder / name for name, it in INPUTS.items() if it.size]
+        printed([*CALLGRIND, f"--callgrind-out-file={folder}/dump", program, *counted], PATH="/usr/bin")
+        dumped = dict(instructions(it, program) for it in folder.glob("dump.*"))
+        for line in printed([program, *(folder / it for it in INPUTS)]).splitlines():
+            call, name, printed_counts = line.split(" | ")
+            counts = [*map(int, printed_counts.split()), dumped.get(f"{call} | {name}", 0)]
+            it = Taken._make(counts)
+            found.setdefault(call, {})[name] = it._replace(instructions=it.instructions + it.moved)
+    once, twice = found.pop("parse_value and gen_value"), found.pop("parse_value and gen_value twice")
+    found["gen_value"] = {name: second(of_once, twice[name]) for name, of_once in once.items()}
+    return dict(sorted(found.items(), key=lambda it: it[0].lower()))
+
+
+def second(once: Taken, twice: Taken) -> Taken:
+    """What the second writing takes."""
+    return once._replace(**{it: getattr(twice, it) - getattr(once, it) for it in Taken._fields[4:]})
+
+
+def grown(found: OfCall) -> Iterator[tuple[str, Taken, Taken]]:
+    """Each input that is twice as large as another of its shape: its name, and what a call takes over that other and over it."""
+    for name, now in found.items():
+        half = found.get(INPUTS[name]._replace(size=INPUTS[name].size // 2).name())
+        if half and INPUTS[name].size > 1:
+            yield name, half, now

@@ -1,58 +1,114 @@
-"""The inputs whose calls are counted: those of bench/ten.py, and tables of n, 2 n and 4 n entries, levels or bytes."""
+"""The inputs of calls whose cost is counted: a client's messages, tables of several sizes, and what makes calls hold memory."""
 
 from collections.abc import Iterator
+from typing import NamedTuple
 
 import ten
 
-N = 500
+from tests.model.printed import field, nested
+
+# How many entries the smallest table of a shape has. Tables of 16 KiB and more are built in another way, so all have that.
+N = 2000
+# How deep the smallest one nests: amqpv_from_json reads 127 levels, which are four times as many and the table around them.
+LEVELS = 31
 
 Pairs = list[tuple[str, ten.Value]]
 
 
-def key_of(pair: tuple[str, ten.Value]) -> str:
-    return pair[0]
+class Input(NamedTuple):
+    """The encoding of a table, or JSON text: how large it is of its shape, or 0 if only memory is measured, and how deep."""
 
+    shape: str
+    given: bytes
+    size: int = 0
+    levels: int = 0
 
-def shapes(n: int) -> Iterator[tuple[str, Pairs]]:
-    """Tables of n entries, or with n levels or bytes in them."""
-    pairs = list(ten.entries(n).items())
-    yield "entries in order", sorted(pairs, key=key_of)
-    yield "entries in reverse", sorted(pairs, key=key_of, reverse=True)
-    yield "entries at random", pairs
-    yield "equal keys", [("key", value) for _, value in pairs]
-    yield "long keys", [("k" * 249 + key[4:], value) for key, value in pairs]
-    yield "numbers", [("v", [ten.number("I", it) for it in range(n)])]
-    yield "a string", [("v", ten.text("x" * 100 * n))]
-    yield "a string of escapes", [("v", ten.text("\x01" * 20 * n))]
-    yield "arrays in arrays", [("v", in_arrays(n // 10))]
-    yield "tables in tables", [("v", ten.nested(n // 10))]
-    yield "unordered tables in tables", [("v", in_unordered_tables(n // 10))]
-
-
-def in_arrays(levels: int) -> bytes:
-    """An array in an array, and so on."""
-    value = ten.encoded([], False)
-    for _ in range(levels - 1):
-        value = ten.encoded([value], False)
-    return value
-
-
-def in_unordered_tables(levels: int) -> bytes:
-    """A table in a table, and so on, each the last value of a key that comes twice, after a key above it."""
-    value = b"V"
-    for _ in range(levels):
-        value = ten.counted(b"F", b"\1bV\1aV\1a" + value)
-    return value
+    def name(self) -> str:
+        return f"{self.shape}, {self.size} n" if self.size else self.shape
 
 
 def table_of(pairs: Pairs) -> bytes:
-    """The table of these pairs, in this order, of which some may have equal keys."""
-    body = b"".join(bytes([len(key)]) + key.encode() + ten.encoded(value, False) for key, value in pairs)
-    return ten.counted(b"F", body)
+    """The table of these pairs in this order. Keys may be equal."""
+    return field(b"F", b"".join(bytes([len(key)]) + key.encode() + ten.encoded(it, False) for key, it in pairs))
 
 
-def inputs() -> Iterator[tuple[str, bytes]]:
-    """Yields the name and the bytes of each input."""
-    yield from ((it.label, it.given) for it in ten.ten())
-    for times in (1, 2, 4):
-        yield from ((f"{name}, {times} n", table_of(pairs)) for name, pairs in shapes(times * N))
+def unordered(levels: int) -> bytes:
+    """Tables in tables. Each is the last value of a key that comes twice, after a higher key."""
+    value = b"V"
+    for _ in range(levels):
+        value = field(b"F", b"\1bV\1aV\1a" + value)
+    return value
+
+
+def messages() -> Iterator[tuple[str, ten.Value]]:
+    yield "every type", ten.every_type()
+    yield "message headers", ten.message_headers()
+    yield "server's properties", ten.server_properties()
+
+
+def flat(n: int) -> Iterator[tuple[str, Pairs]]:
+    """Tables of n entries, or of as many bytes as these have."""
+    pairs = list(ten.entries(n).items())
+    yield "entries in order", sorted(pairs, key=lambda it: it[0])
+    yield "entries in reverse", sorted(pairs, key=lambda it: it[0], reverse=True)
+    yield "entries at random", pairs
+    yield "equal keys", [("key", value) for _, value in pairs]
+    yield "long keys", [("k" * 249 + key[4:], value) for key, value in pairs[: n // 4]]
+    yield "numbers", [("v", [ten.number("I", it) for it in range(n)])]
+    yield "a string", [("v", ten.text("x" * 20 * n))]
+    yield "a string of escapes", [("v", ten.text("\x01" * 4 * n))]
+
+
+def deep(levels: int) -> Iterator[tuple[str, Pairs]]:
+    yield "arrays in arrays", [("v", nested("A", levels, b""))]
+    yield "tables in tables", [("v", nested("F", levels, b"V", b"\1n"))]
+    yield "unordered tables in tables", [("v", unordered(levels))]
+
+
+def counted() -> Iterator[Input]:
+    """The inputs of which everything is counted."""
+    yield from (Input(name, ten.encoded(value, False), 1) for name, value in messages())
+    for size in (1, 2, 4):
+        yield from (Input(name, table_of(pairs), size) for name, pairs in flat(size * N))
+    for size in (1, 2, 4, 8, 16):
+        yield from (Input(name, table_of(pairs), size, size * LEVELS) for name, pairs in deep(size * LEVELS))
+
+
+# What isn't canonical, so that what follows isn't copied as it is.
+ODD = b"t\7"
+# A table whose keys don't ascend, of which JSON can't be written as they come.
+FALLING = field(b"F", b"\1aV\0V")
+# What an array has again and again: tables of a pair, in each other too, and strings of few bytes.
+ITEMS = {
+    "tables of a pair": field(b"F", b"\0V"),
+    "60 tables in each other": nested("F", 60, b"V", b"\0"),
+    "strings": field(b"S", b"\0"),
+}
+# Texts of a hundred kilobytes: an array before a lower key, which is encoded twice, and objects of which no member counts.
+ZEROS = ",".join("0" * 50_000)
+NO_VALUES = "".join(f'"{key}":-0,' for key in sorted(f"{it:x}" for it in range(1 << 13)))
+TEXTS = {
+    "zeros before a lower key": f'{{"b":[{ZEROS}],"a":0}}',
+    "arrays before a lower key": f'{{"b":[{",".join(["[0]"] * 25_000)}],"a":0}}',
+    "zeros after a member of no value": f'{{"":-0,"{"k" * 255}":[{ZEROS}],"":0}}',
+    "rejected, keys of no value": '{"\\n":-0,' + NO_VALUES + '"":-0}',
+    "rejected, objects of no value": '{"":{"ShortString":""},"":-0,"":' * 126 + "-0" + "}" * 126,
+    "rejected, zeros": f"[{ZEROS},-0]",
+}
+
+
+def held() -> Iterator[Input]:
+    """The inputs for which calls hold most memory. A buffer is largest just after it has grown, so there are several sizes."""
+    for n in (1000, 1414, 2000, 2828, 4000, 30_000):
+        for name, item in ITEMS.items():
+            yield Input(f"{name}, {n} bytes", table_of([("v", field(b"A", ODD + item * (n // len(item))))]))
+        zeros = field(b"S", bytes(n))
+        yield Input(f"a string, {n} bytes", table_of([("v", field(b"A", ODD + zeros))]))
+        yield Input(f"a string and falling keys, {n} bytes", table_of([("v", field(b"A", zeros + FALLING))]))
+        keys = sorted(f"{it:x}" for it in range(n // 5))
+        yield Input(f"short keys, {n} bytes", table_of([(it, b"V") for it in keys]))
+        yield Input(f"short keys in reverse, {n} bytes", table_of([(it, b"V") for it in reversed(keys)]))
+    yield from (Input(name, text.encode()) for name, text in TEXTS.items())
+
+
+INPUTS = {it.name(): it for it in (*counted(), *held())}

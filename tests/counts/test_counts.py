@@ -1,102 +1,179 @@
-"""What calls take, so that no loss of speed goes unnoticed.
+"""What each call takes, by table.txt: a call that takes more than its row fails. `--write` writes the table anew.
 
-Each call of counts.c over each input (inputs.py): the instructions of this library's own code, under callgrind; requests for
-memory, their bytes and the most bytes at once; the bytes of stack; the bytes that the C library copies or fills; and its
-instructions. A count fails that is over its row of counts.rows, the instructions by more than 0.2 % and the stack by more than
-256 bytes, which the C library's own may vary. So do instructions, requests and stack that from n to 2 n or from 2 n to 4 n grow
-by more than 2.1. With keys to be sorted that is 2.65: instructions grow by more than their number, and tables of 16 KiB or more
-are built in another way. The C library's instructions may be any: it chooses its memcpy by the processor.
+The kit compiles the library, so a call takes the same instructions wherever the same kit builds it. A row lets it take 0.5 %
+more, which another kit may need; a change of a loop makes more. Allocations and the memory that is held don't depend on the
+machine. The C library's own stack may vary by 256 bytes.
 
---write lowers the rows, and adds new ones. A row that is raised by hand has its reason, and the commit's subject, after a #.
+If the input doubles, instructions may grow by 2.25 at most. They double if nothing is sorted, and to sort n keys takes n log n
+comparisons, which grow by 2.2. Those of a call that is quadratic grow by 4.
+
+A call that has no allocation in its row may not allocate. `--write` leaves such a row, so that it has to be changed by hand.
 """
 
-from collections.abc import Callable
+import re
+from collections.abc import Callable, Iterable, Sequence
 from pathlib import Path
+from statistics import mean
+from typing import NamedTuple
 
 import pytest
+from crates import TOP
 
-from tests.counts.counting import COLUMNS, INSTRUCTIONS, OF_C, REQUESTS, STACK, Rows, counted
-from tests.counts.rows import rows, write
+from tests.counts.counting import OfCall, Taken, grown, taken
+from tests.counts.inputs import INPUTS
 
-# What a count may be, by its row; the others may be no more than it.
-MOST: dict[str, Callable[[int], float]] = {
-    INSTRUCTIONS: lambda it: it * 1.002,
-    STACK: lambda it: it + 256,
-    OF_C: lambda it: float("inf"),
-}
-# What may not grow by more than this, from a count that isn't few.
-FEW = {INSTRUCTIONS: 2000, REQUESTS: 20, STACK: 2000}
-GROWTH, SORTED_GROWTH, BRACKETS_GROWTH = 2.1, 2.65, 2.4
-# How the names of calls begin that sort keys or look for equal ones, over tables of many.
-SORTING = (
-    "amqpv_canonical",
-    "amqpv_to_json",
-    "amqpv_from_json",
-    "amqpv_first_warnings",
-    "parse_value",
-    "ValueReader",
+TABLE, HEADER = Path(__file__).with_name("table.txt"), TOP / "include/amqp_values.h"
+HEAD = """\
+What each call takes. `tests/run counts` fails if a call takes more, and `tests/run counts --write` writes this table anew.
+
+instructions  for 1,000 bytes of input, the average over messages and tables; a byte that is copied counts as one
+allocations   over the same inputs, in all; a call with `-` never allocates
+held          the most bytes of memory at once for each byte of input
+stack         bytes, with `a level` for each level of nesting
+growth        how many times as many instructions a call takes at most if the input doubles
+
+"""
+# Inputs of fewer bytes don't show what is held for each byte.
+LARGE = 10_000
+
+
+class Column(NamedTuple):
+    """A column of the table: how its numbers are written, and the most that a call may take by its row."""
+
+    name: str
+    form: str
+    most: Callable[[float], float]
+
+    def written(self, number: float) -> str:
+        text = self.form.format(number)
+        return text if float(text.replace(",", "")) else NONE
+
+
+ALLOCATIONS, NONE = 1, "-"
+COLUMNS = (
+    Column("instructions", "{:,.0f}", lambda row: row * 1.005),
+    Column("allocations", "{:,.0f}", lambda row: row),
+    Column("held", "{:,.1f}", lambda row: row),
+    Column("stack", "{:,.0f}", lambda row: row + 256),
+    Column("a level", "{:,.0f}", lambda row: row + 4),
+    Column("growth", "{:.2f}", lambda row: 2.25),
 )
-# The labels of rows, each of a call and an input; and of those over tables of 2 n and 4 n, that of half as many.
-LABELS = [*rows()[0]]
-HALF = {"2 n": "1 n", "4 n": "2 n"}
-GROWING = [it for it in LABELS if it.rpartition(", ")[2] in HALF]
+# The numbers of each call, as the table has them.
+Rows = dict[str, list[str]]
+# A number, and the input that it is of.
+Most = tuple[float, str]
+
+
+def number(written: str) -> float:
+    return 0 if written == NONE else float(written.replace(",", ""))
+
+
+def most(found: Iterable[Most]) -> Most:
+    return max(found, default=(0, ""))
+
+
+def numbers(found: OfCall) -> list[Most]:
+    """The numbers of a call."""
+    of_size, pairs = [it for name, it in found.items() if INPUTS[name].size == 1], [*grown(found)]
+    levels = {name: INPUTS[name].levels for name in found}
+    return [
+        (mean(it.instructions * 1000 / it.given for it in of_size), ""),
+        (sum(it.allocations for it in of_size), ""),
+        most((it.held / it.given, name) for name, it in found.items() if it.given >= LARGE),
+        most((it.stack, name) for name, it in found.items() if INPUTS[name].size and not levels[name]),
+        most((2 * (now.stack - half.stack) / levels[name], name) for name, half, now in pairs if levels[name]),
+        most((now.instructions / max(half.instructions, 1), name) for name, half, now in pairs),
+    ]
+
+
+def rows() -> Rows:
+    """The rows of the table."""
+    lines = TABLE.read_text().rpartition("\n\n")[2].splitlines()[1:] if TABLE.exists() else []
+    return {call: row for call, *row in (re.split(r"\s{2,}", it) for it in lines)}
+
+
+def write(found: dict[str, OfCall], old: Rows) -> None:
+    """Writes the table."""
+    lines = [["call", *(it.name for it in COLUMNS)]]
+    for call, of_call in found.items():
+        row = [column.written(it) for column, (it, _) in zip(COLUMNS, numbers(of_call))]
+        if call in old and old[call][ALLOCATIONS] == NONE:
+            row[ALLOCATIONS] = NONE
+        lines.append([call, *row])
+    TABLE.write_text(HEAD + "".join(f"{call:<38}" + "".join(f"{it:>14}" for it in row) + "\n" for call, *row in lines))
+
+
+def fail_if(wrong: Sequence[str]) -> None:
+    if wrong:
+        pytest.fail("\n".join(wrong), pytrace=False)
 
 
 @pytest.fixture(scope="module")
-def found(folder: Path, programs: Path) -> Rows:
-    """The counts of each call and input, now."""
-    return counted(folder, programs / "counts")
+def found(request: pytest.FixtureRequest) -> dict[str, OfCall]:
+    """What each call takes now."""
+    return taken(bool(request.config.getoption("--built")))
 
 
 @pytest.fixture(scope="module")
-def kept(request: pytest.FixtureRequest, found: Rows, notes: list[str]) -> Rows:
+def table(request: pytest.FixtureRequest, found: dict[str, OfCall]) -> Rows:
     """The rows, which --write writes anew."""
     if request.config.getoption("--write"):
-        write(found, *rows())
-    old, why = rows()
-    notes.extend(f"{label}: raised: {reason}" for label, reason in why.items())
-    return old
+        write(found, rows())
+    return rows()
 
 
-def test_each_call_and_input_has_a_row(found: Rows, kept: Rows) -> None:
-    assert sorted(found.keys() - kept.keys()) == [], "tests/run counts --write adds them"
+def test_each_call_has_a_row(found: dict[str, OfCall], table: Rows) -> None:
+    assert [*table] == [*found], "tests/run counts --write writes the table anew"
 
 
-def test_each_row_is_of_a_call_and_input(found: Rows, kept: Rows) -> None:
-    assert sorted(kept.keys() - found.keys()) == []
+def test_each_call_is_done(found: dict[str, OfCall]) -> None:
+    """Each call returns AMQPV_OK or AMQPV_NONE, or for a text that is rejected another code."""
+    results = [(call, name, it.result) for call, of_call in found.items() for name, it in of_call.items()]
+    fail_if([f"{call}, {name}: {it}" for call, name, it in results if (it < 0) != name.startswith("rejected")])
 
 
-@pytest.mark.parametrize("label", LABELS)
-def test_row(label: str, found: Rows, kept: Rows) -> None:
-    """Each count is within its row."""
-    if label not in kept:
-        return  # --write has left it out
-    counts, limits = found[label], {name: MOST.get(name, int)(it) for name, it in zip(COLUMNS, kept[label])}
-    over = [f"{it:,} {name}, over {limits[name]:,.0f}" for name, it in zip(COLUMNS, counts) if it > limits[name]]
-    assert over == []
-    assert counts[0] > 0, "no instruction was counted"
+@pytest.mark.parametrize("call", rows())
+def test_row(call: str, found: dict[str, OfCall], table: Rows) -> None:
+    """A call takes no more than its row."""
+    if call not in found or call not in table:
+        return  # the first test fails, or --write has removed the row
+    wrong = []
+    for column, was, (now, name) in zip(COLUMNS, table[call], numbers(found[call])):
+        is_now, may_be = column.written(now), column.written(column.most(number(was)))
+        if number(is_now) > number(may_be):
+            of_input = f" with {name}" if name else ""
+            wrong.append(f"{call}, {column.name}{of_input}: was {was}, is {is_now}, may be {may_be}")
+    fail_if(wrong)
 
 
-def most_growth(call: str, shape: str) -> float:
-    """By how much a call's counts may grow over a table of twice as many of this shape."""
-    if call.startswith("amqpv_from_json") and shape == "arrays in arrays":
-        # the brackets of n are too few to be looked at
-        return BRACKETS_GROWTH
-    sorts = call.startswith(SORTING) and ("entries" in shape or "keys" in shape)
-    return SORTED_GROWTH if sorts else GROWTH
+# What the header states that calls hold at most, and how much that is.
+STATED: dict[tuple[str, ...], tuple[str, Callable[[Taken], float]]] = {
+    ("amqpv_canonical",): (
+        "145 for each byte, or 4 for each byte and 860 for each value",
+        lambda it: min(145 * it.given, 4 * it.given + 860 * it.values),
+    ),
+    ("amqpv_to_json",): ("12 for each byte, and none if the keys of each table ascend", lambda it: 12 * it.given),
+    ("amqpv_from_json", "amqpv_from_json_or_problem"): (
+        "8 for each byte of the text and 57,000 more, or 9 for each byte and 69,000 more if it is rejected",
+        lambda it: 8 * it.given + 57_000 if it.result == 0 else 9 * it.given + 69_000,
+    ),
+    ("amqpv_first_warnings", "amqpv_first_warnings_in_table"): (
+        "50 for each byte, or 39 for each value and 248 for each level",
+        lambda it: min(50 * it.given, 39 * it.values + 248 * it.levels),
+    ),
+}
 
 
-@pytest.mark.parametrize("label", GROWING)
-def test_growth(label: str, found: Rows, kept: Rows) -> None:
-    """From n to 2 n, and from 2 n to 4 n, no count that isn't few grows by more than it may."""
-    if label not in kept:
-        return  # --write has left it out
-    call, _, name = label.partition(" | ")
-    shape, _, times = name.rpartition(", ")
-    most = most_growth(call, shape)
-    grown = [
-        f"{it:,} {kind}, {it / least:.2f} times those of {HALF[times]}"
-        for it, least, kind in zip(found[label], found[f"{call} | {shape}, {HALF[times]}"], COLUMNS)
-        if kind in FEW and least > FEW[kind] and it > most * least
-    ]
-    assert grown == []
+def test_header_states_each_call_that_holds_memory(found: dict[str, OfCall]) -> None:
+    holding = {call for call, it in found.items() if call.startswith("amqpv_") and any(of.held for of in it.values())}
+    assert holding == {call for calls in STATED for call in calls}
+
+
+@pytest.mark.parametrize("calls", STATED)
+def test_held_is_stated(calls: tuple[str, ...], found: dict[str, OfCall]) -> None:
+    """No input takes more memory than the header states."""
+    stated, most_of = STATED[calls]
+    header = " ".join(HEADER.read_text().replace("\n * ", " ").split())
+    assert f"{' and '.join(calls)} {stated}" in header
+    held = [(call, name, it.held, most_of(it)) for call in calls for name, it in found[call].items()]
+    fail_if([f"{call} holds {it:,} bytes with {name}, {may:,} are stated" for call, name, it, may in held if it > may])
