@@ -21,21 +21,6 @@ pub fn message(alloc: Global, error: ParserError) -> Answer {
     Ok(text)
 }
 
-/// The variant of `Error` that an error becomes, and the text of both.
-macro_rules! told {
-    ($alloc:expr, $error:expr) => {{
-        let error = $error;
-        let own = format!(in $alloc; "{error}")?;
-        let error = Error::from(error);
-        let text = format!(in $alloc; "{error}")?;
-        if own.as_str() != text.as_str() {
-            return Ok(format!(in $alloc; "{text} but {own} itself")?);
-        }
-        let variant = variant_of(&error);
-        Ok(format!(in $alloc; "{variant}: {text}")?)
-    }};
-}
-
 fn variant_of(error: &Error) -> &str {
     match error {
         Error::ShortString(_) => "ShortString",
@@ -49,40 +34,49 @@ fn variant_of(error: &Error) -> &str {
 
 /// The variant of `Error` that the named error becomes, and its text.
 pub fn answer(alloc: Global, words: &[&str]) -> Answer {
-    match words {
-        ["GenError::BufferTooSmall"] => told!(alloc, GenError::BufferTooSmall),
-        ["GenError::LengthTooLong"] => told!(alloc, GenError::LengthTooLong),
-        ["GenError::OutOfMemory"] => told!(alloc, GenError::OutOfMemory),
-        ["GenError::InvalidOffset"] => told!(alloc, GenError::InvalidOffset),
-        ["GenError::IoError", kind] => told!(alloc, GenError::IoError(kind_of(*kind)?)),
-        ["StreamError::Truncated"] => told!(alloc, StreamError::Truncated),
-        ["StreamError::OutOfMemory"] => told!(alloc, StreamError::OutOfMemory),
-        ["StreamError::Failed"] => told!(alloc, StreamError::Failed),
-        ["StreamError::Read", kind] => told!(alloc, StreamError::Read(kind_of(*kind)?)),
-        ["StreamError::Refused", word] => match parser_error(alloc, *word)? {
-            Err::Error(error) => told!(alloc, StreamError::Refused(error)),
-            _ => Err(Trouble::Unknown),
+    let error = error_of(alloc, words)?;
+    let variant = variant_of(&error);
+    Ok(format!(in alloc; "{variant}: {error}")?)
+}
+
+fn error_of(alloc: Global, words: &[&str]) -> Result<Error, Trouble> {
+    Ok(match words {
+        ["AllocError"] => Error::from(AllocError),
+        ["GenError::BufferTooSmall"] => Error::from(GenError::BufferTooSmall),
+        ["GenError::LengthTooLong"] => Error::from(GenError::LengthTooLong),
+        ["GenError::OutOfMemory"] => Error::from(GenError::OutOfMemory),
+        ["GenError::InvalidOffset"] => Error::from(GenError::InvalidOffset),
+        ["StreamError::Truncated"] => Error::from(StreamError::Truncated),
+        ["StreamError::OutOfMemory"] => Error::from(StreamError::OutOfMemory),
+        ["StreamError::Failed"] => Error::from(StreamError::Failed),
+        ["TryCopyError::OutOfMemory"] => Error::from(TryCopyError::OutOfMemory),
+        ["ParserError::Incomplete"] => Error::from(incomplete(Needed::Unknown)),
+        [name, word] => return error_with(alloc, *name, *word),
+        _ => return Err(Trouble::Unknown),
+    })
+}
+
+/// The error of this name that holds something.
+fn error_with(alloc: Global, name: &str, word: &str) -> Result<Error, Trouble> {
+    Ok(match name {
+        "GenError::IoError" => Error::from(GenError::IoError(kind_of(word)?)),
+        "StreamError::Read" => Error::from(StreamError::Read(kind_of(word)?)),
+        "StreamError::Refused" => match parser_error(alloc, word)? {
+            Err::Error(error) => Error::from(StreamError::Refused(error)),
+            _ => return Err(Trouble::Unknown),
         },
-        ["ParserError::Error", word] => told!(alloc, parser_error(alloc, *word)?),
-        ["ParserError::Incomplete"] => {
-            let error: ParserError = Err::Incomplete(Needed::Unknown);
-            told!(alloc, error)
+        "ParserError::Error" => Error::from(parser_error(alloc, word)?),
+        "ParserError::Incomplete" => Error::from(incomplete(Needed::Size(number(word)?))),
+        "ShortStringError" => Error::from(too_long(alloc, number(word)?)?),
+        "TryCopyError::TooLong" => {
+            Error::from(TryCopyError::TooLong(too_long(alloc, number(word)?)?))
         }
-        ["ParserError::Incomplete", count] => {
-            let error: ParserError = Err::Incomplete(Needed::Size(number(*count)?));
-            told!(alloc, error)
-        }
-        ["ShortStringError", length] => told!(alloc, too_long(alloc, number(*length)?)?),
-        ["TryCopyError::TooLong", length] => {
-            told!(
-                alloc,
-                TryCopyError::TooLong(too_long(alloc, number(*length)?)?)
-            )
-        }
-        ["TryCopyError::OutOfMemory"] => told!(alloc, TryCopyError::OutOfMemory),
-        ["AllocError"] => told!(alloc, AllocError),
-        _ => Err(Trouble::Unknown),
-    }
+        _ => return Err(Trouble::Unknown),
+    })
+}
+
+fn incomplete(needed: Needed) -> ParserError {
+    Err::Incomplete(needed)
 }
 
 /// The error for a string that isn't UTF-8, for a value that is too large, or for these bytes.
