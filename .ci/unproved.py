@@ -10,7 +10,7 @@ the calls for C.
 
 import re
 import sys
-from collections.abc import Collection, Iterable, Sequence
+from collections.abc import Collection, Iterable, Mapping, Sequence
 from functools import partial
 from pathlib import Path
 
@@ -50,13 +50,13 @@ def by_tests(crate: str, step: Step) -> Judged:
     return len(tried) - len(failed), len(failed + missing), f"{len(tried)} tests{failures(failed + missing)}"
 
 
-def by_cases(count: int, step: Step) -> Judged:
-    """Judges the cases of a program by the line that `rt try --cases` has for each."""
+def by_cases(statuses: Mapping[str, int], step: Step) -> Judged:
+    """Judges the cases of a program by the line that `rt try --cases` has for each: its output and its exit status."""
     text = step.out.read_text(errors="replace") + step.err.read_text(errors="replace")
-    found = re.findall(r"(?m)^case=(\S+) (.*)$", text)
-    failed = [name for name, said in found if "run=ended" not in said or "output=expected" not in said]
-    lacks = count - len(found)
-    return len(found) - len(failed), len(failed) + lacks, f"{len(found)} of {count} cases{failures(failed)}"
+    found = dict(re.findall(r"(?m)^case=(\S+) (.*)$", text))
+    wants = {name: f"run=ended status={status} .*output=expected" for name, status in statuses.items()}
+    failed = [name for name, line in wants.items() if not re.match(line, found.get(name, ""))]
+    return len(wants) - len(failed), len(failed), f"{len(wants)} cases{failures(failed)}"
 
 
 def write_case(path: Path, stdin: bytes, stdout: bytes, words: Sequence[str]) -> None:
@@ -77,8 +77,9 @@ def add_runs(steps: Steps, name: str, crate: Path) -> None:
     for case in cases:
         write_case(folder / case.name, case.given, case.wants.out, case.words)
     files = [word for it in sorted(crate.glob("data/*")) for word in ("--data", f"{it.name}={it}")]
+    statuses = {"stored_run": int(content(crate / "status") or 0), **{it.name: it.wants.status for it in cases}}
     words = ["rt", "try", "--cases", folder, *files]
-    steps.add(f"{name}-runs", words, cwd=crate, judge=partial(by_cases, 1 + len(cases)))
+    steps.add(f"{name}-runs", words, cwd=crate, judge=partial(by_cases, statuses))
 
 
 def add_steps(steps: Steps, crates: Crates, wanted: Collection[str]) -> None:
