@@ -1,0 +1,15 @@
+pub mod Keys
+pub mod Turns
+pub mod Loops
+pub mod Refusals
+pub mod Soles
+pub mod Scalars
+pub mod Ends
+pub mod Back
+pub mod ReadBack
+pub mod Encoded
+pub mod Bytes
+pub mod Printed
+pub mod PrintedContainers
+pub mod Rising
+pub mod Ascents
