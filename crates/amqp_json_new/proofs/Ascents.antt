@@ -118,7 +118,7 @@ before_written : (k s : List ℕ) (ps : Entries) (p : TableBody s ps) → (Comes
 before_written k _ _ no_pairs = (λ x. x, λ x. x)
 before_written k _ _ (pair j w rest v ps is p q) = (λ x. x, λ x. x)
 
-written_rises : (s : List ℕ) (ps : Entries) (p : TableBody s ps) → (IsRising ps → IsRising (pairs_written s ps p)) × (IsRising (pairs_written s ps p) → IsRising ps)
+pub written_rises : (s : List ℕ) (ps : Entries) (p : TableBody s ps) → (IsRising ps → IsRising (pairs_written s ps p)) × (IsRising (pairs_written s ps p) → IsRising ps)
 written_rises _ _ no_pairs = (λ x. x, λ x. x)
 written_rises _ _ (pair j w rest v ps is p q) =
     let before = before_written j rest ps q in

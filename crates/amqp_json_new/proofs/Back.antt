@@ -11,6 +11,8 @@ use Rattle.std.specs.Str.{is_utf8}
 use mir.Val.{bits, hbits, SFits}
 use Rattle.std.proofs.Math.Facts.{sfits_to_z}
 use Rattle.std.proofs.lemmas.Fmt.{decimal_is_IsNumeral}
+use Rattle.std.proofs.lemmas.Slice.Eq.{bytes_eq-Decides}
+use Rattle.std.specs.Str.{bytes_eq}
 use Rattle.std.proofs.lemmas.Int.{of_z-to_z}
 use Rattle.std.proofs.lemmas.Nat.{from_be_bytes-to_be_bytes_4, from_be_bytes-to_be_bytes_8}
 use Rattle.hex.specs.Hex.{encode_lower, decode_of, IsBytes}
@@ -44,7 +46,10 @@ below : (limit n : ℕ) → n < limit → unsigned_below limit (dt.number (dt.un
 below limit n h = let e : nat_lt n limit ≡ true = grind (arith) in rw e refl
 
 natural_back : (limit n : ℕ) → n < limit → limit ≤ 2 ^ 64 → natural_in limit (digits n) ≡ Some n
-natural_back limit n h few = ap (option_and_then (λ x. unsigned_below limit (dt.number x))) (number_of-decimal n (omega (arith, h, few))) ∙ below limit n h
+natural_back limit n h few =
+    let low : nat_lt n limit ≡ true = grind (arith) in
+    let same : bytes_eq (digits n) (digits n) ≡ true = (bytes_eq-Decides (digits n) (digits n)).1 refl in
+    rw (number_of-decimal n (omega (arith, h, few)), same, low) refl
 
 unsigned_back : (type : AMQPType) (n : ℕ) → n < 2 ^ 64 → number_in type (digits n) ≡ core.json (dt.number (dt.unsigned n)) type
 unsigned_back type n h = ap (option_and_then (λ x. core.json (dt.number x) type)) (number_of-decimal n h)

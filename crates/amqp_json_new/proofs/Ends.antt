@@ -11,7 +11,11 @@ use Rattle.amqp_value_core.specs.Grammar.{Wire}
 use Rattle.amqp_value_core.specs.Texts.{text}
 use Rattle.amqp_value_core.specs.Outcomes.{Reading, found, more, unknown, malformed, Outcome}
 use Rattle.amqp_value_core.proofs.GrammarLaws.{one_outcome, one_reading, prefix_within, wire_found}
-use Rattle.amqp_json_new.specs.Meaning.{meaning, meant, IsEncodingOf, IsEncodedAsItComes}
+use Rattle.amqp_json_new.specs.Conversions.{IsEncodingOf, IsRefused}
+use Rattle.amqp_json_new.specs.Meaning.{meaning, meant}
+use Rattle.amqp_json_new.specs.Puts.{IsEncodedAsItComes, OnRefusal}
+use Rattle.amqp_json_new.specs.declared.error.JsonError.{JsonError}
+use Rattle.amqp_json_new.specs.declared.error.JsonError.TheVariants.{OutOfMemory, TooLarge, Syntax, NotAValue}
 
 abbrev pub pick : Tree → Reading → Tree
 pick v (found u rest) = u
@@ -41,6 +45,12 @@ by : (o : Option (Json × List Token)) → ((v : Tree) → converted meaning o �
 by None none = refl
 by (Some p) none = left_over (meaning p.0) p.1 none p.0 refl
 
--- a text of which no value is read, and nothing after it, means none
-pub none_meant : (t : List ℕ) → ((v : Tree) → converted meaning (value 127 (tokens t)) ≢ Some (v, [])) → meant t ≡ None
+none_meant : (t : List ℕ) → ((v : Tree) → converted meaning (value 127 (tokens t)) ≢ Some (v, [])) → meant t ≡ None
 none_meant t none = by (value 127 (tokens t)) none
+
+-- a text of which no value is read, and nothing after it, means none
+pub refused : (e : JsonError) (t : List ℕ) → OnRefusal e ((v : Tree) → converted meaning (value 127 (tokens t)) ≢ Some (v, [])) → IsRefused e t
+refused OutOfMemory t none = tt
+refused TooLarge t none = tt
+refused (Syntax at) t none = none_meant t none
+refused (NotAValue at mismatch) t none = none_meant t none

@@ -13,3 +13,6 @@ pub mod Printed
 pub mod PrintedContainers
 pub mod Rising
 pub mod Ascents
+pub mod Again
+pub mod Decoded
+pub mod InOrder

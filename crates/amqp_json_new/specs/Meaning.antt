@@ -1,8 +1,9 @@
 -- Which value a JSON text means. An object whose only key is `$` and the name of a type is a value of that type;
 -- any other key that begins with `$` is written with one more.
-use Rattle.std.specs.Prelude.{ℕ, ◌≡◌, ◌≤◌, ◌^◌, ◌&&◌, ◌||◌, ◌==◌, List, drop, length, slice_index, Bool, not, nat_lt, if◌then◌else◌, Option, Some, None, option_map, option_and_then}
+use Rattle.std.specs.Prelude.{ℕ, ◌≡◌, ◌≤◌, ◌^◌, ◌&&◌, ◌||◌, ◌==◌, List, drop, length, decimal, slice_index, Bool, not, nat_lt, if◌then◌else◌, Option, Some, None, option_map, option_and_then}
 use Rattle.std.specs.List.{before_first, after_first}
 use Rattle.std.specs.Result.{result_ok}
+use Rattle.std.specs.Str.{bytes_eq}
 use Rattle.std.specs.Int.{w32, w64, from_be_bytes}
 use Rattle.hex.specs.Hex.{decode_of, decode_sized}
 use Rattle.json.specs.Lex.{tokens}
@@ -35,9 +36,13 @@ is_e c = c == 101
 abbrev pub number_in : AMQPType → List ℕ → Option Tree
 number_in type s = option_and_then (λ n. core.json (dt.number n) type) (number_of s)
 
--- the natural number, if it is below the limit
+-- the natural number that is written so
+abbrev pub natural_of : List ℕ → Option ℕ
+natural_of s = option_and_then (λ n. if bytes_eq (decimal n) s then Some n else None) (option_and_then (λ n. core.unsigned (dt.number n)) (number_of s))
+
+-- the same, if it is below the limit
 abbrev pub natural_in : ℕ → List ℕ → Option ℕ
-natural_in limit s = option_and_then (λ n. core.unsigned_below limit (dt.number n)) (number_of s)
+natural_in limit s = option_and_then (λ n. if nat_lt n limit then Some n else None) (natural_of s)
 
 -- a decimal's number, `e-` and its scale
 abbrev pub decimal_in : List ℕ → Option Tree

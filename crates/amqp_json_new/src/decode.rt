@@ -4,10 +4,12 @@
 
 ghost use Rattle.std.specs.Prelude.{◌≡◌, ◌≤◌, List, ℕ, length, IfOk, IfErr, IfSome, MatchResult, string_bytes};
 ghost use Rattle.amq_protocol_types.specs.declared.parsing.limits.Limits.{Limits};
+ghost use Rattle.amqp_in_place.specs.Places.{IsViewIn};
 ghost use Rattle.amqp_in_place.specs.Refs.{Denotes};
 ghost use Rattle.amqp_value_core.specs.Values.{Tree};
 ghost use Rattle.amqp_value_core.specs.Texts.{text};
 ghost use Rattle.amqp_value_core.specs.View.{view};
+ghost use Rattle.amqp_json_new.specs.Ascending.{IfInOrder};
 ghost use Rattle.amqp_json_new.specs.Conversions.{IsJsonOf, IsNotRead, IsJsonWritten, IsNotWritten, HasNoText};
 ghost use Rattle.amqp_json_new.specs.Views.{HasText, IsReadBack, WritesView};
 ghost use Rattle.amqp_json_new.specs.Written.{json_text, MeansIfShallow};
@@ -32,7 +34,7 @@ pub fn to_json(alloc: Global, value: &AMQPValue) -> Result<String, EncodeError>
     match read_in_place_unlimited(bytes.as_slice()) {
         Ok((found, _)) => match ordered_text(alloc, found)? {
             Some(text) => Ok(text),
-            None => Err(EncodeError::OutOfMemory),
+            None => unreachable!(),
         },
         Err(_refusal) => Err(EncodeError::NoTypeTag),
     }
@@ -115,6 +117,8 @@ fn ordered_text(alloc: Global, value: ValueRef<'_>) -> Result<Option<String>, Al
     requires json { HasText value }
     ensures text { IfOk result (λ found. IfSome found (λ s. (v : Tree) → Denotes value.entry v
         → string_bytes s ≡ json_text v)) }
+    ensures order { IfOk result (λ found. (s rest : List ℕ) (v : Tree) → IsViewIn s value.entry rest
+        → Denotes value.entry v → IfInOrder found s rest) }
 {
     let Some(end) = put_value(&mut [], Place::START, value) else {
         return Ok(None);

@@ -7,7 +7,7 @@ ghost use Rattle.amqp_value_core.specs.Values.{Tree};
 ghost use Rattle.amqp_value_core.specs.View.{view};
 ghost use Rattle.amqp_json_new.specs.Conversions.{IsEncodingOf, IsRefused, IsWithin};
 ghost use Rattle.amqp_json_new.specs.Meaning.{meant};
-ghost use Rattle.amqp_json_new.specs.Puts.{IsEncodedAsItComes, OnRefusal};
+ghost use Rattle.amqp_json_new.specs.Puts.{IsEncodedAsItComes};
 
 use crate::error::JsonError;
 use crate::walk::put_document;
@@ -91,7 +91,7 @@ fn encoding_of_text(alloc: Global, text: &str) -> Result<Vec<u8>, JsonError>
 
 // The error, with a byte within the text.
 fn within(error: JsonError, len: usize) -> JsonError
-    ensures same { (P : Type 0) → OnRefusal error P → OnRefusal result P }
+    ensures refused { (t : List ℕ) → IsRefused error t → IsRefused result t }
     ensures within { IsWithin result len }
 {
     match error {

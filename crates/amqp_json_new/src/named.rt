@@ -1,13 +1,10 @@
 //! Numbers and strings, as values of named types.
 
-ghost use Rattle.std.specs.Prelude.{◌≡◌, Some, None, OnOk, IfOk, IfErr, MatchOption, option_map, option_and_then};
+ghost use Rattle.std.specs.Prelude.{◌≡◌, Some, None, OnOk, IfOk, IfErr, MatchOption, option_map};
 ghost use Rattle.std.specs.Result.{result_ok};
 ghost use Rattle.hex.specs.Hex.{decode_of};
-ghost use Rattle.serde_json.specs.Data.{number};
-ghost use Rattle.serde_json.specs.Read.{number_of};
-ghost use Rattle.amqp_value_core.specs.Json.{unsigned};
 ghost use Rattle.amqp_value_core.specs.Values.{scalar, decimal};
-ghost use Rattle.amqp_json_new.specs.Meaning.{number_in, string_in, decimal_in};
+ghost use Rattle.amqp_json_new.specs.Meaning.{number_in, string_in, natural_of, decimal_in};
 ghost use Rattle.amqp_json_new.specs.Puts.{PutsEncodingOf, OnRefusal};
 
 use crate::error::{JsonError, Mismatch};
@@ -16,6 +13,7 @@ use crate::put::{put, put_counted, put_decimal, put_integer};
 use amqp_value_core::types::{AMQPType, DecimalValue};
 use amqp_value_core::value::AMQPValue;
 use hex::{FromHex, FromHexError};
+use itoa::Buffer;
 use serde_json::Value;
 use std::alloc::Global;
 
@@ -124,8 +122,11 @@ fn decimal(text: &str) -> Option<DecimalValue>
     Some(DecimalValue { scale, value })
 }
 
+// A number of digits alone, without a zero before others.
 fn natural(text: &str) -> Option<u64>
-    ensures { result ≡ option_and_then (λ n. unsigned (number n)) (number_of text.now) }
+    ensures { result ≡ natural_of text.now }
 {
-    number(text)?.as_u64()
+    let n = number(text)?.as_u64()?;
+    let mut digits = Buffer::new();
+    if digits.format(n) == text { Some(n) } else { None }
 }

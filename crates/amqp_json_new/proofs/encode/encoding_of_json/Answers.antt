@@ -2,7 +2,7 @@ use Rattle.std.proofs.Common.{◌≡◌, refl}
 use Rattle.amqp_value_core.specs.Grammar.{Wire}
 use Rattle.amqp_value_core.specs.Texts.{text}
 use Rattle.amqp_value_core.specs.Values.{Tree}
-use Rattle.amqp_json_new.specs.Meaning.{IsEncodingOf}
+use Rattle.amqp_json_new.specs.Conversions.{IsEncodingOf}
 use Rattle.amqp_json_new.proofs.Ends.{as_written}
 use Rattle.amqp_json_new.proofs.Refusals.{ok_weaker}
 use Rattle.amqp_json_new.proofs.encode.encoding_of_json.Goals as goal

@@ -1,12 +1,11 @@
-use Rattle.std.proofs.Common.{rules, arith, ◌≡◌, Some, sym, subst}
+use Rattle.std.proofs.Common.{arith, ◌≡◌, Some}
 use Rattle.std.proofs.lemmas.Result.{on_ok_weaker}
 use Rattle.json.specs.Token.{number, string}
 use Rattle.json.specs.Reads.{token_of}
-use Rattle.json.specs.declared.token.Token.TheVariants.{Bad}
 use Rattle.amqp_json_new.specs.Meaning.{number_in, string_in}
 use Rattle.amqp_json_new.specs.Puts.{IsLeaf, IsNoLeaf}
 use Rattle.amqp_json_new.proofs.Loops.{puts_weaker}
-use Rattle.amqp_json_new.proofs.Refusals.{refused_on}
+use Rattle.amqp_json_new.proofs.Refusals.{refusal_of, refused_on}
 use Rattle.amqp_json_new.proofs.Soles.{no_leaf, number_leaf, number_none, string_leaf, string_none}
 use Rattle.amqp_json_new.proofs.walk.put_leaf.Goals as goal
 
@@ -38,10 +37,5 @@ returns-in-String-clause-refused c =
     let is : token_of c.args.token ≡ string x = grind arith in
     refused_on c.put_string.result _ (IsNoLeaf c.args.amqp_type (token_of c.args.token)) (string_none c.args.amqp_type (token_of c.args.token) x is) c.put_string.ensures.refused
 
-pub returns-in-Bad-clause-refused : goal.returns-in-Bad-clause-refused
-returns-in-Bad-clause-refused c =
-    let is : c.args.token ≡ Bad = search rules in
-    subst (λ t. IsNoLeaf c.args.amqp_type (token_of t)) (sym is) (no_leaf c.args.amqp_type Bad (λ x e. absurd (cc e)) (λ x e. absurd (cc e)))
-
 pub returns-in_default : goal.returns-in_default
-returns-in_default c = record { ok = tt; refused = no_leaf c.args.amqp_type c.args.token c.in_default.not-Number c.in_default.not-String }
+returns-in_default c = record { ok = tt; refused = refusal_of _ _ (no_leaf c.args.amqp_type c.args.token c.in_default.not-Number c.in_default.not-String) }
