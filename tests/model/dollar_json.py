@@ -238,7 +238,8 @@ def encoding_of(value: Value) -> bytes:
     if tag == "F":
         content = b"".join(bytes([len(key)]) + key + encoding_of(it) for key, it in sorted(content.items()))
     count = len(content).to_bytes(4, "big") if tag in "SxAF" else b""
-    return tag.encode() + count + content
+    encoded: bytes = tag.encode() + count + content
+    return encoded
 
 
 def text_of(value: Value) -> str:
@@ -290,11 +291,8 @@ def some_value(make: Random, levels: int) -> Value:
         return tag, bytes([make.randrange(2)])
     if tag in "Sx":
         return tag, make.choice([make.randbytes(make.randrange(6)), make.choice(WORDS).encode()])
-    width = {"V": 0, "D": 5, "f": 4, "d": 8}.get(tag) if tag in "VDfd" else INTEGERS[NAMES[tag]][1]
-    assert width is not None
-    return tag, make.choice(
-        [make.randbytes(width), bytes(width), b"\xff" * width, b"\x80" + bytes(width - 1)][: 4 if width else 1]
-    )
+    width = {"V": 0, "D": 5, "f": 4, "d": 8}[tag] if tag in "VDfd" else INTEGERS[NAMES[tag]][1]
+    return tag, make.choice([make.randbytes(width), bytes(width), b"\xff" * width, (b"\x80" + bytes(width))[:width]])
 
 
 def spelled(make: Random, value: Value) -> str:

@@ -7,7 +7,7 @@ use Rattle.std.proofs.lemmas.Fmt.{decimal_is_IsNumeral}
 use Rattle.hex.proofs.HexLemmas.{length-encode_with}
 use Rattle.hex.specs.Hex.{lower_digits, encode_with, encode_lower, IsBytes}
 use Rattle.json.specs.Run.{is_plain}
-use Rattle.json.specs.Token.{Token}
+use Rattle.json.specs.Token.{Token, key}
 use Rattle.json.specs.Print.{escape_byte, escape, print, ends, separator, token_text}
 use Rattle.json.proofs.Printed.Strings.{escape_byte_plain, escape_to_stop, escape_at, escape_end}
 use Rattle.json.proofs.Printed.Tokens.{print_from_push, ends_push}
@@ -120,5 +120,5 @@ unfolding escape_byte
 marked k true e = refl
 marked k false e = refl
 
-pub key_text : (k : List ℕ) → cond (is_marked k) (34 ∷ 36 ∷ []) (34 ∷ []) ++ (escape k ++ 34 ∷ 58 ∷ []) ≡ 34 ∷ (escape (written_key k) ++ 34 ∷ 58 ∷ [])
-key_text k = marked k (is_marked k) refl
+pub key_text : (k : List ℕ) → cond (is_marked k) (34 ∷ 36 ∷ []) (34 ∷ []) ++ (escape k ++ 34 ∷ 58 ∷ []) ≡ token_text (key (written_key k))
+key_text k = marked k (is_marked k) refl ∙ ap (λ (l : List ℕ). 34 ∷ l) (sym (append_assoc (escape (written_key k)) (34 ∷ []) (58 ∷ [])))

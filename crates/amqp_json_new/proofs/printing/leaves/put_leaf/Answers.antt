@@ -1,14 +1,21 @@
-use Rattle.std.proofs.Common.{sym, subst}
+use Rattle.std.proofs.Common.{rules, ◌≡◌, ◌∷◌, [], ℕ, List, codes, sym, subst, w8, w16, w64}
+use Rattle.std.specs.Fmt.{signed_decimal}
+use Rattle.std.specs.Int.{cast_signed, cast_unsigned}
+use mir.Val.{to_z, of_z}
+use Rattle.json.specs.Token.{begin_object, end_object, key, number}
 use Rattle.amqp_value_core.specs.Values.{Tree}
 use Rattle.amqp_in_place.specs.declared.refs.ValueRef.{ValueRef}
 use Rattle.amqp_in_place.specs.Refs.{Denotes}
-use Rattle.amqp_json_new.specs.Printing.{PutsJson}
+use Rattle.amqp_json_new.specs.Printing.{PutsTokens, PutsJson}
 use Rattle.amqp_json_new.specs.Written.{written}
 use Rattle.amqp_json_new.proofs.printing.leaves.put_leaf.Goals as goal
 
 pub returns-in-ShortShortInt : goal.returns-in-ShortShortInt
 returns-in-ShortShortInt c = λ v d.
-    subst (λ (u : Tree). PutsJson c.args.buffer.now c.args.place c.integer.new.buffer c.integer.result (written u)) (sym (subst (λ (r : ValueRef). Denotes r v) c.in-ShortShortInt.is d)) c.integer.ensures
+    let n = c.in-ShortShortInt.n in
+    let same : signed_decimal (to_z w64 (of_z w64 (to_z w8 (of_z w8 n)))) ≡ signed_decimal (cast_signed w8 (cast_unsigned w8 n)) = search rules in
+    subst (λ (u : Tree). PutsJson c.args.buffer.now c.args.place c.integer.new.buffer c.integer.result (written u)) (sym (subst (λ (r : ValueRef). Denotes r v) c.in-ShortShortInt.is d))
+    (subst (λ (s : List ℕ). PutsTokens c.args.buffer.now c.args.place c.integer.new.buffer c.integer.result (begin_object ∷ key (codes "$ShortShortInt") ∷ number s ∷ end_object ∷ [])) same c.integer.ensures)
 
 pub returns-in-ShortShortUInt : goal.returns-in-ShortShortUInt
 returns-in-ShortShortUInt c = λ v d.
@@ -16,7 +23,10 @@ returns-in-ShortShortUInt c = λ v d.
 
 pub returns-in-ShortInt : goal.returns-in-ShortInt
 returns-in-ShortInt c = λ v d.
-    subst (λ (u : Tree). PutsJson c.args.buffer.now c.args.place c.integer-in-ShortInt.new.buffer c.integer-in-ShortInt.result (written u)) (sym (subst (λ (r : ValueRef). Denotes r v) c.in-ShortInt.is d)) c.integer-in-ShortInt.ensures
+    let n = c.in-ShortInt.n in
+    let same : signed_decimal (to_z w64 (of_z w64 (to_z w16 (of_z w16 n)))) ≡ signed_decimal (cast_signed w16 (cast_unsigned w16 n)) = search rules in
+    subst (λ (u : Tree). PutsJson c.args.buffer.now c.args.place c.integer-in-ShortInt.new.buffer c.integer-in-ShortInt.result (written u)) (sym (subst (λ (r : ValueRef). Denotes r v) c.in-ShortInt.is d))
+    (subst (λ (s : List ℕ). PutsTokens c.args.buffer.now c.args.place c.integer-in-ShortInt.new.buffer c.integer-in-ShortInt.result (begin_object ∷ key (codes "$ShortInt") ∷ number s ∷ end_object ∷ [])) same c.integer-in-ShortInt.ensures)
 
 pub returns-in-ShortUInt : goal.returns-in-ShortUInt
 returns-in-ShortUInt c = λ v d.
