@@ -95,7 +95,6 @@ digits_counted a at end bytes is over =
 pub puts_as : (a : List ℕ) (i : ℕ) (b : List ℕ) (j : ℕ) (xs ys : List ℕ) → xs ≡ ys → PutsBytes a i b j xs → PutsBytes a i b j ys
 puts_as a i b j xs ys e p = subst (λ (l : List ℕ). PutsBytes a i b j l) e p
 
-
 -- ---- a decimal needs no escape
 
 plain_digit : (c : ℕ) → digit_value c < 10 → escape_byte c ≡ c ∷ []

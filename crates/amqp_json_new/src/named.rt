@@ -106,7 +106,10 @@ fn digits_error(error: FromHexError, at: usize) -> JsonError {
     match error {
         FromHexError::OutOfMemory => JsonError::OutOfMemory,
         FromHexError::OddLength => JsonError::NotAValue(at, Mismatch::OddDigits),
-        FromHexError::InvalidHexCharacter { .. } => JsonError::NotAValue(at, Mismatch::NotHexadecimal),
+        FromHexError::InvalidHexCharacter { .. } => JsonError::NotAValue(
+            at,
+            Mismatch::NotHexadecimal,
+        ),
         FromHexError::InvalidStringLength => JsonError::NotAValue(at, Mismatch::DigitCount),
     }
 }
@@ -128,5 +131,9 @@ fn natural(text: &str) -> Option<u64>
 {
     let n = number(text)?.as_u64()?;
     let mut digits = Buffer::new();
-    if digits.format(n) == text { Some(n) } else { None }
+    if digits.format(n) == text {
+        Some(n)
+    } else {
+        None
+    }
 }

@@ -71,7 +71,9 @@ fn put_value(
             }
             put_object(alloc, reader, out, depth - 1)
         }
-        Token::EndArray | Token::EndObject | Token::Key(_) | Token::Bad => Err(JsonError::Syntax(at)),
+        Token::EndArray | Token::EndObject | Token::Key(_) | Token::Bad => Err(JsonError::Syntax(
+            at,
+        )),
     }
 }
 
