@@ -138,8 +138,10 @@ fn canonical(alloc: Global, value: &AMQPValue) -> Result<Vec<u8>, EncodeError>
 {
     let mut context = WriteContext::from(Vec::new(alloc));
     match gen_value(value, &mut context) {
-        Ok(()) => Ok(context.into_inner().0),
-        Err(GenError::OutOfMemory) => Err(EncodeError::OutOfMemory),
-        Err(_) => Err(EncodeError::TooLong),
+        Ok(()) => {}
+        Err(GenError::OutOfMemory) => return Err(EncodeError::OutOfMemory),
+        Err(_) => return Err(EncodeError::TooLong),
     }
+    let (bytes, _) = context.into_inner();
+    Ok(bytes)
 }
