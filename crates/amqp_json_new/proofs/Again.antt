@@ -6,7 +6,7 @@ use Rattle.amqp_value_core.specs.Values.{Tree, scalar, short, long, octets, arra
 use Rattle.amqp_value_core.specs.Texts.{text}
 use Rattle.amqp_value_core.specs.Outcomes.{Reading, more, unknown, malformed, found, Outcome}
 use Rattle.amqp_value_core.specs.Readings.{read_back, unread}
-use Rattle.amqp_value_core.proofs.GrammarLaws.{one_outcome}
+use Rattle.amqp_value_core.proofs.GrammarLaws.{one_outcome, found_prefix}
 use Rattle.amqp_value_core.proofs.Bytes.{bytes_before}
 use Rattle.amq_protocol_types.specs.declared.parsing.errors.Err.TheVariants.{Incomplete, Error, Failure}
 use Rattle.amq_protocol_types.specs.declared.parsing.errors.Needed.TheVariants.{Unknown, Size}
@@ -61,5 +61,5 @@ not_again v (Failure kind) back h = absurd h.1
 -- a value that is read from bytes has a JSON text
 pub found_has_json : (s rest : List ℕ) (v : Tree) → IsBytes s → Outcome s (found v rest) → HasJson v
 found_has_json s rest v bytes o =
-    let (w, is, e) = o in
+    let (w, is, e) = found_prefix s rest v o in
     has_json w v (bytes_before w rest (subst IsBytes e bytes)) is

@@ -1,5 +1,5 @@
 -- The JSON text of a value that was read at the start of some bytes.
-use Rattle.std.proofs.Common.{◌≡◌, ◌+◌, ◌-◌, ◌<◌, ◌≤◌, ◌^◌, ℕ, List, [], ◌++◌, length, drop, Option, Some, None, IfSome, Result, Ok, Err, MatchResult, sym, ap, ◌∙◌, subst, append-nil, arith}
+use Rattle.std.proofs.Common.{◌≡◌, ◌+◌, ◌-◌, ◌<◌, ◌≤◌, ◌^◌, ℕ, List, [], ◌++◌, length, take, drop, take_all, Option, Some, None, IfSome, Result, Ok, Err, MatchResult, sym, ap, ◌∙◌, subst, append-nil, arith}
 use Rattle.std.proofs.Math.ListN.{drop_of_length-le}
 use Rattle.amqp_value_core.specs.Values.{Tree}
 use Rattle.amqp_value_core.specs.Outcomes.{found}
@@ -41,3 +41,9 @@ pub filled : (t zeros new : List ℕ) (m k : ℕ) (small : List ℕ) → Begins 
 filled t zeros new m k small first second size few =
     let all : length t ≡ m = omega (arith, first.count, few) in
     second.text (omega (arith, all, size)) ∙ ap (λ (l : List ℕ). t ++ l) (drop_of_length-le zeros (omega (arith, all, size))) ∙ append-nil t
+
+-- it is all of the string
+pub kept : (t zeros new : List ℕ) (len : ℕ) → new ≡ t → length new ≡ length zeros → length zeros ≤ len → take len (new ++ drop (length new) zeros) ≡ t
+kept t zeros new len e same enough =
+    let all : new ++ drop (length new) zeros ≡ new = ap (λ (l : List ℕ). new ++ l) (drop_of_length-le zeros (omega (arith, same))) ∙ append-nil new in
+    ap (take len) all ∙ take_all len new (omega (arith, same, enough)) ∙ e

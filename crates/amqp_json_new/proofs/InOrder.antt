@@ -10,7 +10,7 @@ use Rattle.amqp_value_core.specs.Inputs.{IsBytes}
 use Rattle.amqp_value_core.specs.Outcomes.{Outcome, found}
 use Rattle.amqp_value_core.proofs.Bytes.{bytes_before}
 use Rattle.amqp_value_core.specs.Texts.{text, Fits}
-use Rattle.amqp_value_core.proofs.GrammarLaws.{no_empty_wire, same_large, one_key, one_reading, canon_rises, text_is_canon, what_is_read, read_is_value}
+use Rattle.amqp_value_core.proofs.GrammarLaws.{no_empty_wire, same_large, one_key, one_reading, canon_rises, text_is_canon, what_is_read, read_is_value, found_prefix}
 use Rattle.amqp_in_place.specs.Written.{written, raw_written, values_written, pairs_written}
 use Rattle.amqp_json_new.specs.Ascending.{Ascends, AllAscend, EntriesAscend, OutOfOrder}
 use Rattle.amqp_json_new.proofs.Ascents.{written_rises}
@@ -85,7 +85,8 @@ canonical_in_order v rest is fits reads (w, u, q, e, falls) =
 
 -- so they do in bytes that are the canonical encoding of a value, and that are read
 pub found_in_order : (s rest left : List ℕ) (v u : Tree) → IsBytes s → s ≡ text v → v ≡ u → Outcome s (found u rest) → OutOfOrder s left → ⊥
-found_in_order s rest left v u bytes e same (w, is, split) falls =
+found_in_order s rest left v u bytes e same o falls =
+    let (w, is, split) = found_prefix s rest u o in
     let its = bytes_before w rest (subst IsBytes split bytes) in
     let reads = what_is_read w u is in
     canonical_in_order u left (read_is_value w u its is) reads.0 reads.1 (subst (λ (b : List ℕ). OutOfOrder b left) (e ∙ ap text same) falls)

@@ -31,13 +31,7 @@ pub fn to_json(alloc: Global, value: &AMQPValue) -> Result<String, EncodeError>
     ensures refused { IfErr result (HasNoText (view value.now)) }
 {
     let bytes = canonical(alloc, value)?;
-    match read_in_place_unlimited(bytes.as_slice()) {
-        Ok((found, _)) => match ordered_text(alloc, found)? {
-            Some(text) => Ok(text),
-            None => unreachable!(),
-        },
-        Err(_refusal) => Err(EncodeError::NoTypeTag),
-    }
+    text_of_canonical(alloc, bytes.as_slice())
 }
 
 /// Converts the encoding at the start of the bytes to JSON text, and returns the remaining bytes
@@ -130,6 +124,25 @@ fn ordered_text(alloc: Global, value: ValueRef<'_>) -> Result<Option<String>, Al
     }
 }
 
+// The text of a canonical encoding.
+fn text_of_canonical(alloc: Global, bytes: &[u8]) -> Result<String, EncodeError>
+    requires canonical { (v : Tree) × (bytes.now ≡ text v) × IsReadBack v }
+    ensures text { IfOk result (λ s. (v : Tree) → bytes.now ≡ text v → IsReadBack v
+        → string_bytes s ≡ json_text v) }
+    ensures read_back { IfOk result (λ s. (v : Tree) → bytes.now ≡ text v → IsReadBack v
+        → MeansIfShallow (string_bytes s) v) }
+    ensures refused { IfErr result (λ e. (v : Tree) → bytes.now ≡ text v → IsReadBack v
+        → HasNoText v e) }
+{
+    match read_in_place_unlimited(bytes) {
+        Ok((found, _)) => match ordered_text(alloc, found)? {
+            Some(text) => Ok(text),
+            None => unreachable!(),
+        },
+        Err(_refusal) => Err(EncodeError::NoTypeTag),
+    }
+}
+
 // The canonical encoding of a value.
 fn canonical(alloc: Global, value: &AMQPValue) -> Result<Vec<u8>, EncodeError>
     ensures text { IfOk result (λ bytes. bytes.items ≡ text (view value.now)) }
@@ -138,10 +151,8 @@ fn canonical(alloc: Global, value: &AMQPValue) -> Result<Vec<u8>, EncodeError>
 {
     let mut context = WriteContext::from(Vec::new(alloc));
     match gen_value(value, &mut context) {
-        Ok(()) => {}
-        Err(GenError::OutOfMemory) => return Err(EncodeError::OutOfMemory),
-        Err(_) => return Err(EncodeError::TooLong),
+        Ok(()) => Ok(context.into_inner().0),
+        Err(GenError::LengthTooLong) => Err(EncodeError::TooLong),
+        Err(_) => Err(EncodeError::OutOfMemory),
     }
-    let (bytes, _) = context.into_inner();
-    Ok(bytes)
 }

@@ -1,9 +1,7 @@
-use Rattle.std.proofs.Common.{◌≡◌, List, ℕ, length, rules, string_bytes, sym, ap, ◌∙◌, subst, arith}
+use Rattle.std.proofs.Common.{◌≡◌, ◌≤◌, ◌++◌, List, ℕ, length, take, drop, rules, string_bytes, sym, ◌∙◌, subst, arith}
 use Rattle.std.specs.Str.{IsUtf8}
-use Rattle.amqp_value_core.specs.Values.{Tree}
-use Rattle.amqp_in_place.specs.Refs.{Denotes}
 use Rattle.amqp_json_new.specs.Written.{json_text}
-use Rattle.amqp_json_new.proofs.Decoded.{filled}
+use Rattle.amqp_json_new.proofs.Decoded.{filled, kept}
 use Rattle.amqp_json_new.proofs.PrintedContainers.{text_begins}
 use Rattle.amqp_json_new.proofs.ReadBack.{text_is_utf8}
 use Rattle.amqp_json_new.proofs.decode.ordered_text.Goals as goal
@@ -12,19 +10,25 @@ pub from_utf8_unchecked-requires : goal.from_utf8_unchecked-requires
 from_utf8_unchecked-requires c =
     let (v, denotes, has) = c.requires.json in
     let zeros = c.in_ok-text.text.items in
+    let new = c.put_value-2.new.buffer in
+    let len = c.in_ok-text.text.len in
     let first = text_begins _ c.put_value.new.buffer c.in-Some.end v (c.in-Some.ensures.json v denotes) in
-    let second = text_begins _ c.put_value-2.new.buffer c.in-Some-put_value.field-0 v (c.in-Some-put_value.ensures.json v denotes) in
+    let second = text_begins _ new c.in-Some-put_value.field-0 v (c.in-Some-put_value.ensures.json v denotes) in
     let size : length zeros ≡ c.in-Some.end.count = search rules in
-    let same = filled (json_text v) _ c.put_value-2.new.buffer c.in-Some.end.count c.in-Some-put_value.field-0.count c.put_value.new.buffer first second (search (rules, size)) (omega (arith, size)) in
-    let whole : c.as_mut_slice.new.self.items ≡ json_text v = search (rules, same) in
-    subst IsUtf8 (sym whole) (text_is_utf8 v has)
+    let same = filled (json_text v) _ new c.in-Some.end.count c.in-Some-put_value.field-0.count c.put_value.new.buffer first second (search (rules, size)) (omega (arith, size)) in
+    let long : length new ≡ length zeros = search (rules, second.same) in
+    let enough : length zeros ≤ len = search rules in
+    subst IsUtf8 (sym (kept (json_text v) zeros new len same long enough)) (text_is_utf8 v has)
 
 pub returns-in-Some-put_value-clause-text : goal.returns-in-Some-put_value-clause-text
 returns-in-Some-put_value-clause-text c v denotes =
     let zeros = c.in_ok-text.text.items in
+    let new = c.put_value-2.new.buffer in
+    let len = c.in_ok-text.text.len in
     let first = text_begins _ c.put_value.new.buffer c.in-Some.end v (c.in-Some.ensures.json v denotes) in
-    let second = text_begins _ c.put_value-2.new.buffer c.in-Some-put_value.field-0 v (c.in-Some-put_value.ensures.json v denotes) in
+    let second = text_begins _ new c.in-Some-put_value.field-0 v (c.in-Some-put_value.ensures.json v denotes) in
     let size : length zeros ≡ c.in-Some.end.count = search rules in
-    let same = filled (json_text v) _ c.put_value-2.new.buffer c.in-Some.end.count c.in-Some-put_value.field-0.count c.put_value.new.buffer first second (search (rules, size)) (omega (arith, size)) in
-    let whole : c.as_mut_slice.new.self.items ≡ json_text v = search (rules, same) in
-    c.from_utf8_unchecked.ensures.value ∙ whole
+    let same = filled (json_text v) _ new c.in-Some.end.count c.in-Some-put_value.field-0.count c.put_value.new.buffer first second (search (rules, size)) (omega (arith, size)) in
+    let long : length new ≡ length zeros = search (rules, second.same) in
+    let enough : length zeros ≤ len = search rules in
+    c.from_utf8_unchecked.ensures.value ∙ kept (json_text v) zeros new len same long enough
