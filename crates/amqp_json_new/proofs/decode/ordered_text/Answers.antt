@@ -1,5 +1,6 @@
 use Rattle.std.proofs.Common.{◌≡◌, ◌≤◌, ◌++◌, List, ℕ, length, take, drop, rules, string_bytes, sym, ◌∙◌, subst, arith}
 use Rattle.std.specs.Str.{IsUtf8}
+use Rattle.std.specs.Vec.{with_items}
 use Rattle.amqp_json_new.specs.Written.{json_text}
 use Rattle.amqp_json_new.proofs.Decoded.{filled, kept}
 use Rattle.amqp_json_new.proofs.PrintedContainers.{text_begins}
@@ -31,4 +32,5 @@ returns-in-Some-put_value-clause-text c v denotes =
     let same = filled (json_text v) _ new c.in-Some.end.count c.in-Some-put_value.field-0.count c.put_value.new.buffer first second (search (rules, size)) (omega (arith, size)) in
     let long : length new ≡ length zeros = search (rules, second.same) in
     let enough : length zeros ≤ len = search rules in
-    c.from_utf8_unchecked.ensures.value ∙ kept (json_text v) zeros new len same long enough
+    let bytes : string_bytes c.from_utf8_unchecked.result ≡ (with_items c.in_ok-text.text new).items = search rules in
+    bytes ∙ kept (json_text v) zeros new len same long enough

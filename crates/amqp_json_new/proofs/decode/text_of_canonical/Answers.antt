@@ -49,7 +49,7 @@ unreachable-requires c =
     let falls = subst (λ (r : Option (String Global)). IfInOrder r bytes c.in-Ok.field-0-1.now) c.in-None.is (order bytes c.in-Ok.field-0-1.now v c.in-Ok.ensures.inside denotes) in
     found_in_order bytes c.in-Ok.field-0-1.now c.in-Ok.field-0-1.now o v (bytes_all bytes c.type_inv.bytes) is same outcome falls
 
-pub returns-clause-refused : goal.returns-clause-refused
-returns-clause-refused c o is back =
+pub returns-in-Err-clause-refused : goal.returns-in-Err-clause-refused
+returns-in-Err-clause-refused c o is back =
     let e = c.in-Err._refusal in
     not_again o e back (subst (λ (s : List ℕ). IsRefusal (Outcome s) ⊥ e) is c.in-Err.ensures.outcome)
