@@ -1,6 +1,5 @@
 -- A canonical encoding that is read again.
-use Rattle.std.proofs.Common.{◌≡◌, ℕ, Bool, true, false, cond, List, [], ◌++◌, refl, sym, ap, subst, append-nil}
-use Rattle.amqp_value_core.specs.Grammar.{Wire}
+use Rattle.std.proofs.Common.{◌≡◌, ℕ, Bool, true, false, cond, List, [], refl, sym, ap, subst, append-nil}
 use Rattle.amqp_value_core.specs.Inputs.{IsBytes}
 use Rattle.amqp_value_core.specs.Values.{Tree, scalar, short, long, octets, array, table, readable}
 use Rattle.amqp_value_core.specs.Texts.{text}

@@ -1,5 +1,5 @@
 -- The JSON text of a value that was read at the start of some bytes.
-use Rattle.std.proofs.Common.{◌≡◌, ◌+◌, ◌-◌, ◌<◌, ◌≤◌, ◌^◌, ℕ, List, [], ◌++◌, length, take, drop, take_all, Option, Some, None, IfSome, Result, Ok, Err, MatchResult, sym, ap, ◌∙◌, subst, append-nil, arith}
+use Rattle.std.proofs.Common.{◌≡◌, ◌+◌, ◌<◌, ◌≤◌, ◌^◌, ℕ, List, [], ◌++◌, length, take, drop, take_all, sym, ap, ◌∙◌, subst, append-nil, arith}
 use Rattle.std.proofs.Math.ListN.{drop_of_length-le}
 use Rattle.amqp_value_core.specs.Values.{Tree}
 use Rattle.amqp_value_core.specs.Outcomes.{found}
@@ -11,8 +11,7 @@ use Rattle.amq_protocol_types.specs.parsing.Limits.{Within}
 use Rattle.amqp_json_new.specs.Conversions.{IsJsonOf, IsOrderedJsonOf, IsJsonWritten, IsNotWritten}
 use Rattle.amqp_json_new.specs.Meaning.{meant}
 use Rattle.amqp_json_new.specs.Printing.{Begins}
-use Rattle.amqp_json_new.specs.Written.{HasJson, json_text, counted}
-use Rattle.amqp_json_new.specs.declared.error.WriteError.{WriteError}
+use Rattle.amqp_json_new.specs.Written.{HasJson, json_text}
 use Rattle.amqp_json_new.specs.declared.error.WriteError.TheVariants as write
 use Rattle.amqp_json_new.proofs.Encoded.{has_json}
 use Rattle.amqp_json_new.proofs.ReadBack.{text_is_read}

@@ -1,5 +1,5 @@
 -- The value of an encoding has a JSON text.
-use Rattle.std.proofs.Common.{◌≡◌, ℕ, List, ◌++◌, length, IsTrue, Less, Equal, Greater}
+use Rattle.std.proofs.Common.{ℕ, List, ◌++◌, length, IsTrue, Less, Equal, Greater}
 use Rattle.std.specs.Cmp.Lexicographic.{slice_cmp}
 use Rattle.std.specs.Ordering.{nat_cmp, match_ordering}
 use Rattle.std.specs.declared.cmp.Ordering.{Ordering}
@@ -8,7 +8,7 @@ use Rattle.amqp_value_core.specs.declared.types.amqp_type.AMQPType.{AMQPType}
 use Rattle.amqp_value_core.specs.Grammar.{short_field, Wire, wire, Raw, raw_fixed, raw_short, raw_long, raw_octets, raw_array, raw_table, ArrayBody, no_values, value, TableBody, no_pairs, pair}
 use Rattle.amqp_value_core.specs.Inputs.{IsBytes}
 use Rattle.amqp_value_core.specs.Strings.{IsShort}
-use Rattle.amqp_value_core.specs.Values.{Tree, scalar, short, Trees, Entries, no_entries, entry, insert, insert_all, readable}
+use Rattle.amqp_value_core.specs.Values.{Tree, scalar, Trees, Entries, no_entries, entry, insert, insert_all, readable}
 use Rattle.amqp_value_core.proofs.Bytes.{bytes_before, bytes_after, byte_at}
 use Rattle.amqp_value_core.proofs.GrammarLaws.{pairs_rise, what_is_read, raw_value}
 use Rattle.amqp_json_new.specs.Written.{HasJson, AllHaveJson, EntriesHaveJson}

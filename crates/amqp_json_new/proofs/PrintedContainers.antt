@@ -1,7 +1,7 @@
 -- One more value or pair of a container in a buffer.
 use Rattle.std.proofs.Common.{◌≡◌, ◌<◌, ◌≤◌, ℕ, List, [], ◌∷◌, ◌++◌, length, false, Option, Some, None, IfSome, refl, sym, ap, ◌∙◌, subst, append_assoc, arith, length-append}
 use Rattle.std.specs.Borrow.{Bor}
-use Rattle.json.specs.Token.{Token, begin_object, end_array, end_object, key}
+use Rattle.json.specs.Token.{Token, end_array, end_object, key}
 use Rattle.json.specs.Json.{object}
 use Rattle.json.specs.Tree.{json_tokens, items_tokens, members_tokens}
 use Rattle.json.specs.Print.{print, print_from}

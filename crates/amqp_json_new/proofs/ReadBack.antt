@@ -1,5 +1,5 @@
 -- The text of a value is UTF-8, and is read as the value.
-use Rattle.std.proofs.Common.{◌≡◌, ℕ, ℤ, pos, negsuc, ◌^◌, ◌<◌, ◌≤◌, List, [], ◌∷◌, ◌++◌, Bool, true, false, Some, IsUtf8, refl, sym, ap, ◌∙◌, subst, append-nil, option_map, option_and_then, arith, ltb-true}
+use Rattle.std.proofs.Common.{◌≡◌, ℕ, ℤ, pos, negsuc, ◌^◌, ◌<◌, ◌≤◌, List, [], ◌∷◌, ◌++◌, Bool, true, false, Some, IsUtf8, refl, sym, ap, ◌∙◌, append-nil, option_and_then, arith, ltb-true}
 use Rattle.std.specs.Int.{Width, w8, w16, w32, w64, cast_signed, to_be_bytes}
 use Rattle.std.specs.Str.{is_utf8, IsAscii}
 use Rattle.std.specs.Prelude.{decimal as digits}
@@ -12,10 +12,9 @@ use Rattle.std.proofs.lemmas.Str.{IsUtf8-append, IsUtf8-nil, IsUtf8-from_ascii, 
 use mir.Val.{bits, hbits, SFits}
 use Rattle.hex.specs.Hex.{lower_digits, encode_lower}
 use Rattle.hex.proofs.HexLemmas.{IsAscii-encode_with}
-use Rattle.json.specs.Token.{Token, begin_object, end_object, begin_array, end_array, key}
-use Rattle.json.specs.Json.{Json, no_members, number, string, value, if_last}
-use Rattle.json.specs.Lex.{tokens}
-use Rattle.json.specs.Print.{print, print_from, ends, separator, token_text}
+use Rattle.json.specs.Token.{Token, end_object}
+use Rattle.json.specs.Json.{Json, number, string, value, if_last}
+use Rattle.json.specs.Print.{print_from, ends, separator, token_text}
 use Rattle.json.specs.Tree.{json_tokens, items_tokens, members_tokens, HasNumbers, ItemsHaveNumbers, MembersHaveNumbers, depth}
 use Rattle.json.proofs.Printed.Decimals.{IsNumber-decimal, IsNumber-signed_decimal}
 use Rattle.json.proofs.Printed.Tokens.{tokens-print}
@@ -25,7 +24,6 @@ use Rattle.amqp_value_core.specs.declared.types.amqp_type.AMQPType.{AMQPType}
 use Rattle.amqp_value_core.specs.declared.types.amqp_type.AMQPType.TheVariants as amqp
 use Rattle.amqp_value_core.specs.InMemory.{IsNumber, IsScalar}
 use Rattle.amqp_value_core.specs.Names.{name_of}
-use Rattle.amqp_value_core.specs.Strings.{IsShort}
 use Rattle.amqp_value_core.specs.Values as values
 use Rattle.amqp_value_core.specs.Values.{Scalar, decimal, void, Tree, scalar, short, long, octets, table, Trees, no_trees, tree, Entries, no_entries, entry}
 use Rattle.amqp_json_new.specs.Meaning.{meaning, meant}

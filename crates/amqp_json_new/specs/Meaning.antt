@@ -1,6 +1,6 @@
 -- Which value a JSON text means. An object whose only key is `$` and the name of a type is a value of that type;
 -- any other key that begins with `$` is written with one more.
-use Rattle.std.specs.Prelude.{ℕ, ◌≡◌, ◌≤◌, ◌^◌, ◌&&◌, ◌||◌, ◌==◌, List, drop, length, decimal, slice_index, Bool, not, nat_lt, if◌then◌else◌, Option, Some, None, option_map, option_and_then}
+use Rattle.std.specs.Prelude.{ℕ, ◌^◌, ◌&&◌, ◌||◌, ◌==◌, List, drop, length, decimal, slice_index, Bool, not, nat_lt, if◌then◌else◌, Option, Some, None, option_map, option_and_then}
 use Rattle.std.specs.List.{before_first, after_first}
 use Rattle.std.specs.Result.{result_ok}
 use Rattle.std.specs.Str.{bytes_eq}

@@ -1,12 +1,10 @@
-use Rattle.std.proofs.Common.{rules, ◌≡◌, List, ℕ, length, None, Option, String, Global, string_bytes, sym, ap, ◌∙◌, subst}
+use Rattle.std.proofs.Common.{rules, ◌≡◌, List, ℕ, Option, String, Global, string_bytes, sym, ap, ◌∙◌, subst}
 use Rattle.amqp_in_place.proofs.Canonicals.{bytes_all}
 use Rattle.amqp_in_place.specs.Places.{IsViewIn}
 use Rattle.amqp_in_place.specs.Refs.{Denotes}
 use Rattle.amqp_value_core.specs.Inputs.{IsBytes}
 use Rattle.amqp_value_core.specs.Outcomes.{Outcome, found}
-use Rattle.amqp_value_core.specs.Texts.{text}
 use Rattle.amqp_value_core.specs.Values.{Tree}
-use Rattle.amqp_value_core.specs.View.{view}
 use Rattle.amq_protocol_types.specs.parsing.ParseResults.{IsRefusal}
 use Rattle.amqp_json_new.specs.Ascending.{IfInOrder}
 use Rattle.amqp_json_new.specs.Meaning.{meant}
