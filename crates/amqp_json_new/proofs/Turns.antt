@@ -1,0 +1,139 @@
+-- The grammar's loops, a turn at a time, under the meaning of items and of pairs.
+use Rattle.std.proofs.Common.{◌≡◌, ℕ, zero, suc, ◌-◌, ◌<◌, ◌≤◌, List, ◌∷◌, length, false, Option, Some, None, option_map, option_and_then, refl, sym, ap, ◌∙◌, arith}
+use Rattle.json.specs.Token.{Token, key}
+use Rattle.json.specs.Json as json
+use Rattle.json.specs.Json.{Parse, parse_map, after_end_array, read_key, items_step, items, members}
+use Rattle.json.proofs.Grammar.{items_end, items_more, members_no_key, members_more, read_key_is}
+use Rattle.serde_json.specs.Read.{converted}
+use Rattle.amqp_value_core.specs.Values.{Tree, array, no_trees, tree, Entries, no_entries, entry}
+use Rattle.amqp_json_new.specs.Meaning.{is_name, entry_key, with_entry, meaning, meanings, pairs_in, object_in, table_of}
+use Rattle.amqp_json_new.specs.Puts.{next_token, object_read, pairs_read}
+
+abbrev pick : {A : Type 0} → A → Option A → A
+pick d None = d
+pick d (Some a) = a
+
+found : {A B : Type 0} (a : A) (r s : List Token) (x : Option B) (b : B) → option_map {U = B × List Token} (λ y. (y, r)) x ≡ Some (b, s) → (r ≡ s) × (x ≡ Some b)
+found a r s None b e = absurd (cc)
+found a r s (Some y) b e = let same = ap (pick (y, r)) e in (ap (λ p. p.1) same, ap (λ p. Some p.0) same)
+
+pub converted_some : {A B : Type 0} (f : A → Option B) (o : Option (A × List Token)) (b : B) (r : List Token) → converted f o ≡ Some (b, r) → (a : A) × (o ≡ Some (a, r)) × (f a ≡ Some b)
+converted_some f None b r e = absurd (cc)
+converted_some f (Some p) b r e = let both = found p.0 p.1 r (f p.0) b e in (p.0, ap (λ s. Some (p.0, s)) both.0, both.1)
+
+-- nothing is converted from what is read
+none_of : {B : Type 0} (r : List Token) (x : Option B) → option_map {U = B × List Token} (λ y. (y, r)) x ≡ None → x ≡ None
+none_of r None e = refl
+none_of r (Some y) e = absurd (cc)
+
+twice : {A B : Type 0} (g : A → B) (r : List Token) (x : Option A) → option_map (λ b. (b, r)) (option_map g x) ≡ parse_map g (option_map (λ a. (a, r)) x)
+twice g r None = refl
+twice g r (Some a) = refl
+
+pub map_twice : {A B C : Type 0} (f : B → C) (g : A → B) (o : Option (A × List Token)) → parse_map f (parse_map g o) ≡ parse_map (λ a. f (g a)) o
+map_twice f g None = refl
+map_twice f g (Some p) = refl
+
+pub map_same : {A : Type 0} (o : Option (A × List Token)) → o ≡ parse_map (λ a. a) o
+map_same None = refl
+map_same (Some p) = refl
+
+pub converted-array : (o : Option (json.Items × List Token)) → converted meaning (parse_map json.array o) ≡ parse_map array (converted meanings o)
+converted-array None = refl
+converted-array (Some p) = twice array p.1 (meanings p.0)
+
+pub converted-object : (o : Option (json.Members × List Token)) → converted meaning (parse_map json.object o) ≡ converted (λ ms. object_in ms (pairs_in ms)) o
+converted-object None = refl
+converted-object (Some p) = refl
+
+with_item : (j : json.Json) (v : Tree) → meaning j ≡ Some v → (o : Option (json.Items × List Token)) → converted meanings (parse_map (json.item j) o) ≡ parse_map (tree v) (converted meanings o)
+with_item j v e None = refl
+with_item j v e (Some p) = rw e (twice (tree v) p.1 (meanings p.0))
+
+without_item : (j : json.Json) → meaning j ≡ None → (o : Option (json.Items × List Token)) → converted meanings (parse_map (json.item j) o) ≡ None
+without_item j e None = refl
+without_item j e (Some p) = rw e refl
+
+-- a key that is no name, and short enough, and its value
+with_member : (k : List ℕ) (j : json.Json) (v : Tree) → ((ps : Option Entries) → with_entry k (Some v) ps ≡ option_map (entry (entry_key k) v) ps) → meaning j ≡ Some v → (o : Option (json.Members × List Token))
+    → converted pairs_in (parse_map (json.member k j) o) ≡ parse_map (entry (entry_key k) v) (converted pairs_in o)
+with_member k j v put e None = refl
+with_member k j v put e (Some p) = rw e (ap (option_map (λ ps. (ps, p.1))) (put (pairs_in p.0)) ∙ twice (entry (entry_key k) v) p.1 (pairs_in p.0))
+
+without_member : (k : List ℕ) (j : json.Json) → ((ps : Option Entries) → with_entry k (meaning j) ps ≡ None) → (o : Option (json.Members × List Token)) → converted pairs_in (parse_map (json.member k j) o) ≡ None
+without_member k j e None = refl
+without_member k j e (Some p) = ap (option_map (λ ps. (ps, p.1))) (e (pairs_in p.0))
+
+pub next_is : (ts : List Token) (o : Option (List ℕ)) (r : List Token) → read_key ts ≡ Some (o, r) → ts ≡ next_token o ∷ r
+next_is ts None r e = read_key_is ts None r e
+next_is ts (Some k) r e = read_key_is ts (Some k) r e
+
+module _ (p : Parse json.Json) where
+  pub item_read : (n : ℕ) (ts r : List Token) (v : Tree) → 0 < n → after_end_array ts ≡ None → converted meaning (p ts) ≡ Some (v, r)
+      → converted meanings (items p n ts) ≡ parse_map (tree v) (converted meanings (items p (n - 1) r))
+  item_read n ts r v some going e = let j = converted_some meaning (p ts) v r e in ap (converted meanings) (items_more p n ts r j.0 some going j.1) ∙ with_item j.0 v j.2 _
+
+  no_item : (more : Parse json.Items) (o : Option (json.Json × List Token)) → converted meaning o ≡ None → converted meanings (option_and_then (λ q. parse_map (json.item q.0) (more q.1)) o) ≡ None
+  no_item more None e = refl
+  no_item more (Some q) e = without_item q.0 (none_of q.1 (meaning q.0) e) (more q.1)
+
+  pub item_refused : (n : ℕ) (ts : List Token) → after_end_array ts ≡ None → converted meaning (p ts) ≡ None → converted meanings (items p n ts) ≡ None
+  unfolding items
+  item_refused zero ts going e = refl
+  item_refused (suc n) ts going e = ap (λ o. converted meanings (items_step p (items p n) ts o)) going ∙ no_item (items p n) (p ts) e
+
+  pub items_over : (n : ℕ) (ts r : List Token) → length ts ≤ n → after_end_array ts ≡ Some r → converted meanings (items p n ts) ≡ Some (no_trees, r)
+  items_over n ts r enough e = ap (converted meanings) (items_end p n ts r enough e)
+
+  pub member_read : (n : ℕ) (k : List ℕ) (s r : List Token) (v : Tree) → 0 < n → ((ps : Option Entries) → with_entry k (Some v) ps ≡ option_map (entry (entry_key k) v) ps) → converted meaning (p s) ≡ Some (v, r)
+      → converted pairs_in (members p n (key k ∷ s)) ≡ parse_map (entry (entry_key k) v) (converted pairs_in (members p (n - 1) r))
+  member_read n k s r v some put e =
+      let j = converted_some meaning (p s) v r e in
+      ap (converted pairs_in) (members_more p n k (key k ∷ s) s r j.0 some refl j.1) ∙ with_member k j.0 v put j.2 _
+
+  no_member : (k : List ℕ) (more : Parse json.Members) (o : Option (json.Json × List Token)) → ((j : json.Json) (r : List Token) → o ≡ Some (j, r) → (ps : Option Entries) → with_entry k (meaning j) ps ≡ None)
+      → converted pairs_in (option_and_then (λ q. parse_map (json.member k q.0) (more q.1)) o) ≡ None
+  no_member k more None e = refl
+  no_member k more (Some q) e = without_member k q.0 (e q.0 q.1 refl) (more q.1)
+
+  -- a key or a value is none of a table
+  pub member_refused : (n : ℕ) (k : List ℕ) (s : List Token) → ((j : json.Json) (r : List Token) → p s ≡ Some (j, r) → (ps : Option Entries) → with_entry k (meaning j) ps ≡ None)
+      → converted pairs_in (members p n (key k ∷ s)) ≡ None
+  unfolding members
+  member_refused zero k s e = refl
+  member_refused (suc n) k s e = no_member k (members p n) (p s) e
+
+  pub members_over : (n : ℕ) (r : List Token) → 0 < n → converted pairs_in (members p n (next_token None ∷ r)) ≡ Some (no_entries, r)
+  unfolding members
+  members_over zero r some = let never : ⊥ = omega (arith, some) in absurd never
+  members_over (suc n) r some = refl
+
+  pub key_refused : (n : ℕ) (ts : List Token) → read_key ts ≡ None → converted pairs_in (members p n ts) ≡ None
+  key_refused n ts e = ap (converted pairs_in) (members_no_key p n ts e)
+
+  pub no_object : (n : ℕ) (ts : List Token) → read_key ts ≡ None → converted (λ ms. object_in ms (pairs_in ms)) (members p n ts) ≡ None
+  no_object n ts e = ap (converted (λ ms. object_in ms (pairs_in ms))) (members_no_key p n ts e)
+
+  -- ---- an object whose first key is no name is a table
+
+  entries_of_object : (k : List ℕ) (j : json.Json) (ms : json.Members) (o : Option Entries) → is_name k ≡ false → object_in (json.member k j ms) o ≡ option_map table_of o
+  entries_of_object k j json.no_members o e = rw e refl
+  entries_of_object k j (json.member l i ms) o e = refl
+
+  as_table : (k : List ℕ) (j : json.Json) (o : Option (json.Members × List Token)) → is_name k ≡ false
+      → converted (λ ms. object_in ms (pairs_in ms)) (parse_map (json.member k j) o) ≡ parse_map table_of (converted pairs_in (parse_map (json.member k j) o))
+  as_table k j None e = refl
+  as_table k j (Some q) e = ap (option_map (λ v. (v, q.1))) (entries_of_object k j q.0 (pairs_in (json.member k j q.0)) e) ∙ twice table_of q.1 (pairs_in (json.member k j q.0))
+
+  as_tables : (k : List ℕ) (more : Parse json.Members) (o : Option (json.Json × List Token)) → is_name k ≡ false
+      → converted (λ ms. object_in ms (pairs_in ms)) (option_and_then (λ q. parse_map (json.member k q.0) (more q.1)) o) ≡ parse_map table_of (converted pairs_in (option_and_then (λ q. parse_map (json.member k q.0) (more q.1)) o))
+  as_tables k more None e = refl
+  as_tables k more (Some q) e = as_table k q.0 (more q.1) e
+
+  pub table_first : (o : Option (List ℕ)) (r : List Token) → ((k : List ℕ) → o ≡ Some k → is_name k ≡ false) → object_read p (next_token o ∷ r) ≡ parse_map table_of (pairs_read p (next_token o ∷ r))
+  unfolding members
+  table_first None r plain = refl
+  table_first (Some k) r plain = as_tables k (members p (length r)) (p r) (plain k refl)
+
+pub none_is : (o : Option (json.Json × List Token)) (j : json.Json) (r : List Token) → o ≡ Some (j, r) → converted meaning o ≡ None → meaning j ≡ None
+none_is o j r is none = none_of r (meaning j) (sym (ap (converted meaning) is) ∙ none)

@@ -1,0 +1,103 @@
+//! From a JSON text to the canonical encoding, and to a value.
+
+ghost use Rattle.std.specs.Prelude.{◌≡◌, Some, IfOk, IfErr, List, ℕ, length};
+ghost use Rattle.amqp_value_core.specs.Grammar.{Wire};
+ghost use Rattle.amqp_value_core.specs.Texts.{text};
+ghost use Rattle.amqp_value_core.specs.Values.{Tree};
+ghost use Rattle.amqp_value_core.specs.View.{view};
+ghost use Rattle.amqp_json_new.specs.Conversions.{IsEncodingOf, IsRefused, IsWithin};
+ghost use Rattle.amqp_json_new.specs.Meaning.{meant};
+ghost use Rattle.amqp_json_new.specs.Puts.{IsEncodedAsItComes};
+
+use crate::error::JsonError;
+use crate::walk::put_document;
+use amq_protocol_types::generation::{GenError, WriteContext, gen_value};
+use amq_protocol_types::parsing::{SliceInput, parse_value};
+use amqp_in_place::{Limits, is_canonical};
+use amqp_value_core::value::AMQPValue;
+use json::{Reader, Scratch};
+use std::alloc::Global;
+
+// No text nests deeper.
+const UNLIMITED: Limits = Limits {
+    frame: u32::MAX,
+    depth: 128,
+};
+
+/// Converts a JSON text to the canonical encoding of the value that it means.
+pub fn encoding_of_json(alloc: Global, json: &str) -> Result<Vec<u8>, JsonError>
+    ensures ok { IfOk result (λ bytes. IsEncodingOf json.now bytes.items) }
+    ensures refused { IfErr result (λ e. IsRefused e json.now) }
+    ensures within { IfErr result (λ e. IsWithin e (length json.now)) }
+{
+    let bytes = encoding_of_text(alloc, json)?;
+    if is_canonical(bytes.as_slice(), UNLIMITED) {
+        return Ok(bytes);
+    }
+    canonical_of(alloc, bytes)
+}
+
+/// Converts a JSON text to the value that it means.
+pub fn from_json(alloc: Global, json: &str) -> Result<AMQPValue, JsonError>
+    ensures ok { IfOk result (λ v. meant json.now ≡ Some (view v)) }
+    ensures refused { IfErr result (λ e. IsRefused e json.now) }
+    ensures within { IfErr result (λ e. IsWithin e (length json.now)) }
+{
+    let bytes = encoding_of_text(alloc, json)?;
+    value_of(alloc, bytes)
+}
+
+// The canonical encoding of the value of an encoding.
+fn canonical_of(alloc: Global, bytes: Vec<u8>) -> Result<Vec<u8>, JsonError>
+    ensures ok { IfOk result (λ out. (v : Tree) → Wire bytes.items v → out.items ≡ text v) }
+    ensures refused { IfErr result (λ e. (t : List ℕ) → IsRefused e t) }
+    ensures within { IfErr result (λ e. (len : ℕ) → IsWithin e len) }
+{
+    let value = value_of(alloc, bytes)?;
+    let mut context = WriteContext::from(Vec::new(alloc));
+    match gen_value(&value, &mut context) {
+        Ok(()) => Ok(context.into_inner().0),
+        Err(GenError::OutOfMemory) => Err(JsonError::OutOfMemory),
+        Err(_) => Err(JsonError::TooLarge),
+    }
+}
+
+// The value of an encoding.
+fn value_of(alloc: Global, bytes: Vec<u8>) -> Result<AMQPValue, JsonError>
+    ensures ok { IfOk result (λ u. (v : Tree) → Wire bytes.items v → v ≡ view u) }
+    ensures refused { IfErr result (λ e. (t : List ℕ) → IsRefused e t) }
+    ensures within { IfErr result (λ e. (len : ℕ) → IsWithin e len) }
+{
+    match parse_value(alloc, SliceInput::new(bytes.as_slice())) {
+        Ok((_, value)) => Ok(value),
+        Err(_) => Err(JsonError::OutOfMemory),
+    }
+}
+
+// An encoding, with pairs in the order of the text.
+fn encoding_of_text(alloc: Global, text: &str) -> Result<Vec<u8>, JsonError>
+    ensures ok { IfOk result (λ bytes. IsEncodedAsItComes text.now bytes.items) }
+    ensures refused { IfErr result (λ e. IsRefused e text.now) }
+    ensures within { IfErr result (λ e. IsWithin e (length text.now)) }
+{
+    let mut scratch = Scratch::new(alloc);
+    let mut reader = Reader::new(text, &mut scratch)?;
+    let mut out = Vec::with_capacity(alloc, text.len())?;
+    match put_document(alloc, &mut reader, &mut out) {
+        Ok(()) => Ok(out),
+        Err(error) => Err(within(error, text.len())),
+    }
+}
+
+// The error, with a byte within the text.
+fn within(error: JsonError, len: usize) -> JsonError
+    ensures refused { (t : List ℕ) → IsRefused error t → IsRefused result t }
+    ensures within { IsWithin result len }
+{
+    match error {
+        JsonError::OutOfMemory => JsonError::OutOfMemory,
+        JsonError::TooLarge => JsonError::TooLarge,
+        JsonError::Syntax(at) => JsonError::Syntax(at.min(len)),
+        JsonError::NotAValue(at, mismatch) => JsonError::NotAValue(at.min(len), mismatch),
+    }
+}

@@ -1,0 +1,19 @@
+//! The JSON of AMQP values: to text and back, from values and from encodings. docs/JSON.md has the
+//! format.
+#![tactic(auto)]
+
+mod decode;
+mod encode;
+mod error;
+mod key;
+pub mod laws;
+mod named;
+mod names;
+mod numerals;
+mod printing;
+mod put;
+mod walk;
+
+pub use decode::{json_of_encoding, to_json, write_json};
+pub use encode::{encoding_of_json, from_json};
+pub use error::{DecodeError, EncodeError, JsonError, Mismatch, WriteError};

@@ -1,0 +1,37 @@
+//! The types whose values are written by their names.
+
+ghost use Rattle.std.specs.Prelude.{◌≡◌};
+ghost use Rattle.std.specs.Str.{bytes_eq};
+ghost use Rattle.amqp_json_new.specs.Names.{type_named};
+
+use amqp_value_core::types::AMQPType;
+
+/// The type of a name.
+pub(crate) fn type_of_name(name: &str) -> Option<AMQPType>
+    ensures { result ≡ type_named name.now }
+{
+    match name {
+        it if is_same(it, "ShortShortInt") => Some(AMQPType::ShortShortInt),
+        it if is_same(it, "ShortShortUInt") => Some(AMQPType::ShortShortUInt),
+        it if is_same(it, "ShortInt") => Some(AMQPType::ShortInt),
+        it if is_same(it, "ShortUInt") => Some(AMQPType::ShortUInt),
+        it if is_same(it, "LongInt") => Some(AMQPType::LongInt),
+        it if is_same(it, "LongUInt") => Some(AMQPType::LongUInt),
+        it if is_same(it, "LongLongInt") => Some(AMQPType::LongLongInt),
+        it if is_same(it, "Float") => Some(AMQPType::Float),
+        it if is_same(it, "Double") => Some(AMQPType::Double),
+        it if is_same(it, "DecimalValue") => Some(AMQPType::DecimalValue),
+        it if is_same(it, "LongString") => Some(AMQPType::LongString),
+        it if is_same(it, "Timestamp") => Some(AMQPType::Timestamp),
+        it if is_same(it, "ByteArray") => Some(AMQPType::ByteArray),
+        _ => None,
+    }
+}
+
+// Whether two names are equal. Their lengths are compared where this is called, which mostly suffices.
+#[inline(always)]
+fn is_same(name: &str, other: &str) -> bool
+    ensures { result ≡ bytes_eq name.now other.now }
+{
+    name.len() == other.len() && name == other
+}
