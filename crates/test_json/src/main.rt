@@ -8,8 +8,7 @@
 
 use amqp_in_place::Limits;
 use amqp_json_new::{
-    JsonError, WriteError, encoding_of_json, from_json, json_of_encoding, to_json,
-    write_json,
+    JsonError, WriteError, encoding_of_json, from_json, json_of_encoding, to_json, write_json,
 };
 use std::alloc::{AllocError, Global};
 use std::io::Read;
