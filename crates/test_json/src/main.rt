@@ -77,8 +77,8 @@ fn judge(rt: &HostRuntime, alloc: Global, text: &str, count: &mut Count) -> io::
             continue;
         }
         let (request, want) = match line.split_once(" => ") {
-            Some((request, want)) => (request.trim(), want.trim()),
-            None => (line, ""),
+            Some((request, want)) => (request.trim(), Some(want.trim())),
+            None => (line, None),
         };
         let answer = match answer(alloc, request) {
             Ok(answer) => answer,
@@ -86,9 +86,13 @@ fn judge(rt: &HostRuntime, alloc: Global, text: &str, count: &mut Count) -> io::
             Err(Trouble::OutOfMemory) => String::from_str(alloc, "out of memory")?,
         };
         count.rows = count.rows.saturating_add(1);
-        if want != answer.as_str() {
-            count.wrong = count.wrong.saturating_add(1);
-            println!(rt; "{request}\n  wanted {want}\n  is     {answer}")?;
+        match want {
+            Some(want) if want == answer.as_str() => {}
+            Some(want) => {
+                count.wrong = count.wrong.saturating_add(1);
+                println!(rt; "{request}\n  wanted {want}\n  is     {answer}")?;
+            }
+            None => println!(rt; "{request} => {answer}")?,
         }
     }
     Ok(())
