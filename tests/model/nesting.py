@@ -182,6 +182,8 @@ FOR_C = {
     "amqpv_canonical": Call(["amqpv_canonical"], {"": not_canonical}, DEEP),
     **{it: Call([it], TEXTS, OF_JSON) for it in ("amqpv_from_json", "amqpv_from_json_or_problem")},
 }
+# The call that warns of what nests deeper than its limit, and is done.
+WARNS = "warnings"
 # The calls that test_calls makes: without a limit, within one, and on JSON.
 CALLS = {
     **{it: Call([it], {"": encoding}, UNLIMITED) for it in ("parse_value", "read_in_place_unlimited", "skip_value")},
@@ -248,7 +250,7 @@ def checks(made: Mapping[str, Call], column: int = 0) -> Iterator[Check]:
                 stack = besides + depth * figure
                 yield Check(f"{name}, {depth} {said}", partial(not_done, call, depth, make, form, stack))
             if not figure or call.depths != UNLIMITED:
-                of_long = partial(wrong_of_long, call, make, form, SMALL, figure > 0)
+                of_long = partial(wrong_of_long, call, make, form, SMALL, figure > 0 and name != WARNS)
                 yield Check(f"{name}, {LONG} bytes of {said}", of_long)
         if figure:
             stack = besides + call.depths[-1] * figure // 2
