@@ -10,7 +10,7 @@
     show            amqp_show in each of its forms
     alloc-failures  each allocation, read and write fails in turn
     sizes           large and deep input
-    wire            programs on devices that fail
+    wire            random input against the model, and devices that fail
     c, python       the calls for C; the Python package
     counts          instructions and memory of calls
     web             the page, in browsers

@@ -6,13 +6,14 @@
 #include "amqp_values.h"
 #include "hexadecimal.h"
 
-enum { MOST_VALUES = 10000, MOST_MEMORY = 4000000 };
+enum { MOST_VALUES = 10000, MOST_MEMORY = 10000000 };
 
 static uint8_t input[AMQPV_FRAME];
 
 /* The most memory that amqpv_to_json takes, as the header states it. */
 static size_t memory_for(const amqpv_measure *measure) {
-    return 12 * measure->length;
+    size_t by_length = 157 * measure->length, by_values = 15 * measure->length + 860 * measure->values;
+    return by_length < by_values ? by_length : by_values;
 }
 
 static amqpv_result print_json(size_t length) {

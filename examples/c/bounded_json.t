@@ -3,7 +3,7 @@ as_many_values
   [null,null,null]
 
 as_much_memory
-  $ echo 41 00000003 56 56 56 | bounded_json 4 96
+  $ echo 41 00000003 56 56 56 | bounded_json 4 1256
   [null,null,null]
 
 cut
@@ -21,6 +21,6 @@ too_many_values
   [1]
 
 too_much_memory
-  $ echo 41 00000003 56 56 56 | bounded_json 4 95
+  $ echo 41 00000003 56 56 56 | bounded_json 4 1255
   too much: 8 bytes, 4 values, 1 levels
   [1]

@@ -1,7 +1,7 @@
 back
   $ json back <<'END'
   > { "b": 1,
-  >   "a": {"ShortInt": -2} }
+  >   "a": {"$ShortInt": -2} }
   > END
   4600000010016173fffe01626c0000000000000001
 
@@ -32,13 +32,13 @@ back_no_utf8
   [1]
 
 back_of_no_value
-  $ echo '{"LongLongInt":5}' | json back
-  the JSON of no value, at 15
+  $ echo '{"$ShortInt":32768}' | json back
+  the JSON of no value, at 13
   [1]
 
 back_short_string
-  $ echo '[{"ShortString":"key"}]' | json back
-  no encoding
+  $ echo '[{"$ShortString":"key"}]' | json back
+  the JSON of no value, at 2
   [1]
 
 back_too_deep
@@ -78,7 +78,7 @@ every_type
   > 00 46 00000000                           # the empty key: an empty table
   > ff                                       # no part of the value
   > END
-  {"":{},"dec":{"DecimalValue":{"scale":2,"value":12345}},"f32":{"Float":"3fc00000"},"f64":{"Double":"c004000000000000"},"flag":true,"i16":{"ShortInt":-32768},"i32":{"LongInt":-1},"i64":-9223372036854775808,"i8":{"ShortShortInt":-2},"list":[{"LongInt":7},[false,null]],"raw":{"ByteArray":"00ff"},"sub":{"x":{"ShortShortInt":5}},"text":{"LongString":"6122ff"},"time":{"Timestamp":1600000000},"u16":{"ShortUInt":65535},"u32":{"LongUInt":4294967295},"u8":{"ShortShortUInt":254},"void":null}
+  {"":{},"dec":{"$DecimalValue":"12345e-2"},"f32":{"$Float":"3fc00000"},"f64":{"$Double":"c004000000000000"},"flag":true,"i16":{"$ShortInt":-32768},"i32":{"$LongInt":-1},"i64":-9223372036854775808,"i8":{"$ShortShortInt":-2},"list":[{"$LongInt":7},[false,null]],"raw":{"$ByteArray":"00ff"},"sub":{"x":{"$ShortShortInt":5}},"text":{"$LongString":"6122ff"},"time":{"$Timestamp":1600000000},"u16":{"$ShortUInt":65535},"u32":{"$LongUInt":4294967295},"u8":{"$ShortShortUInt":254},"void":null}
 
 malformed
   $ echo '41 00000001 7a   # in the body is 7a, which is no type tag' | json
@@ -87,10 +87,10 @@ malformed
 
 name_of_a_type
   $ json <<'END'
-  > 46 0000000c               # a table, of 13 bytes
-  > 08 53686f7274496e74 73 0005 # its only key is ShortInt
+  > 46 0000000d                  # a table, of 13 bytes
+  > 09 2453686f7274496e74 73 0005 # its only key is $ShortInt
   > END
-  {"FieldTable":{"ShortInt":{"ShortInt":5}}}
+  {"$$ShortInt":{"$ShortInt":5}}
 
 unknown_tag
   $ echo 7a | json

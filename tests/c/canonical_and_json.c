@@ -2,8 +2,8 @@
  * Tries amqpv_canonical, amqpv_to_json, amqpv_write_json, amqpv_from_json and amqpv_from_json_or_problem of
  * include/amqp_values.h: the values below in each buffer
  * up to one byte more than they need, with the first allocation failing, then the second, until a call
- * makes fewer; each prefix of them, and each change of one byte to one of some; limits that are just kept
- * to and just not; texts that nest as deep as `nesting` allows and one deeper, up to 127 and 128;
+ * makes fewer; each prefix of them, and each change of one byte to one of some; texts that are read and not
+ * written so; limits that are just kept to and just not; texts that nest as deep as `nesting` allows and one deeper, up to 127 and 128;
  * strings whose texts have about 4,096 bytes; and a table of 100,010 bytes, there and back, with every seventeenth
  * allocation failing. What is written is what is expected, what is not is left unchanged, and canonical bytes allocate
  * nothing. amqpv_write_json writes what amqpv_to_json does, if the keys of each table ascend, and never allocates;
@@ -31,6 +31,8 @@ static const struct {
     {SLICE("[[],[],[]]"), 2},
     {SLICE("{\"[\":{},\"{\":[]}"), 2},
     {SLICE("[{\"a\":[{}]},[]]"), 4},
+    {SLICE("{\"$ShortInt\":5}"), 1},
+    {SLICE("[{\"$LongString\":\"5b\"}]"), 2},
 };
 
 /* Encodings, the JSON of each, and the canonical encoding, which is read back from the JSON. */
@@ -41,37 +43,51 @@ static const struct {
     INPUT("V", "null", "V"),
     INPUT("t\1", "true", "t\1"),
     INPUT("t\7", "true", "t\1"),
-    INPUT("U\377\376", "{\"ShortInt\":-2}", "s\377\376"),
+    INPUT("U\377\376", "{\"$ShortInt\":-2}", "s\377\376"),
     INPUT("L\0\0\0\0\0\0\0\7", "7", "l\0\0\0\0\0\0\0\7"),
-    INPUT("f\177\300\0\1", "{\"Float\":\"7fc00001\"}", "f\177\300\0\1"),
-    INPUT("D\2\0\0\1\72", "{\"DecimalValue\":{\"scale\":2,\"value\":314}}", "D\2\0\0\1\72"),
+    INPUT("f\177\300\0\1", "{\"$Float\":\"7fc00001\"}", "f\177\300\0\1"),
+    INPUT("D\2\0\0\1\72", "{\"$DecimalValue\":\"314e-2\"}", "D\2\0\0\1\72"),
     INPUT("S\0\0\0\3a\"\n", "\"a\\\"\\n\"", "S\0\0\0\3a\"\n"),
-    INPUT("S\0\0\0\2h\377", "{\"LongString\":\"68ff\"}", "S\0\0\0\2h\377"),
-    INPUT("x\0\0\0\2\1\253", "{\"ByteArray\":\"01ab\"}", "x\0\0\0\2\1\253"),
-    // its text has more than four times the encoding's bytes, so it is sorted twice
+    INPUT("S\0\0\0\2h\377", "{\"$LongString\":\"68ff\"}", "S\0\0\0\2h\377"),
+    INPUT("x\0\0\0\2\1\253", "{\"$ByteArray\":\"01ab\"}", "x\0\0\0\2\1\253"),
     INPUT("F\0\0\0\14\1cb\5\1bb\6\1ab\7",
-          "{\"a\":{\"ShortShortInt\":7},\"b\":{\"ShortShortInt\":6},\"c\":{\"ShortShortInt\":5}}",
+          "{\"a\":{\"$ShortShortInt\":7},\"b\":{\"$ShortShortInt\":6},\"c\":{\"$ShortShortInt\":5}}",
           "F\0\0\0\14\1ab\7\1bb\6\1cb\5"),
     INPUT("F\0\0\0\0", "{}", "F\0\0\0\0"),
     INPUT("A\0\0\0\6A\0\0\0\0V", "[[],null]", "A\0\0\0\6A\0\0\0\0V"),
     INPUT("F\0\0\0\12\1bt\7\1aV\1bV", "{\"a\":null,\"b\":null}", "F\0\0\0\6\1aV\1bV"),
     INPUT("A\0\0\0\20F\0\0\0\12\1bt\7\1aV\1bVV", "[{\"a\":null,\"b\":null},null]", "A\0\0\0\14F\0\0\0\6\1aV\1bVV"),
-    INPUT("F\0\0\0\6\4VoidV", "{\"FieldTable\":{\"Void\":null}}", "F\0\0\0\6\4VoidV"),
+    INPUT("F\0\0\0\6\4VoidV", "{\"Void\":null}", "F\0\0\0\6\4VoidV"),
+    INPUT("F\0\0\0\5\3$$aV", "{\"$$$a\":null}", "F\0\0\0\5\3$$aV"),
+    INPUT("F\0\0\0\14\11$ShortIntb\5", "{\"$$ShortInt\":{\"$ShortShortInt\":5}}", "F\0\0\0\14\11$ShortIntb\5"),
     INPUT("F\0\0\0\22\1bS\0\0\0\2hi\1aA\0\0\0\2t\7", "{\"a\":[true],\"b\":\"hi\"}", "F\0\0\0\22\1aA\0\0\0\2t\1\1bS\0\0\0\2hi"),
 };
 static const slice other_bytes = SLICE("\0\1\2AFLSUVbt\177\200\377");
 static const slice other_characters = SLICE("\0 \"-.09,:[\\]e{}\200\377");
 
-/* Texts that denote nothing, and texts that denote a value without encoding. */
+/* Texts that denote nothing. */
 static const slice not_json[] = {
     SLICE(""), SLICE(" "), SLICE("nul"), SLICE("1.0"), SLICE("-0"), SLICE("1e3"), SLICE("9223372036854775808"),
     SLICE("\"\377\""), SLICE("[1"), SLICE("[1]]"), SLICE("{\"a\":1,}"), SLICE("\"\\ud800\""),
-    SLICE("{\"LongLongInt\":5}"), SLICE("{\"Void\":null}"), SLICE("{\"FieldTable\":{\"a\":1}}"),
-    SLICE("{\"LongString\":\"6869\"}"), SLICE("{\"ByteArray\":\"0AB1\"}"), SLICE("{\"ByteArray\":\"abc\"}"),
-    SLICE("{\"ShortShortInt\":128}"), SLICE("{\"DecimalValue\":{\"scale\":2}}"),
+    SLICE("{\"$Int\":5}"), SLICE("{\"$Void\":null}"), SLICE("{\"$Boolean\":true}"),
+    SLICE("{\"$FieldTable\":{\"a\":1}}"), SLICE("{\"$ShortString\":\"a\"}"), SLICE("{\"$\":1}"),
+    SLICE("{\"$LongString\":\"686\"}"), SLICE("{\"$ByteArray\":\"0x\"}"), SLICE("{\"$ByteArray\":5}"),
+    SLICE("{\"$ShortShortInt\":128}"), SLICE("{\"$ShortShortInt\":\"5\"}"), SLICE("{\"$Float\":\"3f80\"}"),
+    SLICE("{\"$DecimalValue\":{\"scale\":2,\"value\":314}}"), SLICE("{\"$DecimalValue\":\"3.14\"}"),
+    SLICE("{\"$DecimalValue\":\"1e-256\"}"), SLICE("{\"$DecimalValue\":\"4294967296e-0\"}"),
+    SLICE("{\"$ShortInt\":5,\"a\":1}"), SLICE("{\"a\":1,\"$ShortInt\":5}"),
 };
-static const slice not_encoded[] = {
-    SLICE("{\"ShortString\":\"\"}"), SLICE("[null,{\"ShortString\":\"a\"}]"), SLICE("{\"k\":{\"ShortString\":\"a\"}}"),
+
+/* Texts that denote a value and aren't written so: the second is what is written. */
+static const slice other_texts[][2] = {
+    {SLICE(" [ -7 , \"\\u0061\" ] "), SLICE("[-7,\"a\"]")},
+    {SLICE("{\"$LongLongInt\":-5}"), SLICE("-5")},
+    {SLICE("{\"$LongString\":\"68656c6c6f\"}"), SLICE("\"hello\"")},
+    {SLICE("{\"$LongString\":\"68FF\"}"), SLICE("{\"$LongString\":\"68ff\"}")},
+    {SLICE("{\"$ByteArray\":\"0AB1\"}"), SLICE("{\"$ByteArray\":\"0ab1\"}")},
+    {SLICE("{\"$Double\":\"3FF0000000000000\"}"), SLICE("{\"$Double\":\"3ff0000000000000\"}")},
+    {SLICE("{\"\\u0024ShortInt\":5}"), SLICE("{\"$ShortInt\":5}")},
+    {SLICE("{\"b\":1,\"a\":2,\"b\":3}"), SLICE("{\"a\":2,\"b\":3}")},
 };
 
 /* Texts, how deep they may nest, and what is wrong with them at which byte; of several problems the first of the header's order. */
@@ -102,19 +118,26 @@ static const struct {
     {SLICE("[1,]"), 1, AMQPV_PROBLEM_NOT_JSON, 3},
     {SLICE("[1 2]"), 1, AMQPV_PROBLEM_NOT_JSON, 3},
     {SLICE("[01]"), 1, AMQPV_PROBLEM_NOT_JSON, 1},
-    {SLICE("[1e999]"), 1, AMQPV_PROBLEM_NOT_JSON, 1},
     {SLICE("[\"\\ud800\"]"), 1, AMQPV_PROBLEM_NOT_JSON, 1},
     {SLICE("{\"a\":1,}"), 1, AMQPV_PROBLEM_NOT_JSON, 7},
     {SLICE("1 , 2"), 0, AMQPV_PROBLEM_NOT_JSON, 4},
     {SLICE("{\"a\" 1}"), 1, AMQPV_PROBLEM_NOT_JSON, 1},
-    {SLICE("[1.5,{\"Void\""), 2, AMQPV_PROBLEM_NOT_JSON, 6},
+    {SLICE("[1,{\"a\",1.5"), 2, AMQPV_PROBLEM_NOT_JSON, 4},
+    {SLICE("{\"$ShortInt\" 5}"), 1, AMQPV_PROBLEM_NOT_JSON, 1},
+    {SLICE("{\"$ShortInt\":}"), 1, AMQPV_PROBLEM_NOT_JSON, 13},
+    {SLICE("{\"$ShortInt\":5"), 1, AMQPV_PROBLEM_NOT_JSON, 14},
+    {SLICE("[1.5,{\"Void\""), 2, AMQPV_PROBLEM_NO_VALUE, 1},
+    {SLICE("[1e999]"), 1, AMQPV_PROBLEM_NO_VALUE, 1},
     {SLICE("1.0"), 0, AMQPV_PROBLEM_NO_VALUE, 0},
     {SLICE("9223372036854775808"), 0, AMQPV_PROBLEM_NO_VALUE, 0},
     {SLICE("[null, -0]"), 1, AMQPV_PROBLEM_NO_VALUE, 7},
-    {SLICE("{\"a\":{\"Void\":null}}"), 2, AMQPV_PROBLEM_NO_VALUE, 13},
+    {SLICE("{\"a\":{\"$Void\":null}}"), 2, AMQPV_PROBLEM_NO_VALUE, 6},
     {SLICE("{\"LongInt\":{\"a\":[1.5]}}"), 3, AMQPV_PROBLEM_NO_VALUE, 17},
-    {SLICE("{\"ShortShortInt\":128}"), 1, AMQPV_PROBLEM_NO_VALUE, 17},
-    {SLICE("[{\"ByteArray\":\"0A\"}]"), 2, AMQPV_PROBLEM_NO_VALUE, 14},
+    {SLICE("{\"$LongInt\":{\"a\":[1.5]}}"), 3, AMQPV_PROBLEM_NO_VALUE, 12},
+    {SLICE("{\"$ShortShortInt\":128}"), 1, AMQPV_PROBLEM_NO_VALUE, 18},
+    {SLICE("[{\"$ByteArray\":\"0G\"}]"), 2, AMQPV_PROBLEM_NO_VALUE, 15},
+    {SLICE("{\"$ShortInt\":5, \"a\":1}"), 1, AMQPV_PROBLEM_NO_VALUE, 16},
+    {SLICE("{\"a\":1,\"$ShortInt\":5}"), 1, AMQPV_PROBLEM_NO_VALUE, 7},
 };
 
 static const way canonical = {CANONICAL, FRAME, DEPTH, 0}, there = {TO_JSON, FRAME, DEPTH, 0},
@@ -126,7 +149,7 @@ static void try_text(slice given) {
     uint8_t bytes[MANY], text[MANY];
     size_t count, again;
     int32_t result = write_to(back, given, MANY, &count);
-    CHECK(result == AMQPV_OK || result == AMQPV_NOT_JSON || result == AMQPV_NO_ENCODING);
+    CHECK(result == AMQPV_OK || result == AMQPV_NOT_JSON);
     if (result == AMQPV_OK) {
         slice encoding = taken(bytes, MANY, count);
         CHECK(write_to(there, encoding, MANY, &again) == AMQPV_OK);
@@ -251,14 +274,14 @@ static void try_deep(size_t deep, uint32_t nesting, int32_t wanted) {
     CHECK(wanted == AMQPV_OK ? count == 5 * deep : is_problem(AMQPV_PROBLEM_TOO_DEEP, deep - 1));
 }
 
-/* Strings whose texts are about as long as what the stack takes: each is written without allocating, if it fits. */
-#define ON_THE_STACK 4096
-static void try_about_the_stack(void) {
-    static uint8_t bytes[ON_THE_STACK + 64], expected[ON_THE_STACK + 64];
+/* Strings whose texts have about 4,096 bytes: each is written without allocating, if it fits. */
+#define LONG 4096
+static void try_long_strings(void) {
+    static uint8_t bytes[LONG + 64], expected[LONG + 64];
     new_pages(2);
     memset(bytes, 'a', sizeof bytes);
     memset(expected, 'a', sizeof expected);
-    for (size_t size = ON_THE_STACK - 8; size < ON_THE_STACK + 8; size++) {
+    for (size_t size = LONG - 8; size < LONG + 8; size++) {
         size_t length = size - 2, count;
         memcpy(bytes, (uint8_t[]){'S', 0, 0, (uint8_t)(length >> 8), (uint8_t)length}, 5);
         expected[0] = expected[size - 1] = '"';
@@ -330,9 +353,10 @@ int main(void) {
     for (size_t i = 0; i < COUNT(not_json); i++) {
         CHECK(write_to(back, not_json[i], MANY, &count) == AMQPV_NOT_JSON);
     }
-    for (size_t i = 0; i < COUNT(not_encoded); i++) {
-        CHECK(write_to(back, not_encoded[i], MANY, &count) == AMQPV_NO_ENCODING);
-        CHECK(write_to(or_problem, not_encoded[i], MANY, &count) == AMQPV_NO_ENCODING);
+    for (size_t i = 0; i < COUNT(other_texts); i++) {
+        uint8_t bytes[MANY];
+        CHECK(write_to(back, other_texts[i][0], MANY, &count) == AMQPV_OK);
+        CHECK(write_to(there, taken(bytes, MANY, count), MANY, &count) == AMQPV_OK && is_in_buffer(MANY, other_texts[i][1]));
     }
     for (size_t i = 0; i < COUNT(problems); i++) {
         try_problem(problems[i].text, problems[i].nesting, problems[i].kind, problems[i].offset);
@@ -345,7 +369,7 @@ int main(void) {
     try_deep(128, AMQPV_JSON_NESTING, AMQPV_NOT_JSON);
     try_deep(127, UINT32_MAX, AMQPV_OK);
     try_deep(128, UINT32_MAX, AMQPV_NOT_JSON);
-    try_about_the_stack();
+    try_long_strings();
     try_large();
     printf("%" PRIu64 " calls\n", calls);
     return 0;

@@ -84,15 +84,12 @@ ITEMS = {
     "60 tables in each other": nested("F", 60, b"V", b"\0"),
     "strings": field(b"S", b"\0"),
 }
-# Texts of a hundred kilobytes: an array before a lower key, which is encoded twice, and objects of which no member counts.
-ZEROS = ",".join("0" * 50_000)
-NO_VALUES = "".join(f'"{key}":-0,' for key in sorted(f"{it:x}" for it in range(1 << 13)))
+# Texts of a hundred kilobytes. Of an array before a lower key a value is made, to sort the keys.
+ZEROS, TABLES = ",".join("0" * 50_000), ",".join(['{"":0}'] * 14_000)
 TEXTS = {
     "zeros before a lower key": f'{{"b":[{ZEROS}],"a":0}}',
     "arrays before a lower key": f'{{"b":[{",".join(["[0]"] * 25_000)}],"a":0}}',
-    "zeros after a member of no value": f'{{"":-0,"{"k" * 255}":[{ZEROS}],"":0}}',
-    "rejected, keys of no value": '{"\\n":-0,' + NO_VALUES + '"":-0}',
-    "rejected, objects of no value": '{"":{"ShortString":""},"":-0,"":' * 126 + "-0" + "}" * 126,
+    "tables before a lower key": f'{{"b":[{TABLES}],"a":0}}',
     "rejected, zeros": f"[{ZEROS},-0]",
 }
 

@@ -152,10 +152,13 @@ STATED: dict[tuple[str, ...], tuple[str, Callable[[Taken], float]]] = {
         "145 for each byte, or 4 for each byte and 860 for each value",
         lambda it: min(145 * it.given, 4 * it.given + 860 * it.values),
     ),
-    ("amqpv_to_json",): ("12 for each byte, and none if the keys of each table ascend", lambda it: 12 * it.given),
+    ("amqpv_to_json",): (
+        "157 for each byte, or 15 for each byte and 860 for each value, and none if the keys of each table ascend",
+        lambda it: min(157 * it.given, 15 * it.given + 860 * it.values),
+    ),
     ("amqpv_from_json", "amqpv_from_json_or_problem"): (
-        "8 for each byte of the text and 57,000 more, or 9 for each byte and 69,000 more if it is rejected",
-        lambda it: 8 * it.given + 57_000 if it.result == 0 else 9 * it.given + 69_000,
+        "180 for each byte of the text, and 14 if the keys of each object ascend",
+        lambda it: 180 * it.given,
     ),
     ("amqpv_first_warnings", "amqpv_first_warnings_in_table"): (
         "50 for each byte, or 39 for each value and 248 for each level",
@@ -177,3 +180,11 @@ def test_held_is_stated(calls: tuple[str, ...], found: dict[str, OfCall]) -> Non
     assert f"{' and '.join(calls)} {stated}" in header
     held = [(call, name, it.held, most_of(it)) for call in calls for name, it in found[call].items()]
     fail_if([f"{call} holds {it:,} bytes with {name}, {may:,} are stated" for call, name, it, may in held if it > may])
+
+
+def test_held_of_keys_that_ascend(found: dict[str, OfCall]) -> None:
+    """amqpv_from_json takes what the header states if the keys of each object ascend, as in every text of amqpv_to_json."""
+    (stated,) = re.findall(r"and (\d+) if the keys of each object ascend", HEADER.read_text())
+    of_call = {name: it for name, it in found["amqpv_from_json"].items() if not name.endswith("before a lower key")}
+    large = {name: it for name, it in of_call.items() if it.given >= LARGE}
+    fail_if([f"{it.held:,} bytes with {name}" for name, it in large.items() if it.held > int(stated) * it.given])

@@ -22,21 +22,18 @@ FAILED = {
     **dict.fromkeys(("wire", "wire_as", "wire_sizes"), "failure OutOfMemory"),
     **dict.fromkeys(("push", "insert", "place", "add_flag"), "AllocError {0}"),
     **dict.fromkeys((*COPIES, *FOUND), "AllocError"),
-    **dict.fromkeys(("try_copy", "from_entries", "next"), "OutOfMemory"),
+    **dict.fromkeys(("try_copy", "from_entries", "next", "to_json"), "OutOfMemory"),
     "message": "Parser error: OutOfMemory",
 }
-IN_PLACE = "read_in_place read_in_place_unlimited read_table_in_place warnings warnings_in_table to_json".split()
+IN_PLACE = "read_in_place read_in_place_unlimited read_table_in_place warnings warnings_in_table".split()
 # The words of the errors, for requests that make calls of several kinds.
 MIXED = {
     **dict.fromkeys(IN_PLACE, "AllocError"),
-    **dict.fromkeys(("json", "json_bytes"), "OutOfMemory"),
-    "json_of_encoding": "OutOfMemory NeedsMemory",
+    **dict.fromkeys(("json", "json_bytes", "json_of_encoding", "nest"), "OutOfMemory"),
     "prefixes": "failure OutOfMemory",
 }
-# What else these answers have: which call it was, what it was called with, and how it wraps another call's error.
-BESIDES = re.compile(
-    r"\b(frame|depth|of) \d+ |\b(but|encoded|from_value|to_value|write_sorted_json) | but no JSON\b|\bJson(?=\()|(?<=NotAValue)\(\d+\)"
-)
+# What else these answers have: which call it was, and what it was called with.
+BESIDES = re.compile(r"\b(frame|depth) \d+ |\b(but|encoded) ")
 # In which way another answer was given.
 WAY = re.compile(r" (cut after \d+|by bytes|of Values)$")
 # How an answer begins for which no memory is needed: nothing may be allocated. The answers of some calls don't tell.
@@ -44,7 +41,7 @@ NEEDS_NONE = re.compile(
     r"more |error (MapOpt|TooLarge)|(ok )?(-|\[\]|\{\}|Void|None|(Boolean|\w*Int|Float|Double|DecimalValue|Timestamp)"
     r"\(.*?\)|(Short|Long)String\(-\)|ByteArray\(-\)|\"\"|Problem\(\w+\)|0)(?![^ ;])"
 )
-DONT_TELL = "next repeated_key to_json json json_bytes json_of_encoding".split()
+DONT_TELL = "next repeated_key to_json json json_bytes json_of_encoding nest".split()
 # How many failed allocations a call gets over: the kit's `collect` asks for room for all pairs, and if it can't have that for less.
 # A long table is read by it.
 GETS_OVER = {"from_pairs": 1, "wire 4600004": 2}

@@ -93,7 +93,7 @@ def tree() -> Run:
 
 def texts() -> list[str]:
     """The JSON of a million values."""
-    return [f'{{"LongUInt":{n}}}' for n in range(MANY)]
+    return [f'{{"$LongUInt":{n}}}' for n in range(MANY)]
 
 
 def values_in_stream() -> Run:

@@ -3,9 +3,8 @@
 No clause can state that an allocation failed. A body that returns OutOfMemory above a size keeps its contract, so its
 form is what is rejected: OutOfMemory, of whatever error, and AllocError are made by From<AllocError>, which `?` calls,
 or on the right of a match arm with no guard, each alternative of whose pattern names such an error. Failure and
-out_of_memory() are what parsers call it. NeedsMemory is made so too, but its name in a pattern allows nothing, as it
-also says that keys don't ascend. A request that can't succeed makes it up too: whatever asks for memory by a number is a
-line of BY_NUMBER, whether it is called there or only named.
+out_of_memory() are what parsers call it. A request that can't succeed makes it up too: whatever asks for memory by a
+number is a line of BY_NUMBER, whether it is called there or only named.
 
 Nor can a clause state with which error a reader or a writer of std failed: the bodies that call one for a trait of ours are PASSED_ON.
 """
@@ -16,24 +15,17 @@ from collections.abc import Iterator
 from crates import TOP
 
 # How the crates begin that are tests, or programs that provoke such errors.
-LEFT_OUT = ("test_", "amqp_json_new/")
+LEFT_OUT = ("test_",)
 # The lines that are otherwise, each once in its file.
 LISTED = {
-    # the keys that are put have at most 255 bytes, so copying one fails only for want of memory
-    (
-        "amqp_json/src/direct/entry.rt",
-        "Err(ValueError::OutOfMemory | ValueError::NotAValue) => Err(JsonError::OutOfMemory),",
-    ),
-    # nothing is allocated there: a clause states that keys don't ascend
-    ("amqp_json/src/buffer.rt", "None => Err(WriteError::NeedsMemory),"),
-    # nor there: it is passed on
-    ("amqp_json/src/buffer.rt", "Err(WriteError::NeedsMemory) => Err(WriteError::NeedsMemory),"),
-    # a clause states that the text has 2^64 - 1 bytes or more
-    ("amqp_json/src/buffer.rt", "return Err(WriteError::NeedsMemory);"),
-    # the call never asks for memory, and a clause states when it would need some
-    ("amqp_c/src/json.rt", "Err(WriteError::NeedsMemory) => Err(Fault::OutOfMemory),"),
-    # a clause states that this takes keys that don't ascend, whose text and pairs are allocated
-    ("amqp_c_alloc/src/decode.rt", "Err(WriteError::NeedsMemory) => Err(Fault::OutOfMemory),"),
+    # the value was read from bytes, so it has an encoding, and only memory for that or for the text can be short
+    ("amqp_json/src/decode.rt", "Err(_) => Err(DecodeError::OutOfMemory),"),
+    # a vector is too short for what is written only for want of memory
+    ("amqp_json/src/decode.rt", "Err(_) => Err(EncodeError::OutOfMemory),"),
+    # the bytes are the encoding of a value, so reading them fails only for want of memory
+    ("amqp_json/src/encode.rt", "Err(_) => Err(JsonError::OutOfMemory),"),
+    # nothing is allocated there: a clause states that the keys of a table don't ascend
+    ("amqp_c/src/json.rt", "Err(WriteError::KeysOutOfOrder) => Err(Fault::OutOfMemory),"),
 }
 # The lines that ask for memory by a number, and what bounds that.
 BY_NUMBER = {
@@ -46,14 +38,11 @@ BY_NUMBER = {
     "Ok(self.try_reserve(n)?)": "the same",
     "self.try_reserve(n)?;": "the same",
     "self.resize(at + n, 0)?;": "the same",
-    "let mut values = Vec::with_capacity(alloc, items.len())?;": "items that are there",
-    "let mut places = Vec::with_capacity(alloc, table.iter().count())?;": "pairs that are there",
     "let mut bytes = Vec::with_capacity(alloc, chunk.len())?;": "bytes that are there",
-    "let mut out = Vec::with_capacity(alloc, capacity)?;": "a text that is there and an eighth more, or an encoding that is",
-    "out.reserve_exact(most_len(left))?;": "4.5 for each byte of a text that is there, and a constant",
+    "let mut out = Vec::with_capacity(alloc, text.len())?;": "a text that is there",
+    "let mut text = vec![in alloc; 0u8; end.count]?;": "a text that was measured",
     "bytes.reserve(input.input_len())?;": "bytes that are there",
     "self.bytes.try_reserve(buf.len())?;": "the same",
-    "let mut memory = vec![in alloc; 0u8; capacity]?;": "four times an encoding, or a text that fits the buffer",
     "let mut bytes = vec![in alloc; 0; capacity]?;": "the bytes that a value was read from",
     "self.bytes.resize(there.saturating_add(most), 0)?;": "what is missing of a value, at most a block",
     "let text = BufReader::with_capacity(rt.alloc(), BLOCK, input)?;": "a constant",
@@ -69,28 +58,10 @@ PASSED_ON = {
     "amq_protocol_types/src/stream/source.rt": "fn read_some(&mut self, buf: &mut [u8]) -> io::Result<usize> { self.read(buf) } }",
     "amqp_wire/src/sink.rt": "fn write_some(&mut self, buf: &[u8]) -> io::Result<usize> { self.write(buf) } }",
 }
-# The lines that bound a number by which a line after them, or what they call, asks for memory.
-BOUNDED = (
-    (
-        "amqp_json/src/buffer.rt",
-        "let capacity = size.saturating_mul(4).min(buffer.len()); let count = sort_within(alloc, buffer, value, capacity)?;",
-    ),
-    (
-        "amqp_json/src/encoding.rt",
-        "let capacity = text.len() / 8 + text.len() + 2; match encoding_of_tokens(alloc, &mut reader, capacity) {",
-    ),
-    ("amqp_json/src/canonical.rt", "sorted_encoding(alloc, bytes.as_slice(), bytes.len(), Integers::Kept) }"),
-    (
-        "amqp_json/src/canonical.rt",
-        "let len = bytes.len(); let small = sorted_encoding(alloc, bytes.as_slice(), len - len / 4, Integers::Exchanged)?;",
-    ),
-    ("amqp_json/src/canonical.rt", "sorted_encoding(alloc, small.as_slice(), len, Integers::Exchanged) }"),
-    ("amqp_json/src/encoding/room.rt", "most.min(text.len().saturating_mul(9) / 2) .saturating_add(BESIDES) }"),
-)
 SILENT = r"""//[^\n]*|/\*.*?\*/|\bb?r(#*)".*?"\1|"(?:\\.|[^"\\])*"|'(?:\\.[^']*|[^'\\])'"""
-MADE = r"\bAlloc(?:Error|Failed)\b(?!\s*[<>])|\b(?:OutOf|Needs)Memory\b|\bFailure\s*\(|\bout_of_memory\s*\("
+MADE = r"\bAlloc(?:Error|Failed)\b(?!\s*[<>])|\bOutOfMemory\b|\bFailure\s*\(|\bout_of_memory\s*\("
 NAMED = r"\bAllocError\b|::\s*OutOfMemory\b|::\s*Failure\s*\("
-RENAMED = r"\b(?:AllocError|AllocFailed|OutOfMemory|NeedsMemory|out_of_memory)\s+as\b"
+RENAMED = r"\b(?:AllocError|AllocFailed|OutOfMemory|out_of_memory)\s+as\b"
 IMPORTED = r"\buse std::alloc::(?:AllocError;|\{[^}]*\bAllocError\b)"
 # What makes one of an AllocError.
 MAKER = r"\bimpl From<AllocError> for [^{]*\{|\bfn out_of_memory\(\)[^{]*\{"
@@ -222,8 +193,5 @@ def faults() -> Iterator[str]:
     for name, body in PASSED_ON.items():
         if not is_in(name, body):
             yield f"crates/{name}: a call isn't passed on as it is: {body}"
-    for name, lines in BOUNDED:
-        if not is_in(name, lines):
-            yield f"crates/{name}: what is asked for isn't bounded by these lines: {lines}"
     yield from (f"crates/{name} has no line to be listed: {line}" for name, line in sorted(listed))
     yield from (f"no source has the line to be listed: {line}" for line in sorted(by_number))

@@ -3,7 +3,7 @@
 Each request of crates/test_calls is made with its first allocation failing, then with its second, and so on. Only allocations of its
 calls count. The call whose allocation fails returns the error that calls.py has for it and leaves all unchanged, and all else is
 answered as the row says. A call that calls.py has no error for allocates nothing. The others request at most so many bytes as calls.py
-says for the bytes of their request.
+says for the bytes of their request, and those of JSON as docs/JSON.md says.
 
 amqp_wire runs so over its stored input, test_stream over a short stream, amqp_show on some cases; and all, amqp_show in each
 of its forms, have too little address space for a long string. The reads and writes of a run of amqp_wire and of amqp_show fail
@@ -14,6 +14,7 @@ each. At last the programs get a length of 4 GiB and little of what it claims: t
 import errno
 import itertools
 import os
+import re
 import resource
 import subprocess
 from collections import Counter
@@ -27,6 +28,8 @@ from crates import TOP
 from tests.checks import within
 from tests.memory.calls import CALLS, Row, numbers, rows
 from tests.memory.failing import NO_MEMORY, Line, Preloaded, Stored, is_out_of_memory, program, stored_runs
+from tests.model.json_format import value_of_json
+from tests.model.printed import field, write
 from tests.transcripts import Ending
 
 # Failures that a program recovers from: a vector that can't be made smaller stays as it is.
@@ -76,6 +79,47 @@ def test_stored_run(stored: Stored, preloaded: Preloaded, failed: Counter[str]) 
             assert is_out_of_memory(name, run.ending, stored.wants), f"run {n}: {run.ending}"
         failed["allocations"] += has_failed
     assert recovered == RECOVERED.get(name, 0)
+
+
+# JSON
+
+# Arrays that make a call request most for each byte: numbers, short texts of long values, and tables of one entry.
+ARRAYS = [
+    ",".join("0" * 50_000),
+    ",".join(['{"$ShortShortUInt":0}'] * 50_000),
+    ",".join(['{"":0}'] * 14_000),
+    ",".join(['{"":' * 100 + "true" + "}" * 100] * 200),
+]
+IN_ORDER = [f"[{it}]".encode() for it in ARRAYS]
+# The same before a lower key, as texts and as encodings in that order.
+FALLING = [f'{{"b":[{it}],"a":0}}'.encode() for it in ARRAYS]
+ENCODED = [field(b"F", b"\1b" + write(value_of_json(it)) + b"\1at\0") for it in IN_ORDER]
+# A call, its inputs, and how docs/JSON.md says what it requests of them.
+REQUESTED = [
+    ("json_of_encoding", ENCODED, "those of the text, if the keys of each table ascend; otherwise {} for each byte"),
+    ("to_json", [write(value_of_json(it)) for it in IN_ORDER], "`to_json` | {} for each byte"),
+    ("encoding_of_json", IN_ORDER, "`encoding_of_json` | {} for each byte"),
+    ("encoding_of_json", FALLING, "if the keys of each object ascend; otherwise {}"),
+    ("from_json", [*IN_ORDER, *FALLING], "`from_json` | {} for each byte"),
+]
+
+
+@pytest.mark.parametrize(("call", "inputs", "words"), REQUESTED, ids=[words for _, _, words in REQUESTED])
+def test_memory_of_json(call: str, inputs: list[bytes], words: str, preloaded: Preloaded) -> None:
+    """A call requests no more than is said, and more than half of it for some input."""
+    before, _, after = words.partition("{}")
+    said = re.findall(f"{re.escape(before)}(\\d+){re.escape(after)}", (TOP / "docs/JSON.md").read_text())
+    lines = preloaded.lines([program(CALLS)], [f"nest {call} 200 {it.hex()}" for it in inputs])
+    asked = max(line.asked / len(it) for line, it in zip(lines, inputs, strict=True))
+    assert {line.said for line in lines} == {"done"}
+    assert asked <= int(said[0]) < 2 * asked
+
+
+def test_memory_of_json_in_order(preloaded: Preloaded) -> None:
+    """`json_of_encoding` requests as many bytes as the text has, if the keys of each table ascend."""
+    inputs = [write(value_of_json(it)).hex() for it in IN_ORDER]
+    lines = preloaded.lines([program(CALLS)], [f"nest json_of_encoding 200 {it}" for it in inputs])
+    assert [(it.said, it.asked) for it in lines] == [("done", len(it)) for it in IN_ORDER]
 
 
 # Address space

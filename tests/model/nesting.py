@@ -30,10 +30,8 @@ LONG, LIMIT, SMALL = 10_000_000, 64, 256 << 10
 HEADER = TOP / "include/amqp_values.h"
 # The containers of an input, from the outermost on, again and again.
 FORMS = {"arrays in arrays": "A", "tables in tables": "F", "arrays and tables": "AF"}
-# The key in each table. It is a type's name, for which JSON needs a level more.
-KEY = b"\x04Void"
-# A key that no entry can have.
-LONG_KEY = "k" * 256
+# The key in each table.
+KEY = b"\x01k"
 
 
 def encoding(form: str, depth: int, innermost: bytes = b"V") -> bytes:
@@ -73,39 +71,12 @@ def any_keys(form: str, depth: int) -> bytes:
     return encoding(form, depth - 1, b"F\0\0\0\3\1\x80V")
 
 
-def json_text(form: str, depth: int) -> bytes:
-    """A text that nests that deep. Each object but the innermost begins as a table under its type's name would."""
+def json_text(form: str, depth: int, after: str = "") -> bytes:
+    """A text that nests that deep, with this after what is in each object."""
     tags = (form * depth)[:depth]
-    opened = "".join("[" if it == "A" else '{"FieldTable":{},"b":' for it in tags[:-1])
-    opened += "[" if tags[-1] == "A" else '{"b":'
-    closed = "".join("]" if it == "A" else "}" for it in tags)
-    return f"{opened}null{closed[::-1]}".encode()
-
-
-def under_types(form: str, depth: int) -> bytes:
-    """A text that nests that deep. What an object has is under the name of a table's type, until another key follows."""
-    tags = (form * depth)[:depth]
-    opened = "".join("[" if it == "A" else '{"FieldTable":' for it in tags[:-1])
-    opened += "[" if tags[-1] == "A" else '{"b":'
-    closed = "]" if tags[-1] == "A" else "}"
-    closed += "".join("]" if it == "A" else ',"b":null}' for it in tags[-2::-1])
+    opened = "".join("[" if it == "A" else '{"b":' for it in tags)
+    closed = "".join("]" if it == "A" else f"{after}}}" for it in reversed(tags))
     return f"{opened}null{closed}".encode()
-
-
-def not_an_entry(opened: str, form: str, depth: int) -> bytes:
-    """A text that nests that deep: each object begins so, with a key that isn't that of an entry, or a value that is none.
-
-    So does each array with an item that is none. The outermost object has its key again, so the text is that of a value.
-    """
-    tags = (form * depth)[: depth - 1]
-    inner = "".join("[-0," if it == "A" else opened for it in tags)
-    closed = "".join("]" if it == "A" else "}" for it in tags)
-    return f'{{"b":{inner}null{closed[::-1]},"b":null}}'.encode()
-
-
-def without_encoding(opened: str, form: str, depth: int) -> bytes:
-    """A text that nests no deeper: each object begins so, with an object in it that is a value without an encoding."""
-    return not_an_entry(opened, form, depth - 1)
 
 
 class Threaded(NamedTuple):
@@ -135,6 +106,8 @@ class Call(NamedTuple):
                 yield f"{said}{how and ', '}{how}", make, form
 
 
+# The calls of JSON of which docs/JSON.md says how many levels fit a stack.
+JSON = ("to_json", "json_of_encoding", "from_json", "encoding_of_json")
 DEEP, DEEPER, OF_JSON, UNLIMITED = (LIMIT, 1000), (LIMIT, 10_000), (LIMIT, 127), (LIMIT, 1000, 10_000)
 # What a call returns that rejects the nesting.
 REJECTED = re.compile(r"kind: Eof|TooDeep|Syntax\(|refused|AMQPV_MALFORMED|AMQPV_NOT_JSON")
@@ -157,22 +130,8 @@ OF_TABLES = (
     "amqpv_is_canonical_table",
     "amqpv_first_warnings_in_table",
 )
-# What reading JSON goes through.
-TEXTS: dict[str, Make] = {
-    "": json_text,
-    "under types": under_types,
-    "after no value": partial(not_an_entry, '{"b":-0,"b":'),
-    "after no value of a type": partial(not_an_entry, '{"LongInt":-0,"b":'),
-    "after no encoding": partial(without_encoding, '{"b":{"ShortString":""},"b":'),
-    "after no encoding of a type": partial(without_encoding, '{"LongInt":{"ShortString":""},"b":'),
-    "after no bytes": partial(not_an_entry, '{"ByteArray":"0","b":'),
-    "after no table": partial(not_an_entry, '{"FieldTable":-0,"b":'),
-    "in what is no decimal": partial(not_an_entry, '{"DecimalValue":'),
-    "of a long key": partial(not_an_entry, f'{{"{LONG_KEY}":'),
-    "of a long key after no value": partial(not_an_entry, f'{{"b":-0,"{LONG_KEY}":'),
-    "of a long key after a type": partial(not_an_entry, f'{{"LongInt":0,"{LONG_KEY}":'),
-    "of a long key after no value of a type": partial(not_an_entry, f'{{"LongInt":-0,"{LONG_KEY}":'),
-}
+# Texts: keys that don't ascend are sorted.
+TEXTS: dict[str, Make] = {"": json_text, "keys that don't ascend": partial(json_text, after=',"a":null')}
 FOR_C = {
     **{it: Call([it], {"": encoding}, DEEPER) for it in OF_ENCODINGS},
     **{it: Call([it], {"": payload}, DEEPER) for it in OF_TABLES},
@@ -212,6 +171,12 @@ def table(column: int = 0) -> tuple[dict[str, int], int]:
     return figures, int(besides[1]) << 10
 
 
+def levels_of_json() -> tuple[int, int]:
+    """How many levels fit a stack by docs/JSON.md, and of how many bytes."""
+    (said,) = re.findall(r"(\d+) levels fit a stack of (\d+) KiB", (TOP / "docs/JSON.md").read_text())
+    return int(said[0]), int(said[1]) << 10
+
+
 def answer(program: Program, call: Call, depth: int, given: bytes, stack: int) -> str:
     """What a call returns on a stack of n bytes, or how the program ended."""
     if isinstance(program, Threaded):
@@ -249,6 +214,10 @@ def checks(made: Mapping[str, Call], column: int = 0) -> Iterator[Check]:
             for depth in call.depths if figure else ():
                 stack = besides + depth * figure
                 yield Check(f"{name}, {depth} {said}", partial(not_done, call, depth, make, form, stack))
+            if name in JSON:
+                levels, small = levels_of_json()
+                of_page = partial(not_done, call, levels, make, form, small)
+                yield Check(f"{name}, {levels} {said} on {small} bytes of stack", of_page)
             if not figure or call.depths != UNLIMITED:
                 of_long = partial(wrong_of_long, call, make, form, SMALL, figure > 0 and name != WARNS)
                 yield Check(f"{name}, {LONG} bytes of {said}", of_long)
@@ -283,10 +252,11 @@ def enough(call: Call, stack: int, program: Program) -> str:
 
 
 class InHeader(NamedTuple):
-    """The header's limits, and its figures of the stack: besides, for each level, and in all within these limits."""
+    """The header's limits, and its figures of the stack: besides, also of some calls, for each level, and in all."""
 
     limits: dict[str, int]
     besides: int
+    of_some: dict[str, int]
     figures: dict[str, int]
     thread: int
 
@@ -298,9 +268,10 @@ def in_header(column: int) -> InHeader:
     figures = {
         name: int(of[column]) for *of, names in rows for name in re.findall(r"amqpv_\w+(?: of any keys)?", names)
     }
-    (besides,) = re.findall(r"The stack suffices: (\d+) KiB", text)
+    ((besides, some, others),) = re.findall(r"The stack suffices: (\d+) KiB, in (.*?) (\d+) KiB,", text)
+    of_some = {name: int(others) << 10 for name in some.split(" and ")}
     (most,) = re.findall(r"content with a stack of (\d+) KiB", text)
-    return InHeader(limits, int(besides) << 10, figures, int(most) << 10)
+    return InHeader(limits, int(besides) << 10, of_some, figures, int(most) << 10)
 
 
 def recommended(column: int = 0) -> Iterator[Check]:
@@ -309,13 +280,13 @@ def recommended(column: int = 0) -> Iterator[Check]:
     Each is done on the stack that the header's figures make, which is at most what it names for these limits. What nests
     deeper is rejected on the latter.
     """
-    limits, besides, figures, thread = in_header(column)
+    limits, besides, of_some, figures, thread = in_header(column)
     of_page = {name: figure for name, figure in table(column)[0].items() if name in FOR_C}
     other = "" if figures == of_page else f"those of {PAGE.name} are {of_page}"
     yield Check("the header's figures", partial(whatever, other))
     for name, call in FOR_C.items():
         limit = limits["AMQPV_JSON_DEPTH" if "json" in name else "AMQPV_DEPTH"]
-        stack = besides + limit * figures.get(name, thread)
+        stack = of_some.get(name, besides) + limit * figures.get(name, thread)
         over = f"by the header it takes {stack} bytes of stack" if stack > thread else ""
         yield Check(f"{name}, {limit} deep", partial(whatever, over))
         for said, make, form in call.inputs():

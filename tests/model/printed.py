@@ -1,9 +1,8 @@
-"""What amqp_show must print of some bytes, by docs/SHOW.md, docs/GRAMMAR.md and docs/JSON.md, and inputs for it.
+"""What amqp_show must print of some bytes, by docs/SHOW.md and docs/GRAMMAR.md, and inputs for it.
 
-It has a separate reader and writer of values, and shares nothing with the crates.
+It has a separate reader and writer of values, and shares nothing with the crates. JSON is that of json_format.py.
 """
 
-import json
 import math
 import random
 import struct
@@ -15,6 +14,8 @@ from fractions import Fraction
 from typing import Any
 
 from crates import TOP
+
+from tests.model import json_format
 
 # Tables as brokers and clients sent them, with their type tag: a name, and hexadecimal.
 CAPTURED = TOP / "examples/captured/tables.txt"
@@ -34,8 +35,6 @@ TYPES: dict[str, tuple[str, int | None]] = {
 # The tags that are written as another.
 ALTERNATE = {"U": "s", "L": "l"}
 SIGNED = ("ShortShortInt", "ShortInt", "LongInt", "LongLongInt")
-# The types that a JSON object's only name may be, for which it means a value of that type.
-NAMES = {*(name for name, _ in TYPES.values()), "LongLongUInt", "ShortString"}
 # The types with a length before their content.
 COUNTED = "SxAF"
 # How many digits are at most before a point, and zeros after it, without an exponent.
@@ -59,9 +58,9 @@ def lack(data: bytes) -> int:
     return 1 if data in (b"", b"D") else max(0, extent(data) - len(data))
 
 
-# Values: the type tag that each is written with, and its content: of a table a dict, of an array a list, else bytes
+# Values
 
-Value = tuple[str, Any]
+Value = json_format.Value
 
 
 class Unread(Exception):
@@ -119,36 +118,9 @@ def encoded(tag: str, payload: bytes) -> bytes:
     return field(tag.encode(), payload) if tag in COUNTED else tag.encode() + payload
 
 
-def json_of(value: Value) -> Any:
-    """The JSON of a value."""
-    tag, content = value
-    name = TYPES[tag][0]
-    if tag == "V":
-        return None
-    if tag == "t":
-        return content != b"\0"
-    if tag == "A":
-        return [json_of(it) for it in content]
-    if tag == "F":
-        found = {key.decode(): json_of(it) for key, it in sorted(content.items())}
-        return {name: found} if len(found) == 1 and found.keys() <= NAMES else found
-    if tag == "S":
-        try:
-            return content.decode("utf-8")
-        except UnicodeDecodeError:
-            return {name: content.hex()}
-    if tag == "D":
-        return {name: {"scale": content[0], "value": int.from_bytes(content[1:], "big")}}
-    if tag in "fdx":
-        return {name: content.hex()}
-    number = int.from_bytes(content, "big", signed=name in SIGNED)
-    return number if tag == "l" else {name: number}
-
-
 def json_text(value: Value) -> str:
     """The JSON of a value as amqp_show prints it."""
-    text = json.dumps(json_of(value), ensure_ascii=False, separators=(",", ":"))
-    return "".join(f"\\u{ord(c):04x}" if ord(c) in UNPRINTABLE else c for c in text)
+    return "".join(f"\\u{ord(c):04x}" if ord(c) in UNPRINTABLE else c for c in json_format.json_of(value))
 
 
 # Parts
@@ -636,7 +608,7 @@ def value_of(make: random.Random, depth: int) -> bytes:
 
 def table_of(make: random.Random, values: Sequence[bytes]) -> bytes:
     """A table of some values, at few keys."""
-    keys = [make.choice([b"", b"a", b"b", b"a\x7f", "\u00e9".encode()]) for _ in values]
+    keys = [make.choice([b"", b"a", b"b", b"$", b"a\x7f", "\u00e9".encode()]) for _ in values]
     return field(b"F", b"".join(bytes([len(key)]) + key + it for key, it in zip(keys, values)))
 
 

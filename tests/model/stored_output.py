@@ -5,7 +5,6 @@ the cases of tests/show with JSON, measures and --check, by docs/JSON.md and doc
 the same files with what the programs print.
 """
 
-import json
 import re
 import sys
 from collections.abc import Iterator, Sequence
@@ -15,8 +14,8 @@ from itertools import zip_longest
 from crates import TOP
 
 from tests.checks import Checks, content
-from tests.model.printed import CLIENT_LEVELS, FRAME_MAX, Dissection, Unread, checked, json_of, json_text, measures
-from tests.model.printed import read, write
+from tests.model.json_format import value_of_json
+from tests.model.printed import CLIENT_LEVELS, FRAME_MAX, Dissection, Unread, checked, json_text, measures, read, write
 from tests.transcripts import Case, Output, cases
 
 CRATES = TOP / "crates"
@@ -78,7 +77,7 @@ def judged_cases() -> Iterator[tuple[str, bool]]:
         elif "--encode" in words and not status:
             data = tag_of(words) + bytes.fromhex(wants)
             value, rest = read(data)
-            yield name, not rest and write(value) == data and json_of(value) == json.loads(case.given)
+            yield name, not rest and write(value) == data and value_of_json(case.given) == value
 
 
 def first_other(crate: str, wants: Sequence[str]) -> str:

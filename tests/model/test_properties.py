@@ -1,17 +1,19 @@
 """What holds of every value and of all bytes, by the model: reading and writing, prefixes, JSON, parts."""
 
 import json
+from random import Random
 
 import pytest
 from hypothesis import assume, given
 from hypothesis import strategies as st
 
+from tests.model.json_format import json_of, text_for, value_of_json
 from tests.model.printed import FRAME, TYPES, Dissection, Unread, Value
-from tests.model.printed import extent, json_of, json_text, measures, outcome, read, write
+from tests.model.printed import extent, json_text, measures, outcome, read, write
 from tests.model.tables import first_problem, raw, types_in, width_of
 
 PLAIN = sorted({*TYPES} - set("ULtSxAF"))
-KEYS = st.text(max_size=5).map(str.encode)
+KEYS = (st.text(max_size=5) | st.text("$a", max_size=5)).map(str.encode)
 
 
 def contained(values: st.SearchStrategy[Value]) -> st.SearchStrategy[Value]:
@@ -57,14 +59,11 @@ def test_a_proper_prefix_needs_bytes(value: Value) -> None:
         assert 0 < int(str(found.value).removeprefix("more ")) <= len(data) - length
 
 
-@given(VALUES, VALUES)
-def test_no_two_values_have_one_json(one: Value, other: Value) -> None:
-    assert (json_text(one) == json_text(other)) == (one == other)
-
-
-@given(VALUES)
-def test_json_is_json(value: Value) -> None:
-    assert json.loads(json_text(value)) == json_of(value)
+@given(VALUES, st.integers(0))
+def test_json_means_its_value(value: Value, seed: int) -> None:
+    for text in (json_of(value), json_text(value), text_for(Random(seed), value)):
+        json.loads(text)
+        assert value_of_json(text.encode()) == value
 
 
 @given(VALUES)

@@ -11,7 +11,7 @@ from typing import NamedTuple
 
 import pytest
 
-from tests.model import json_reader, printed, tables
+from tests.model import json_format, printed, tables
 from tests.model.worked import Rows, first_wrong, rows_of_json, rows_of_printed, rows_of_tables
 
 HERE = Path(__file__).parent
@@ -19,7 +19,7 @@ HERE = Path(__file__).parent
 ROWS: dict[str, tuple[ModuleType, Rows]] = {
     "printed.py": (printed, rows_of_printed),
     "tables.py": (tables, rows_of_tables),
-    "json_reader.py": (json_reader, rows_of_json),
+    "json_format.py": (json_format, rows_of_json),
 }
 
 
@@ -33,7 +33,7 @@ class Mutant(NamedTuple):
 
 
 def of_types() -> Iterator[Mutant]:
-    """Of each type tag that it is one, the width of its payload, and its type."""
+    """Of each type tag that it is one, the width of its payload, and its type; and of each name in JSON what is under it."""
     for tag, (name, width) in printed.TYPES.items():
         entry = f'"{tag}": ("{name}", {width})'
         other = "Boolean" if name == "Void" else "Void"
@@ -42,6 +42,11 @@ def of_types() -> Iterator[Mutant]:
             f"the width of {tag}", "printed.py", entry, f'"{tag}": ("{name}", {3 if width is None else width + 1})'
         )
         yield Mutant(f"the type of {tag}", "printed.py", entry, f'"{tag}": ("{other}", {width})')
+    for name, (tag, width, is_signed) in json_format.INTEGERS.items():
+        entry = f'"{name}": ("{tag}", {width}, {is_signed})'
+        yield Mutant(f"{name} is a name in JSON", "json_format.py", entry, entry.replace(name, f"no {name}"))
+        yield Mutant(f"the range of {name}", "json_format.py", entry, entry.replace(str(width), str(width + 1)))
+        yield Mutant(f"the sign of {name}", "json_format.py", entry, entry.replace(str(is_signed), str(not is_signed)))
 
 
 def of_file() -> Iterator[Mutant]:

@@ -153,7 +153,7 @@ class NotJson(Error):
 
 
 class NoEncoding(Error):
-    """The value has no encoding: it has a ShortString, or a length is too large for its field."""
+    """The encoding would have 2^32 bytes or more in a string or a container."""
 
 
 # What Python raises at its limit, and what ctypes makes of that in a call.

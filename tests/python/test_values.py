@@ -1,7 +1,6 @@
 """The values of ctypes_values.py, by the reader and writer of the model."""
 
 import doctest
-import json
 import re
 from collections.abc import Callable, Iterator, Sequence
 from datetime import datetime, timedelta, timezone
@@ -15,7 +14,8 @@ from crates import TOP
 from hypothesis import given
 from hypothesis import strategies as st
 
-from tests.model.printed import FRAME, Dissection, Value, captured, extent, field, inputs, json_of, nested
+from tests.model.json_format import json_of
+from tests.model.printed import FRAME, Dissection, Value, captured, extent, field, inputs, nested
 from tests.model.printed import outcome, read, table_of, untagged, value_of, write
 from tests.model.tables import EVERY_TYPE, first_problem, odd_table, random_table, raw, types_in
 from tests.model.test_properties import VALUES
@@ -111,7 +111,7 @@ def wrong_of_one(data: bytes) -> str:
     if av.dumps(found) != raw(value) or av.dumps(python_of(value)) != raw(value):
         return f"{data.hex()[:400]} is written as {av.dumps(found).hex()[:400]}"
     text = av.to_json(data)
-    is_well = av.canonical(data) == av.from_json(text) == write(value) and json.loads(text) == json_of(value)
+    is_well = av.canonical(data) == av.from_json(text) == write(value) and text == json_of(value)
     return "" if is_well else f"{data.hex()[:400]}: its canonical encoding, or the JSON {text[:400]}"
 
 
@@ -344,7 +344,7 @@ ERRORS: dict[str, tuple[Callable[[], Any], type[Exception]]] = {
     "a deep value": (lambda: av.peek(nested("A", 5000, b"V")).value, av.TooDeep),
     "no JSON": (lambda: av.from_json("["), av.NotJson),
     "deep JSON": (lambda: av.from_json("[[]]", nesting=1), av.NotJson),
-    "JSON without encoding": (lambda: av.from_json('{"ShortString":"a"}'), av.NoEncoding),
+    "JSON of a ShortString": (lambda: av.from_json('{"$ShortString":"a"}'), av.NotJson),
 }
 LATIN = field(b"F", b"\1\xff" + b"V" + b"\1at\1")
 TABLE = b"\0\0\0\4\1at\7"

@@ -24,7 +24,8 @@ from typing import Any, NamedTuple
 import pytest
 from crates import TOP
 
-from tests.model.printed import FRAME, Unread, Value, field, json_of, json_text, nested, read, write
+from tests.model.json_format import json_of
+from tests.model.printed import FRAME, Unread, Value, field, nested, read, write
 from tests.model.tables import EVERY_TYPE, INFINITY, INTEGERS, NAN, NO_TAG, PLAIN, ROWS, Problem
 from tests.model.tables import container_of, decimal, erlang, first_problem, float_of, is_read, matches
 from tests.model.tables import number, odd_table, random_table, row_of, table, text, types_in
@@ -68,7 +69,7 @@ def with_copy(make: Random, value: Value, data: bytes) -> bytes:
 
 
 def from_json(_: Random, value: Value, data: bytes) -> bytes:
-    return av.from_json(json_text(value))
+    return av.from_json(json_of(value))
 
 
 WAYS = {
@@ -141,7 +142,7 @@ def differs(name: str, value: Value, data: bytes, back: bytes) -> str:
 
 def differs_if_read(name: str, value: Value, data: bytes, back: bytes) -> str:
     if name == "as built":
-        if back != data or json.loads(av.to_json(back)) != json_of(value):
+        if back != data or av.to_json(back) != json_of(value):
             return f"{back.hex()}, as JSON {av.to_json(back)}"
     elif "dead" in name:
         if value_at(back, b"x-death", 0, b"reason") != text("expired"):

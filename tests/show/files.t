@@ -53,7 +53,7 @@ files_bad_then_good
 
 files_good_then_bad
   $ amqp_show --hex --json queue_arguments.hex missing.hex
-  {"x-max-length":{"LongInt":10000},"x-message-ttl":{"LongUInt":60000},"x-queue-type":"quorum"}
+  {"x-max-length":{"$LongInt":10000},"x-message-ttl":{"$LongUInt":60000},"x-queue-type":"quorum"}
   2> amqp_show: "missing.hex": can't be read: No such file or directory (os error 2)
   [2]
 

@@ -21,7 +21,7 @@ stream_empty
 
 stream_json
   $ printf '56 6c 00000000000000 ff 74 01' | amqp_show --stream --json --hex queue_arguments.hex -
-  {"x-max-length":{"LongInt":10000},"x-message-ttl":{"LongUInt":60000},"x-queue-type":"quorum"}
+  {"x-max-length":{"$LongInt":10000},"x-message-ttl":{"$LongUInt":60000},"x-queue-type":"quorum"}
   null
   255
   true

@@ -61,7 +61,7 @@ table_follow
 
 table_json
   $ echo 00000007 04566f6964 7401 5656 | amqp_show --table --hex --json
-  {"FieldTable":{"Void":true}}
+  {"Void":true}
   2> amqp_show: "-": 2 bytes follow the table
 
 table_json_rejected

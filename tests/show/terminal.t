@@ -12,7 +12,7 @@ json_on_terminal
   > 410000003d 5300000002c3a9 530000000268ff 530000000a1b5b316d7fc285e280ae 5300000004f09f9880
   > 46000000120853686f7274496e746c0000000000000005
   > END
-  ["é",{"LongString":"68ff"},"\u001b[1m\u007f\u0085\u202e","😀",{"FieldTable":{"ShortInt":5}}]
+  ["é",{"$LongString":"68ff"},"\u001b[1m\u007f\u0085\u202e","😀",{"ShortInt":5}]
 
 long_on_terminal
   $ xxd -r -p <<'END' | amqp_show --bytes >/dev/tty

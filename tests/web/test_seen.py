@@ -354,6 +354,15 @@ def test_copies(browser: Browser) -> None:
     assert link.endswith("#table:00000003016156")
 
 
+def test_copy_of_long_json(browser: Browser) -> None:
+    """Of long JSON a part is shown, but all of it is copied."""
+    browser.run("globalThis.said = []; navigator.clipboard.writeText = async (it) => { said.push(it) }")
+    browser.run("amqp.put(Uint8Array.from([0x53, 0, 1, 0, 0, ...Array(65536).fill(0x61)]))")
+    browser.wait(lambda: json_is(browser, f'"{65535 * "a"} ..'))
+    browser.run("document.getElementById('copy-JSON').click()")
+    assert browser.run("return said") == [f'"{65536 * "a"}"']
+
+
 def test_modules_are_plain() -> None:
     """All together have at most 790 lines, of at most 120 columns."""
     lines = [it for path in (TOP / "bindings/web").glob("*.js") for it in path.read_text().splitlines()]

@@ -1,4 +1,4 @@
-//! From an encoding to its JSON text, without memory.
+//! From an encoding to its JSON text, without an allocator.
 
 // The tactic at the function names the lemma that its clause is proved by.
 
@@ -11,6 +11,8 @@ use amqp_json::{WriteError, write_json};
 
 /// Puts the JSON text of the value that `bytes` begin with at the start of `buffer`, and returns how
 /// many bytes it has. After a fault the buffer may have some of it.
+///
+/// If the keys of a table don't ascend, the fault is `OutOfMemory`: sorting them takes an allocator.
 #[tactic(auto, using(crate::proofs::JsonFaults::refused_so))]
 pub fn put_json(bytes: &[u8], limits: Limits, buffer: &mut [u8]) -> Result<usize, Fault>
     ensures written { MatchResult result
@@ -21,6 +23,6 @@ pub fn put_json(bytes: &[u8], limits: Limits, buffer: &mut [u8]) -> Result<usize
         Ok((count, _)) => Ok(count),
         Err(WriteError::Refused(refusal)) => Err(Fault::from(refusal)),
         Err(WriteError::BufferTooSmall(count)) => Err(Fault::BufferTooSmall(count)),
-        Err(WriteError::NeedsMemory) => Err(Fault::OutOfMemory),
+        Err(WriteError::KeysOutOfOrder) => Err(Fault::OutOfMemory),
     }
 }

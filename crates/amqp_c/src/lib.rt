@@ -582,7 +582,8 @@ pub extern "C" fn amqpv_as_decimal(entry: &Entry, number: &mut u32, scale: &mut 
 }
 
 /// Writes the JSON text of the value that `bytes` begin with to the start of `buffer`. If the keys of a
-/// table don't ascend, it is out of memory. After an error the buffer may have some of the text.
+/// table don't ascend, it returns the code of `OutOfMemory`, since it would have to allocate to sort them.
+/// After an error the buffer may have some of the text.
 /// docs/PROMISES.md has what a level of nesting takes of the stack.
 ///
 /// `count` becomes how many bytes were written, how many more are needed of the value, or how many

@@ -1,59 +1,56 @@
 -- What was put into the buffer, and why nothing was.
-use Rattle.std.proofs.Common.{◌≡◌, ◌≤◌, ℕ, inr, true, false, None, Some, List, length, Result, Ok, Err, MatchResult, sym, ap, ◌∙◌, subst}
+use Rattle.std.proofs.Common.{◌≡◌, ◌≤◌, ◌<◌, ◌^◌, ℕ, inr, false, None, Some, List, [], ◌∷◌, length, Result, Ok, Err, MatchResult, refl, sym, ap, ◌∙◌, subst, arith}
 use Rattle.std.specs.Str.{IsUtf8}
 use Rattle.amqp_value_core.specs.Values.{Tree}
+use Rattle.amqp_value_core.specs.Grammar.{Wire}
+use Rattle.amqp_value_core.specs.Outcomes.{Reading, more, unknown, malformed, found}
 use Rattle.amqp_value_core.specs.Texts.{text}
-use Rattle.amqp_value_core.proofs.GrammarLaws.{bounded_wire}
+use Rattle.amqp_value_core.proofs.GrammarLaws.{wire_found, one_outcome_within}
 use Rattle.amq_protocol_types.specs.declared.parsing.errors.Err.TheVariants.{Incomplete, Error, Failure}
 use Rattle.amq_protocol_types.specs.declared.parsing.errors.Needed.TheVariants.{Unknown, Size}
 use Rattle.amq_protocol_types.specs.declared.parsing.errors.ErrorKind.TheVariants as kind
 use Rattle.amq_protocol_types.specs.declared.parsing.limits.Limits.{Limits}
-use Rattle.amq_protocol_types.specs.parsing.Limits.{RefusesWithin}
+use Rattle.amq_protocol_types.specs.parsing.Limits.{Within, RefusesWithin}
 use Rattle.amq_protocol_types.specs.parsing.Refusals.{Refusal}
-use Rattle.amq_protocol_types.specs.parsing.Headers.{extent, IsWholeValue}
-use Rattle.amq_protocol_types.proofs.ParsingLaws.{found_all}
 use Rattle.amqp_in_place.specs.InPlaceResults.{NeedsNoMemory}
-use Rattle.amqp_json.specs.Buffers.{NeedsMemory}
+use Rattle.amqp_json.specs.declared.error.JsonError.{JsonError}
 use Rattle.amqp_json.specs.declared.error.JsonError.TheVariants as json
-use Rattle.amqp_json.specs.Json as value
-use Rattle.amqp_json.specs.declared.conversion_error.EncodeError.{EncodeError}
-use Rattle.amqp_json.specs.declared.conversion_error.EncodeError.TheVariants as encode
-use Rattle.amqp_json.specs.Converts.{IsReadAs, IsRefused}
+use Rattle.amqp_json.specs.declared.error.WriteError.{WriteError}
+use Rattle.amqp_json.specs.declared.error.WriteError.TheVariants as write
+use Rattle.amqp_json.specs.Conversions.{IsJsonOf, IsOrderedJsonOf, IsJsonWritten, IsNotWritten, IsRefused}
+use Rattle.amqp_json.specs.Written.{json_text, counted}
+use Rattle.amqp_json.proofs.InOrder.{not_both}
 use Rattle.amqp_c_common.specs.declared.fault.Fault.{Fault}
 use Rattle.amqp_c_common.specs.declared.fault.Fault.TheVariants.{OutOfMemory}
 use Rattle.amqp_c_common.specs.ReturnCodes.{fault_of}
 use Rattle.amqp_c_common.specs.Buffers.{IsPutAtStart, IsBufferTooSmall}
-use Rattle.amqp_c_alloc.specs.JsonCalls.{IsTextOf, IsEncodingPut, IsJsonTextFault, text_fault}
+use Rattle.amqp_c_alloc.specs.JsonCalls.{IsTextOf, IsReadAs, IsEncodingPut, IsJsonTextFault, IsJsonPut, IsJsonFault, text_fault}
 
+-- ---- from a JSON text to the encoding
 -- what is put is the canonical encoding of the value that was meant
-pub put_meant : (most : ℕ) (t bytes old new : List ℕ) (v : Tree) (r : Result ℕ Fault) → IsTextOf t v → (made : List ℕ) → bytes ≡ made → made ≡ text v → IsReadAs made v
+pub put_meant : (most : ℕ) (t bytes old new made : List ℕ) (v : Tree) (r : Result ℕ Fault) → IsTextOf t v → bytes ≡ made → made ≡ text v → Wire made v
     → MatchResult r (IsPutAtStart bytes old new) (IsBufferTooSmall bytes (length old)) → MatchResult r (IsEncodingPut t old new) (IsJsonTextFault most t (length old))
-put_meant most t bytes old new v (Ok n) x made same is back put =
-    (v, x, subst (λ (b : List ℕ). IsReadAs b v) is back, subst (λ (b : List ℕ). IsPutAtStart b old new n) (same ∙ is) put)
-put_meant most t bytes old new v (Err f) x made same is back (e, less) =
-    subst (IsJsonTextFault most t (length old)) (sym e) (v, x, subst (λ (b : List ℕ). IsReadAs b v) is back, ap length (same ∙ is), less)
+put_meant most t bytes old new made v r x same is wire put = by r put
+  where
+    back : IsReadAs (text v) v
+    back rest = wire_found (text v) rest v (subst (λ (b : List ℕ). Wire b v) is wire)
+
+    by : (r : Result ℕ Fault) → MatchResult r (IsPutAtStart bytes old new) (IsBufferTooSmall bytes (length old)) → MatchResult r (IsEncodingPut t old new) (IsJsonTextFault most t (length old))
+    by (Ok n) put = (v, x, back, subst (λ (b : List ℕ). IsPutAtStart b old new n) (same ∙ is) put)
+    by (Err f) (e, less) = subst (IsJsonTextFault most t (length old)) (sym e) (v, x, back, ap length (same ∙ is), less)
 
 -- why a JSON text has no encoding is reported as it is
-pub reported_text : (most : ℕ) (t : List ℕ) (buffer : ℕ) (e : EncodeError) → IsUtf8 t → IsRefused t e → IsJsonTextFault most t buffer (text_fault e)
-reported_text most t buffer encode.OutOfMemory u x = u
-reported_text most t buffer (encode.Json json.OutOfMemory) u x = u
-reported_text most t buffer (encode.Json (json.Syntax at)) u none = inr (λ v is.
-    let same : None ≡ Some (value.json v) = sym none ∙ is.1.1 in
+pub reported_text : (most : ℕ) (t : List ℕ) (buffer : ℕ) (e : JsonError) → IsUtf8 t → IsRefused e t → IsJsonTextFault most t buffer (text_fault e)
+reported_text most t buffer json.OutOfMemory u x = u
+reported_text most t buffer json.TooLarge u x = u
+reported_text most t buffer (json.Syntax at) u none = inr (λ v is.
+    let same : None ≡ Some v = sym none ∙ is.1 in
     absurd (cc same))
-reported_text most t buffer (encode.Json (json.NotAValue at)) u (d, is_read, none) = inr (λ v is.
-    let both : Some (value.json v) ≡ Some d = sym is.1.1 ∙ is_read in
-    let same : value.json v ≡ d = cc in
-    absurd (none v is.1.0 same))
-reported_text most t buffer encode.NoTypeTag u (v, meant, unread) = (
-  v,
-  (u, meant),
-  λ w p.
-      let yes = (bounded_wire w v p).readable in
-      let both : true ≡ false = sym yes ∙ unread in
-      absurd (cc both),
-)
-reported_text most t buffer encode.TooLong u (v, meant, large) = (v, (u, meant), λ w p. absurd (large (bounded_wire w v p).fits))
+reported_text most t buffer (json.NotAValue at mismatch) u none = inr (λ v is.
+    let same : None ≡ Some v = sym none ∙ is.1 in
+    absurd (cc same))
 
+-- ---- from an encoding to the JSON text
 -- an error of reading in place isn't reported as one of memory
 pub needs_none : (l : Limits) (s : List ℕ) (e : Refusal) → RefusesWithin l s e → NeedsNoMemory e → fault_of e ≡ OutOfMemory → ⊥
 needs_none l s (Incomplete Unknown) x none is = x.1
@@ -65,6 +62,38 @@ needs_none l s (Error kind.MapRes) x none is = x.1
 needs_none l s (Error kind.OutOfMemory) x none is = x.1
 needs_none l s (Failure k) x none is = none
 
--- memory is needed only of a value whose bytes are all there
-pub read_whole : (l : Limits) (s : List ℕ) → NeedsMemory l s → (extent s ≤ l.frame) × IsWholeValue s
-read_whole l s (t, rest, (v, within, text, means), why) = found_all l s rest v within
+-- a text that fits no bytes has none, and a buffer begins with it
+pub nothing_put : (l : Limits) (s old new rest : List ℕ) (n : ℕ) → IsJsonWritten l s [] new n rest → IsJsonPut l s old old n
+nothing_put l s old new rest n ([], is, count, few, put) = ([], rest, is.0, subst (IsPutAtStart [] old old) (sym count) (refl, omega arith, refl))
+nothing_put l s old new rest n (c ∷ t, is, count, few, put) = absurd (omega (arith, count, few))
+
+-- a text that was made is put
+pub text_put : (l : Limits) (s t bytes old new rest : List ℕ) (r : Result ℕ Fault) → IsJsonOf l s t rest → bytes ≡ t → length bytes < 2 ^ 64
+    → MatchResult r (IsPutAtStart bytes old new) (IsBufferTooSmall bytes (length old)) → MatchResult r (IsJsonPut l s old new) (IsJsonFault l s (length old))
+text_put l s t bytes old new rest (Ok n) is same few put = (t, rest, is, subst (λ (b : List ℕ). IsPutAtStart b old new n) same put)
+text_put l s t bytes old new rest (Err f) is same few (e, less) =
+    let all : length bytes ≡ counted t = omega (arith, ap length same, few) in
+    subst (IsJsonFault l s (length old)) (sym e) (t, rest, is, all, less)
+
+found_one : (v u : Tree) (rest left : List ℕ) → found v rest ≡ found u left → v ≡ u
+found_one v u rest left e = cc
+
+-- a value that is read isn't rejected
+read_not_refused : (l : Limits) (s rest : List ℕ) (v : Tree) (e : Refusal) → Within l s (found v rest) → RefusesWithin l s e → NeedsNoMemory e → ⊥
+read_not_refused l s rest v (Incomplete Unknown) y x none = x.1
+read_not_refused l s rest v (Incomplete (Size n)) y x none = let same : more n ≡ found v rest = one_outcome_within l.depth s (more n) (found v rest) x.1 y.1 in cc same
+read_not_refused l s rest v (Error kind.MapOpt) y x none = let same : unknown ≡ found v rest = one_outcome_within l.depth s unknown (found v rest) x.1 y.1 in cc same
+read_not_refused l s rest v (Error kind.Eof) y x none = let same : malformed ≡ found v rest = one_outcome_within l.depth s malformed (found v rest) x.1 y.1 in cc same
+read_not_refused l s rest v (Error kind.TooLarge) y x none = omega (arith, x, y.0)
+read_not_refused l s rest v (Error kind.MapRes) y x none = x.1
+read_not_refused l s rest v (Error kind.OutOfMemory) y x none = x.1
+read_not_refused l s rest v (Failure k) y x none = none
+
+-- a text is written to a buffer that it fits
+pub written_if_it_fits : (l : Limits) (s t rest : List ℕ) (buffer : ℕ) (e : WriteError) → IsOrderedJsonOf l s t rest → counted t ≤ buffer → IsNotWritten l s buffer e → ⊥
+written_if_it_fits l s t rest buffer (write.Refused e) ((v, within, is, means), order) fits (refused, none) = read_not_refused l s rest v e within refused none
+written_if_it_fits l s t rest buffer (write.BufferTooSmall m) ((v, within, is, means), order) fits (u, left, ((z, within2, is2, means2), order2), count, less) =
+    let same : v ≡ z = found_one v z rest left (one_outcome_within l.depth s (found v rest) (found z left) within.1 within2.1) in
+    let one : t ≡ u = is ∙ ap json_text same ∙ sym is2 in
+    omega (arith, count, ap counted one, fits, less)
+written_if_it_fits l s t rest buffer write.KeysOutOfOrder (is, order) fits (v, left, within, falls) = not_both s rest left order falls

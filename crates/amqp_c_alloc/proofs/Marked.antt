@@ -1,14 +1,25 @@
 -- The marks of a block.
-use Rattle.std.proofs.Common.{◌≡◌, ℕ, ◌+◌, ◌-◌, ◌≢◌, max, ◌<◌, ◌≤◌, Bool, true, false, cond, List, map, length, get_or, refl, sym, ap, ◌∙◌, subst, arith, inl, inr}
-use Rattle.std.proofs.lemmas.Bool.{cases_lt}
-use Rattle.std.proofs.lemmas.List.{get_or-map}
+use Rattle.std.proofs.Common.{◌≡◌, ℕ, ◌+◌, ◌-◌, ◌%◌, ◌^◌, ◌≢◌, max, ◌<◌, ◌≤◌, Bool, true, false, cond, List, [], ◌∷◌, map, length, get_or, refl, sym, ap, ap₂, ◌∙◌, subst, arith, inl, inr, w8, Fits}
+use Rattle.std.proofs.lemmas.Bool.{agree_below, agree_below_at, cases_lt}
+use Rattle.std.proofs.lemmas.List.{get_or-map, length-map}
 use Rattle.std.proofs.lemmas.Nat.Bits.{bit_at-zero}
-use Rattle.std.proofs.lemmas.Simd.{length-chunk, get_or-chunk, bit_mask_l}
+use Rattle.std.proofs.lemmas.Simd.{mask_l-mod, length-chunk, get_or-chunk, bit_mask_l}
 use Rattle.std.specs.Int.{bit_at}
-use lib.Lanes.{chunk, mask_l}
+use lib.Lanes.{chunk, mask_l, top, Each1}
 use Rattle.amqp_c_alloc.specs.Nesting.{is_mark, Reaches}
 use Rattle.amqp_c_alloc.specs.declared.nesting.Reading.{Reading}
 use Rattle.amqp_c_alloc.proofs.Reached.{reaches_later}
+
+-- ---- the bytes of a vector that pass a test
+each_byte : (f : ℕ → ℕ) (p : ℕ → Bool) → agree_below (λ x. top 7 (f x)) p 256 ≡ true → (v : List ℕ) → Each1 (Fits w8) v → map (top 7) (map f v) ≡ map p v
+each_byte f p all [] fits = refl
+each_byte f p all (x ∷ xs) fits = ap₂ (λ a b. a ∷ b) (agree_below_at (λ x. top 7 (f x)) p 256 x all fits.0.fits) (each_byte f p all xs fits.1)
+
+-- the test is held to the comparisons at each of the 256 bytes
+pub masked : (f : ℕ → ℕ) (p : ℕ → Bool) (v z : List ℕ) → length v ≤ 64 → Each1 (Fits w8) v → z ≡ map f v → agree_below (λ x. top 7 (f x)) p 256 ≡ true
+    → mask_l (map (top 7) z) % 2 ^ 64 ≡ mask_l (map p v)
+masked f p v z short fits e all =
+    ap (λ l. mask_l l % 2 ^ 64) (ap (map (top 7)) e ∙ each_byte f p all v fits) ∙ mask_l-mod (map p v) 64 (omega (arith, length-map v p))
 
 -- ---- the marks of a block, and those that are left of them
 -- a byte of the block that begins at `start` is no mark, from `at` on, if its bit isn't set

@@ -9,7 +9,7 @@ ghost use Rattle.amqp_c_alloc.specs.TextProblems.{IsTextProblem};
 use crate::nesting::first_too_deep;
 use crate::problem::{TextProblem, TextProblemKind};
 use amqp_c_common::{Fault, put};
-use amqp_json::{EncodeError, JsonError, encoding_of_json};
+use amqp_json::{JsonError, encoding_of_json};
 use std::alloc::Global;
 use std::str;
 
@@ -46,24 +46,20 @@ pub fn put_encoding(alloc: Global, text: &[u8], nesting: u32, buffer: &mut [u8])
             done: put(&bytes, buffer),
             problem: None,
         },
-        Err(error) => failure_of(error, text.len()),
+        Err(error) => failure_of(error),
     }
 }
 
 // What comes of a text for which there is no encoding.
-fn failure_of(error: EncodeError, len: usize) -> EncodingPut
+fn failure_of(error: JsonError) -> EncodingPut
     ensures done { result.done ≡ Err (text_fault error) }
-    ensures problem { result.problem ≡ text_problem error len }
+    ensures problem { result.problem ≡ text_problem error }
 {
     match error {
-        EncodeError::Json(JsonError::Syntax(at)) => not_json(TextProblemKind::NotJson, at.min(len)),
-        EncodeError::Json(JsonError::NotAValue(at)) => {
-            not_json(TextProblemKind::NoValue, at.min(len))
-        }
-        EncodeError::Json(JsonError::OutOfMemory) | EncodeError::OutOfMemory => {
-            failure_without_problem(Fault::OutOfMemory)
-        }
-        EncodeError::NoTypeTag | EncodeError::TooLong => failure_without_problem(Fault::NoEncoding),
+        JsonError::Syntax(at) => not_json(TextProblemKind::NotJson, at),
+        JsonError::NotAValue(at, _) => not_json(TextProblemKind::NoValue, at),
+        JsonError::OutOfMemory => failure_without_problem(Fault::OutOfMemory),
+        JsonError::TooLarge => failure_without_problem(Fault::NoEncoding),
     }
 }
 

@@ -51,7 +51,7 @@ pub extern "C" fn amqpv_canonical(
 }
 
 /// Writes the JSON text of the value that `bytes` begin with to the start of `buffer`. Of the stack it takes
-/// what `write_sorted_json` does: docs/PROMISES.md has the runs of this call.
+/// what `json_of_encoding` does: docs/PROMISES.md has the runs of this call.
 ///
 /// `count` becomes how many bytes were written, how many more are needed of the value, or how many
 /// the buffer has to have, otherwise 0.

@@ -17,7 +17,7 @@ use Rattle.amqp_in_place.specs.Places.{IsFramed, IsViewIn, IsPairViewIn}
 use Rattle.amqp_in_place.specs.Walks.{ValueStep, PairStep}
 use Rattle.amqp_in_place.specs.Written.{written, values_written, pairs_written}
 use Rattle.amqp_in_place.specs.Canonicals.{IsAbove}
-use Rattle.amqp_json.proofs.Steps.{RisesIfRest, rising_first, rising_next, rising_over, falls, none_rises}
+use Rattle.amqp_json.proofs.Rising.{RisesIfRest, rising_first, rising_next, rising_over, falls, none_rises}
 use Rattle.amqp_json.specs.Ascending.{Ascends, AllAscend, EntriesAscend, InOrder, OutOfOrder, ValuesWritten, PairsWritten, IfInOrder, IfValuesAscend, IfPairsAscend, IfTableAscends}
 
 -- ---- values
@@ -118,7 +118,7 @@ before_written : (k s : List ℕ) (ps : Entries) (p : TableBody s ps) → (Comes
 before_written k _ _ no_pairs = (λ x. x, λ x. x)
 before_written k _ _ (pair j w rest v ps is p q) = (λ x. x, λ x. x)
 
-written_rises : (s : List ℕ) (ps : Entries) (p : TableBody s ps) → (IsRising ps → IsRising (pairs_written s ps p)) × (IsRising (pairs_written s ps p) → IsRising ps)
+pub written_rises : (s : List ℕ) (ps : Entries) (p : TableBody s ps) → (IsRising ps → IsRising (pairs_written s ps p)) × (IsRising (pairs_written s ps p) → IsRising ps)
 written_rises _ _ no_pairs = (λ x. x, λ x. x)
 written_rises _ _ (pair j w rest v ps is p q) =
     let before = before_written j rest ps q in

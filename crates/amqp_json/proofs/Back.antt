@@ -1,106 +1,90 @@
--- The JSON of a value is read as that value.
-use Rattle.std.proofs.Common.{◌≡◌, ℕ, ℤ, pos, negsuc, suc, ◌^◌, ◌<◌, ◌≤◌, nat_lt, nat_le, length, List, Bool, true, false, Option, Some, None, is_some, refl, sym, ap, ◌∙◌, inl, inr, arith}
-use Rattle.std.proofs.lemmas.Bool.{cases_Bool}
-use Rattle.std.specs.List.{list_any}
-use Rattle.std.specs.Prelude.{slice_index, zero, ◌/◌, ◌%◌, ◌∷◌, [], if◌then◌else◌}
-use Rattle.amqp_json.proofs.ReadWalks.{with_short, short_key}
-use Rattle.std.specs.Option.{option_map, option_and_then}
+-- What is written for a value means the value.
+use Rattle.std.proofs.Common.{◌≡◌, ℕ, ℤ, pos, negsuc, zero, suc, ◌+◌, ◌^◌, ◌<◌, ◌≤◌, ◌==◌, nat_lt, length, drop, take, get_or, List, [], ◌∷◌, ◌++◌, Bool, true, false, Option, Some, option_map, option_and_then, refl, ap, ◌∙◌, arith, le-ltb}
+use Rattle.std.specs.Prelude.{if◌then◌else◌, decimal as digits}
+use Rattle.std.specs.Char.{digit_value}
+use Rattle.std.specs.Fmt.{signed_decimal}
+use Rattle.std.specs.List.{position_or_len, before_first, after_first}
+use Rattle.std.specs.Result.{result_ok}
+use Rattle.std.specs.Str.Parse.{AllDigits}
 use Rattle.std.specs.Int.{Width, w8, w16, w32, w64, cast_signed, cast_unsigned, to_be_bytes, from_be_bytes, bytes_high_first, byte_at}
 use Rattle.std.specs.Str.{is_utf8}
-use mir.Val.{bits, hbits}
+use mir.Val.{bits, hbits, SFits}
+use Rattle.std.proofs.Math.Facts.{sfits_to_z}
+use Rattle.std.proofs.lemmas.Fmt.{decimal_is_IsNumeral}
+use Rattle.std.proofs.lemmas.Slice.Eq.{bytes_eq-Decides}
+use Rattle.std.specs.Str.{bytes_eq}
 use Rattle.std.proofs.lemmas.Int.{of_z-to_z}
-use Rattle.amqp_json.proofs.Signed.{is_in_range}
 use Rattle.std.proofs.lemmas.Nat.{from_be_bytes-to_be_bytes_4, from_be_bytes-to_be_bytes_8}
-use Rattle.hex.specs.Hex.{lower_digits, encode_with, encode_lower, IsBytes}
+use Rattle.hex.specs.Hex.{encode_lower, decode_of, IsBytes}
 use Rattle.hex.proofs.HexLemmas.{decode_of-encode_lower, decode_sized-encode_lower}
-use Rattle.serde_json.specs.Data.{Data, number, string, object, Members}
+use Rattle.json.specs.Json.{Json, number, string}
+use Rattle.serde_json.specs.Data as dt
 use Rattle.serde_json.specs.Find.{of_integer}
+use Rattle.serde_json.specs.Read.{number_of}
+use Rattle.serde_json.proofs.Numbers.{number_of-decimal, number_of-negative}
 use Rattle.amqp_value_core.specs.declared.types.amqp_type.AMQPType.{AMQPType}
 use Rattle.amqp_value_core.specs.declared.types.amqp_type.AMQPType.TheVariants as amqp
-use Rattle.amqp_value_core.specs.Names.{name_of}
 use Rattle.amqp_value_core.specs.Strings.{IsShort}
 use Rattle.amqp_value_core.specs.Values as values
 use Rattle.amqp_value_core.specs.Values.{Scalar, decimal, void, Tree, scalar, short, long, octets, array, table, Trees, no_trees, tree, Entries, no_entries, entry}
 use Rattle.amqp_value_core.specs.InMemory.{IsNumber, IsScalar}
 use Rattle.amqp_value_core.specs.Json as core
 use Rattle.amqp_value_core.specs.Json.{is_within, signed_within, unsigned_below}
+use Rattle.amqp_value_core.proofs.GrammarLaws.{rising_pairs}
+use Rattle.amqp_value_core.specs.Names.{name_of}
 use Rattle.amqp_json.specs.Names.{type_named}
-use Rattle.amqp_json.specs.Json.{under, natural, integer, hexadecimal, number_json, scalar_json, decimal_json, sole_type, table_json, long_json, json, items_json, members_json}
-use Rattle.amqp_json.specs.InMemory.{IsStored, AreStoredTrees, EntriesStored}
-use Rattle.amqp_json.specs.Reading.{long_long, text_without_capitals, long_of, bytes_in, sized_in, plain_in, value_named, ambiguous_table, value_of, values_of, entries_of, is_capital}
+use Rattle.amqp_json.specs.Meaning.{is_name, entry_key, is_e, number_in, natural_in, decimal_in, named, with_entry, object_in, table_of, meaning, meanings, pairs_in}
+use Rattle.amqp_json.specs.Written.{under, signed, number_written, long_written, scalar_written, written_key, written, items_written, members_written, HasJson, AllHaveJson, EntriesHaveJson}
 
--- a type is that of its name
-pub named : (type : AMQPType) → type_named (name_of type) ≡ Some type
-named amqp.Boolean = refl
-named amqp.ShortShortInt = refl
-named amqp.ShortShortUInt = refl
-named amqp.ShortInt = refl
-named amqp.ShortUInt = refl
-named amqp.LongInt = refl
-named amqp.LongUInt = refl
-named amqp.LongLongInt = refl
-named amqp.LongLongUInt = refl
-named amqp.Float = refl
-named amqp.Double = refl
-named amqp.DecimalValue = refl
-named amqp.ShortString = refl
-named amqp.LongString = refl
-named amqp.FieldArray = refl
-named amqp.Timestamp = refl
-named amqp.FieldTable = refl
-named amqp.ByteArray = refl
-named amqp.Void = refl
-
--- what is under a type's name is read as of that type
-pub read_under : (type : AMQPType) (d : Data) → value_of (under type d) ≡ value_named type d (ambiguous_table d)
-read_under type d = rw (named type) refl
+-- what is under the name of a type is read as of that type
+under_back : (type : AMQPType) (j : Json) → is_name (36 ∷ name_of type) ≡ true → type_named (name_of type) ≡ Some type → meaning (under type j) ≡ named type j
+under_back type j name known = rw (name, known) refl
 
 -- ---- integers
 
-below : (limit n : ℕ) → n < limit → unsigned_below limit (natural n) ≡ Some n
+below : (limit n : ℕ) → n < limit → unsigned_below limit (dt.number (dt.unsigned n)) ≡ Some n
 below limit n h = let e : nat_lt n limit ≡ true = grind (arith) in rw e refl
 
-within_signed : (half : ℕ) (z : ℤ) → half ≤ 2 ^ 63 → is_within half z ≡ true → signed_within half (number (of_integer z)) ≡ Some z
+natural_back : (limit n : ℕ) → n < limit → limit ≤ 2 ^ 64 → natural_in limit (digits n) ≡ Some n
+natural_back limit n h few =
+    let low : nat_lt n limit ≡ true = grind (arith) in
+    let same : bytes_eq (digits n) (digits n) ≡ true = (bytes_eq-Decides (digits n) (digits n)).1 refl in
+    rw (number_of-decimal n (omega (arith, h, few)), same, low) refl
+
+unsigned_back : (type : AMQPType) (n : ℕ) → n < 2 ^ 64 → number_in type (digits n) ≡ core.json (dt.number (dt.unsigned n)) type
+unsigned_back type n h = ap (option_and_then (λ x. core.json (dt.number x) type)) (number_of-decimal n h)
+
+known : (w : Width) (z : ℤ) → SFits w z → is_within (2 ^ hbits w) z ≡ true
+known w (pos n) h = let low : n < 2 ^ hbits w = h.sfits in grind (arith)
+known w (negsuc n) h = let low : n < 2 ^ hbits w = h.sfits in grind (arith)
+
+text_back : (half : ℕ) (z : ℤ) → half ≤ 2 ^ 63 → is_within half z ≡ true → number_of (signed_decimal z) ≡ Some (of_integer z)
+text_back half (pos n) few h = let low : n < 2 ^ 64 = grind (arith) in number_of-decimal n low
+text_back half (negsuc n) few h = let low : n < 2 ^ 63 = grind (arith) in number_of-negative n low
+
+within_signed : (half : ℕ) (z : ℤ) → half ≤ 2 ^ 63 → is_within half z ≡ true → signed_within half (dt.number (of_integer z)) ≡ Some z
 within_signed half (pos n) h e = let f : nat_lt n (2 ^ 63) ≡ true = grind (arith) in rw (f, e) refl
 within_signed half (negsuc n) h e = rw e refl
 
--- a signed number of a type, whose bits are n
-signed_back : (type : AMQPType) (w : Width) (n : ℕ) → 2 ^ hbits w ≤ 2 ^ 63 → n < 2 ^ bits w
-    → option_map (λ z. scalar (values.number type (cast_unsigned w z))) (signed_within (2 ^ hbits w) (integer w n)) ≡ Some (scalar (values.number type n))
-signed_back type w n narrow h =
-    ap (option_map (λ z. scalar (values.number type (cast_unsigned w z)))) (within_signed (2 ^ hbits w) (cast_signed w n) narrow (is_in_range w n h))
-    ∙ ap (λ m. Some (scalar (values.number type m))) (of_z-to_z w n h)
+signed_back : (type : AMQPType) (w : Width) (n : ℕ) → 2 ^ hbits w ≤ 2 ^ 63 → n < 2 ^ bits w → ((z : ℤ) → is_within (2 ^ hbits w) z ≡ true → core.json (dt.number (of_integer z)) type ≡ Some (scalar (values.number type (cast_unsigned w z))))
+    → number_in type (signed_decimal (cast_signed w n)) ≡ Some (scalar (values.number type n))
+signed_back type w n narrow h read =
+    let z = cast_signed w n in
+    let is = known w z (sfits_to_z (record { fits = h })) in
+    ap (option_and_then (λ x. core.json (dt.number x) type)) (text_back (2 ^ hbits w) z narrow is) ∙ read z is ∙ ap (λ m. Some (scalar (values.number type m))) (of_z-to_z w n h)
 
--- an integer is held in its own place
-plain : (type : AMQPType) (z : ℤ) → plain_in type (number (of_integer z)) ≡ core.json (number (of_integer z)) type
-plain type (pos n) = refl
-plain type (negsuc n) = refl
+narrow_read : (type : AMQPType) (w : Width) (z : ℤ) → 2 ^ hbits w ≤ 2 ^ 63 → is_within (2 ^ hbits w) z ≡ true
+    → option_map (λ y. scalar (values.number type (cast_unsigned w y))) (signed_within (2 ^ hbits w) (dt.number (of_integer z))) ≡ Some (scalar (values.number type (cast_unsigned w z)))
+narrow_read type w z few is = ap (option_map (λ y. scalar (values.number type (cast_unsigned w y)))) (within_signed (2 ^ hbits w) z few is)
 
--- a LongLongInt
-long_long_back : (z : ℤ) → is_within (2 ^ 63) z ≡ true → long_long (of_integer z) ≡ Some (scalar (values.number amqp.LongLongInt (cast_unsigned w64 z)))
-long_long_back (pos n) e = rw e refl
-long_long_back (negsuc n) e = rw e refl
+long_read : (z : ℤ) → is_within (2 ^ 63) z ≡ true → core.json (dt.number (of_integer z)) amqp.LongLongInt ≡ Some (scalar (values.number amqp.LongLongInt (cast_unsigned w64 z)))
+long_read (pos n) e = let f : nat_lt n (2 ^ 63) ≡ true = grind (arith) in rw f refl
+long_read (negsuc n) e = refl
 
 -- ---- hexadecimal digits
 
-no_capital_at : (s : List ℕ) → list_any is_capital s ≡ false → (i : ℕ) → is_capital (slice_index s i) ≡ false
-no_capital_at [] h i = refl
-no_capital_at (c ∷ s) h zero = elim (cases_Bool (is_capital c)) [ inl is ↦ absurd cc | inr is ↦ is ]
-no_capital_at (c ∷ s) h (suc i) = elim (cases_Bool (is_capital c)) [ inl is ↦ absurd cc | inr is ↦ no_capital_at s (rw is at h) i ]
-
-no_capital : (b : List ℕ) → list_any is_capital (encode_lower b) ≡ false
-unfolding encode_with
-no_capital [] = refl
-no_capital (x ∷ b) = rw (no_capital_at lower_digits refl (x / 16), no_capital_at lower_digits refl (x % 16)) (no_capital b)
-
-no_capitals_in : (b : List ℕ) → text_without_capitals (hexadecimal b) ≡ Some (encode_lower b)
-no_capitals_in b = rw (no_capital b) refl
-
-digits_back : (b : List ℕ) → IsBytes b → bytes_in (hexadecimal b) ≡ Some b
-digits_back b h = rw (no_capitals_in b, decode_of-encode_lower b h) refl
-
-sized_back : (n : ℕ) (b : List ℕ) → length b ≡ n → IsBytes b → sized_in n (hexadecimal b) ≡ Some b
-sized_back n b e h = rw (no_capitals_in b, decode_sized-encode_lower b n e h) refl
+digits_back : (b : List ℕ) → IsBytes b → (f : List ℕ → Tree) → option_map f (result_ok (decode_of (encode_lower b))) ≡ Some (f b)
+digits_back b h f = rw (decode_of-encode_lower b h) refl
 
 bytes_after : (x : ℕ) (xs : List ℕ) → x < 256 → IsBytes xs → IsBytes (x ∷ xs)
 bytes_after x xs h hs zero = h
@@ -117,30 +101,48 @@ bytes_high : (k n : ℕ) → IsBytes (bytes_high_first k n)
 bytes_high zero n = no_bytes
 bytes_high (suc k) n = bytes_after (byte_at k n) (bytes_high_first k n) (one_byte k n) (bytes_high k n)
 
+-- ---- a decimal
+
+no_e : (c : ℕ) → digit_value c < 10 → is_e c ≡ false
+no_e c h = grind arith
+
+cut : (ds rest : List ℕ) → AllDigits 10 ds → position_or_len is_e (ds ++ 101 ∷ rest) ≡ length ds
+cut [] rest h = refl
+cut (c ∷ ds) rest h = let same = cut ds rest h.1 in rw (no_e c h.0) (omega (arith, same))
+
+before : (ds rest : List ℕ) → take (length ds) (ds ++ 101 ∷ rest) ≡ ds
+before [] rest = refl
+before (c ∷ ds) rest = ap (λ xs. c ∷ xs) (before ds rest)
+
+after : (ds rest : List ℕ) → drop (length ds + 1) (ds ++ 101 ∷ rest) ≡ rest
+after [] rest = refl
+after (c ∷ ds) rest = let next : length (c ∷ ds) + 1 ≡ suc (length ds + 1) = omega arith in ap (λ k. drop k (c ∷ (ds ++ 101 ∷ rest))) next ∙ after ds rest
+
+decimal_back : (scale n : ℕ) → scale < 2 ^ 8 → n < 2 ^ 32 → decimal_in (digits n ++ 101 ∷ 45 ∷ digits scale) ≡ Some (scalar (decimal scale n))
+decimal_back scale n few less =
+    let ds = digits n in
+    let rest = 45 ∷ digits scale in
+    let at = cut ds rest (decimal_is_IsNumeral n (omega (arith, less))).0.1 in
+    let first : before_first is_e (ds ++ 101 ∷ rest) ≡ ds = ap (λ k. take k (ds ++ 101 ∷ rest)) at ∙ before ds rest in
+    let second : after_first is_e (ds ++ 101 ∷ rest) ≡ rest = ap (λ k. drop (k + 1) (ds ++ 101 ∷ rest)) at ∙ after ds rest in
+    rw (first, second, natural_back (2 ^ 32) n less (omega arith), natural_back (2 ^ 8) scale few (omega arith)) refl
+
 -- ---- values
 
-number_back : (type : AMQPType) (n : ℕ) → IsNumber type n → value_of (number_json type n) ≡ Some (scalar (values.number type n))
-number_back amqp.LongLongInt n h = long_long_back (cast_signed w64 n) (is_in_range w64 n h) ∙ ap (λ m. Some (scalar (values.number amqp.LongLongInt m))) (of_z-to_z w64 n h)
-number_back amqp.ShortShortInt n h =
-    read_under amqp.ShortShortInt (integer w8 n) ∙ plain amqp.ShortShortInt (cast_signed w8 n) ∙ signed_back amqp.ShortShortInt w8 n (omega arith) h
-number_back amqp.ShortInt n h =
-    read_under amqp.ShortInt (integer w16 n) ∙ plain amqp.ShortInt (cast_signed w16 n) ∙ signed_back amqp.ShortInt w16 n (omega arith) h
-number_back amqp.LongInt n h =
-    read_under amqp.LongInt (integer w32 n) ∙ plain amqp.LongInt (cast_signed w32 n) ∙ signed_back amqp.LongInt w32 n (omega arith) h
-number_back amqp.ShortShortUInt n h =
-    read_under amqp.ShortShortUInt (natural n) ∙ ap (option_map (λ m. scalar (values.number amqp.ShortShortUInt m))) (below (2 ^ 8) n h)
-number_back amqp.ShortUInt n h =
-    read_under amqp.ShortUInt (natural n) ∙ ap (option_map (λ m. scalar (values.number amqp.ShortUInt m))) (below (2 ^ 16) n h)
-number_back amqp.LongUInt n h =
-    read_under amqp.LongUInt (natural n) ∙ ap (option_map (λ m. scalar (values.number amqp.LongUInt m))) (below (2 ^ 32) n h)
-number_back amqp.Timestamp n h = read_under amqp.Timestamp (natural n)
+number_back : (type : AMQPType) (n : ℕ) → IsNumber type n → meaning (number_written type n) ≡ Some (scalar (values.number type n))
+number_back amqp.LongLongInt n h = signed_back amqp.LongLongInt w64 n (omega arith) h long_read
+number_back amqp.ShortShortInt n h = under_back amqp.ShortShortInt (signed w8 n) refl refl ∙ signed_back amqp.ShortShortInt w8 n (omega arith) h (λ z is. narrow_read amqp.ShortShortInt w8 z (omega arith) is)
+number_back amqp.ShortInt n h = under_back amqp.ShortInt (signed w16 n) refl refl ∙ signed_back amqp.ShortInt w16 n (omega arith) h (λ z is. narrow_read amqp.ShortInt w16 z (omega arith) is)
+number_back amqp.LongInt n h = under_back amqp.LongInt (signed w32 n) refl refl ∙ signed_back amqp.LongInt w32 n (omega arith) h (λ z is. narrow_read amqp.LongInt w32 z (omega arith) is)
+number_back amqp.ShortShortUInt n h = under_back amqp.ShortShortUInt (number (digits n)) refl refl ∙ unsigned_back amqp.ShortShortUInt n (omega (arith, h)) ∙ ap (option_map (λ m. scalar (values.number amqp.ShortShortUInt m))) (below (2 ^ 8) n h)
+number_back amqp.ShortUInt n h = under_back amqp.ShortUInt (number (digits n)) refl refl ∙ unsigned_back amqp.ShortUInt n (omega (arith, h)) ∙ ap (option_map (λ m. scalar (values.number amqp.ShortUInt m))) (below (2 ^ 16) n h)
+number_back amqp.LongUInt n h = under_back amqp.LongUInt (number (digits n)) refl refl ∙ unsigned_back amqp.LongUInt n (omega (arith, h)) ∙ ap (option_map (λ m. scalar (values.number amqp.LongUInt m))) (below (2 ^ 32) n h)
+number_back amqp.Timestamp n h = under_back amqp.Timestamp (number (digits n)) refl refl ∙ unsigned_back amqp.Timestamp n h
 number_back amqp.Float n h =
-    read_under amqp.Float (hexadecimal (to_be_bytes w32 n))
-    ∙ ap (option_map (λ b. scalar (values.number amqp.Float (from_be_bytes w32 b)))) (sized_back 4 (to_be_bytes w32 n) refl (bytes_high 4 n))
+    under_back amqp.Float (string (encode_lower (to_be_bytes w32 n))) refl refl ∙ ap (λ r. option_map (λ b. scalar (values.number amqp.Float (from_be_bytes w32 b))) (result_ok r)) (decode_sized-encode_lower (to_be_bytes w32 n) 4 refl (bytes_high 4 n))
     ∙ ap (λ m. Some (scalar (values.number amqp.Float m))) (from_be_bytes-to_be_bytes_4 n h)
 number_back amqp.Double n h =
-    read_under amqp.Double (hexadecimal (to_be_bytes w64 n))
-    ∙ ap (option_map (λ b. scalar (values.number amqp.Double (from_be_bytes w64 b)))) (sized_back 8 (to_be_bytes w64 n) refl (bytes_high 8 n))
+    under_back amqp.Double (string (encode_lower (to_be_bytes w64 n))) refl refl ∙ ap (λ r. option_map (λ b. scalar (values.number amqp.Double (from_be_bytes w64 b))) (result_ok r)) (decode_sized-encode_lower (to_be_bytes w64 n) 8 refl (bytes_high 8 n))
     ∙ ap (λ m. Some (scalar (values.number amqp.Double m))) (from_be_bytes-to_be_bytes_8 n h)
 number_back amqp.Boolean n h = absurd h
 number_back amqp.LongLongUInt n h = absurd h
@@ -152,50 +154,45 @@ number_back amqp.FieldTable n h = absurd h
 number_back amqp.ByteArray n h = absurd h
 number_back amqp.Void n h = absurd h
 
-scalar_back : (x : Scalar) → IsScalar x → value_of (scalar_json x) ≡ Some (scalar x)
+scalar_back : (x : Scalar) → IsScalar x → meaning (scalar_written x) ≡ Some (scalar x)
 scalar_back (values.boolean b) h = refl
 scalar_back (values.number type n) h = number_back type n h
-scalar_back (decimal scale n) h =
-    read_under amqp.DecimalValue (decimal_json scale n) ∙ rw (below (2 ^ 8) scale h.0, below (2 ^ 32) n h.1) refl
+scalar_back (decimal scale n) h = under_back amqp.DecimalValue (string (digits n ++ 101 ∷ 45 ∷ digits scale)) refl refl ∙ decimal_back scale n h.0 h.1
 scalar_back void h = refl
 
-short_back : (s : List ℕ) → IsShort s → value_of (under amqp.ShortString (string s)) ≡ Some (short s)
-short_back s h =
-    let few : nat_le (length s) 255 ≡ true = short_key s h.few in
-    read_under amqp.ShortString (string s) ∙ rw few refl
-
-long_back : (s : List ℕ) (b : Bool) → is_utf8 s ≡ b → IsBytes s → value_of (long_json s) ≡ Some (long s)
-long_back s true e h = rw (e, e) refl
+long_back : (s : List ℕ) (b : Bool) → is_utf8 s ≡ b → IsBytes s → meaning (long_written s) ≡ Some (long s)
+long_back s true e h = rw e refl
 long_back s false e h =
-    ap (λ (c : Bool). value_of (if c then string s else under amqp.LongString (hexadecimal s))) e
-    ∙ read_under amqp.LongString (hexadecimal s) ∙ ap (option_and_then long_of) (digits_back s h) ∙ rw e refl
+    ap (λ (c : Bool). meaning (if c then string s else under amqp.LongString (string (encode_lower s)))) e ∙ under_back amqp.LongString (string (encode_lower s)) refl refl ∙ digits_back s h long
 
-table_back : (ms : Members) (o : Option AMQPType) (es : Entries) → sole_type ms ≡ o → entries_of ms ≡ Some es → value_of (table_json ms) ≡ Some (table es)
-table_back ms None es e h = rw (e, e, h) refl
-table_back ms (Some type) es e h =
-    ap (λ (c : Option AMQPType). value_of (if is_some c then under amqp.FieldTable (object ms) else object ms)) e
-    ∙ read_under amqp.FieldTable (object ms) ∙ rw (e, h) refl
+key_back : (k : List ℕ) (b : Bool) → (get_or k 0 0 == 36) ≡ b → (is_name (written_key k) ≡ false) × (entry_key (written_key k) ≡ k)
+key_back k true e = rw (e, e) (refl, refl)
+key_back k false e = rw (e, e) (refl, refl)
+
+entry_back : (k : List ℕ) (v : Tree) (es : Entries) → IsShort k → with_entry (written_key k) (Some v) (Some es) ≡ Some (entry k v es)
+entry_back k v es h =
+    let key = key_back k _ refl in
+    let few : nat_lt 255 (length k) ≡ false = le-ltb _ _ h.few in
+    rw (key.0, key.1, few) refl
+
+object_back : (es ps : Entries) (o : Option Entries) → object_in (members_written es) o ≡ option_map table_of o
+object_back no_entries ps o = refl
+object_back (entry k v no_entries) ps o = let key = key_back k _ refl in rw key.0 refl
+object_back (entry k v (entry j u es)) ps o = refl
 
 mutual
-  -- the JSON of a value is read as the value
-  pub read_back : (t : Tree) → IsStored t → value_of (json t) ≡ Some t
+  pub read_back : (v : Tree) → HasJson v → meaning (written v) ≡ Some v
   read_back (scalar x) h = scalar_back x h
-  read_back (short s) h = short_back s h
+  read_back (short s) h = absurd h
   read_back (long s) h = long_back s _ refl h
-  read_back (octets s) h = read_under amqp.ByteArray (hexadecimal s) ∙ ap (option_map octets) (digits_back s h)
+  read_back (octets s) h = under_back amqp.ByteArray (string (encode_lower s)) refl refl ∙ digits_back s h octets
   read_back (array vs) h = ap (option_map array) (items_back vs h)
-  read_back (table es) h = table_back (members_json es) _ es refl (members_back es h)
+  read_back (table es) h = object_back es es (pairs_in (members_written es)) ∙ ap (option_map table_of) (pairs_back es h.1) ∙ ap (λ ps. Some (table ps)) (rising_pairs es h.0)
 
-  items_back : (vs : Trees) → AreStoredTrees vs → values_of (items_json vs) ≡ Some vs
+  items_back : (vs : Trees) → AllHaveJson vs → meanings (items_written vs) ≡ Some vs
   items_back no_trees h = refl
   items_back (tree v vs) h = rw (read_back v h.0, items_back vs h.1) refl
 
-  members_back : (es : Entries) → EntriesStored es → entries_of (members_json es) ≡ Some es
-  members_back no_entries h = refl
-  members_back (entry k v es) h = rw (read_back v h.1, members_back es h.2) (with_short k (Some v) (Some es) (short_key k h.0.few))
-
--- so no two values have one JSON
-pub one_value : (t u : Tree) → IsStored t → IsStored u → json t ≡ json u → t ≡ u
-one_value t u p q e =
-    let same : Some t ≡ Some u = sym (read_back t p) ∙ ap value_of e ∙ read_back u q in
-    cc
+  pairs_back : (es : Entries) → EntriesHaveJson es → pairs_in (members_written es) ≡ Some es
+  pairs_back no_entries h = refl
+  pairs_back (entry k v es) h = rw (read_back v h.1, pairs_back es h.2) (entry_back k v es h.0)

@@ -1,20 +1,48 @@
--- The JSON text of the value that was read at the start of some bytes.
-use Rattle.std.proofs.Common.{◌≡◌, List, ℕ, ap, ◌∙◌, subst}
-use Rattle.serde_json.specs.Read.{read}
-use Rattle.serde_json.specs.Written.{compact_text}
+-- The JSON text of a value that was read at the start of some bytes.
+use Rattle.std.proofs.Common.{◌≡◌, ◌+◌, ◌<◌, ◌≤◌, ◌^◌, ℕ, List, [], ◌++◌, length, take, drop, take_all, sym, ap, ◌∙◌, subst, append-nil, arith}
+use Rattle.std.proofs.Math.ListN.{drop_of_length-le}
 use Rattle.amqp_value_core.specs.Values.{Tree}
 use Rattle.amqp_value_core.specs.Outcomes.{found}
 use Rattle.amqp_value_core.specs.Inputs.{IsBytes}
 use Rattle.amqp_value_core.proofs.Bytes.{bytes_before}
-use Rattle.amqp_value_core.proofs.GrammarLaws.{prefix_within, read_is_value}
+use Rattle.amqp_value_core.proofs.GrammarLaws.{prefix_within}
 use Rattle.amq_protocol_types.specs.declared.parsing.limits.Limits.{Limits}
 use Rattle.amq_protocol_types.specs.parsing.Limits.{Within}
-use Rattle.amqp_json.specs.Json.{json}
-use Rattle.amqp_json.specs.Converts.{IsJsonOf}
+use Rattle.amqp_json.specs.Conversions.{IsJsonOf, IsOrderedJsonOf, IsJsonWritten, IsNotWritten}
+use Rattle.amqp_json.specs.Meaning.{meant}
+use Rattle.amqp_json.specs.Printing.{Begins}
+use Rattle.amqp_json.specs.Written.{HasJson, json_text}
+use Rattle.amqp_json.specs.declared.error.WriteError.TheVariants as write
+use Rattle.amqp_json.proofs.Encoded.{has_json}
 use Rattle.amqp_json.proofs.ReadBack.{text_is_read}
 
-pub decoded : (l : Limits) (s rest t : List ℕ) (v : Tree) → IsBytes s → Within l s (found v rest) → t ≡ compact_text (json v) → IsJsonOf l s t rest
-decoded l s rest t v bytes x is =
+pub within_has_json : (l : Limits) (s rest : List ℕ) (v : Tree) → IsBytes s → Within l s (found v rest) → HasJson v
+within_has_json l s rest v bytes x =
     let prefix = prefix_within l.depth s rest v x.1 in
-    let its = bytes_before prefix.0 rest (subst IsBytes prefix.2 bytes) in
-    (v, x, is, λ shallow. ap read is ∙ text_is_read v (read_is_value prefix.0 v its prefix.1.0) shallow)
+    has_json prefix.0 v (bytes_before prefix.0 rest (subst IsBytes prefix.2 bytes)) prefix.1.0
+
+pub decoded : (l : Limits) (s rest t : List ℕ) (v : Tree) → IsBytes s → Within l s (found v rest) → t ≡ json_text v → IsJsonOf l s t rest
+decoded l s rest t v bytes x is =
+    (v, x, is, λ shallow. ap meant is ∙ text_is_read v (within_has_json l s rest v bytes x) shallow)
+
+-- a text that fits a buffer is at its start
+pub fits : (l : Limits) (s t rest old new : List ℕ) (count : ℕ) → IsOrderedJsonOf l s t rest → Begins old new count t → count ≤ length new → 1 + length old < 2 ^ 64 → IsJsonWritten l s old new count rest
+fits l s t rest old new count is put less few =
+    let size : count ≡ length t = omega (arith, put.count, put.same, less, few) in
+    (t, is, size, omega (arith, put.same, less), put.text (omega (arith, size, put.same, less)) ∙ ap (λ k. t ++ drop k old) (sym size))
+
+-- one that doesn't
+pub too_long : (l : Limits) (s t rest old new : List ℕ) (count : ℕ) → IsOrderedJsonOf l s t rest → Begins old new count t → length new < count → IsNotWritten l s (length old) (write.BufferTooSmall count)
+too_long l s t rest old new count is put more = (t, rest, is, put.count, omega (arith, put.same, more))
+
+-- a buffer that was measured for its text
+pub filled : (t zeros new : List ℕ) (m k : ℕ) (small : List ℕ) → Begins [] small m t → Begins zeros new k t → length zeros ≡ m → m < 2 ^ 63 → new ≡ t
+filled t zeros new m k small first second size few =
+    let all : length t ≡ m = omega (arith, first.count, few) in
+    second.text (omega (arith, all, size)) ∙ ap (λ (l : List ℕ). t ++ l) (drop_of_length-le zeros (omega (arith, all, size))) ∙ append-nil t
+
+-- it is all of the string
+pub kept : (t zeros new : List ℕ) (len : ℕ) → new ≡ t → length new ≡ length zeros → length zeros ≤ len → take len (new ++ drop (length new) zeros) ≡ t
+kept t zeros new len e same enough =
+    let all : new ++ drop (length new) zeros ≡ new = ap (λ (l : List ℕ). new ++ l) (drop_of_length-le zeros (omega (arith, same))) ∙ append-nil new in
+    ap (take len) all ∙ take_all len new (omega (arith, same, enough)) ∙ e

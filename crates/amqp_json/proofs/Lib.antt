@@ -1,45 +1,18 @@
-mod Walks
-mod Bytes
-mod Numbers
-mod Signed
-mod Stored
-mod ReadWalks
-mod Back
-mod Only
-mod Ones
-mod Encodings
-mod Chains
-mod Steps
-mod SortedSteps
-mod PlacedSteps
-mod Latest
-mod FewSteps
-mod Fronts
-mod OwnedSteps
-mod Copies
-mod ReadBack
-mod Decoded
-mod Putting
-mod Filling
-mod Firsts
-mod Ascents
-mod Turns
-mod Ordered
-mod Counting
-mod Passing
-mod Merged
-mod Rest
-mod Leading
-mod Forms
-mod Digits
-mod Encodes
-mod ItemsAfter
-mod Named
-mod Unread
-mod Refused
-mod CanonicalSteps
-mod Exchanges
-pub mod Lanes
-mod Lexing
-mod Decimals
-mod Lasts
+pub mod Keys
+pub mod Turns
+pub mod Loops
+pub mod Refusals
+pub mod Soles
+pub mod Scalars
+pub mod Ends
+pub mod Back
+pub mod ReadBack
+pub mod Encoded
+pub mod Bytes
+pub mod Printed
+pub mod PrintedContainers
+pub mod Rising
+pub mod Ascents
+pub mod Again
+pub mod Decoded
+pub mod InOrder

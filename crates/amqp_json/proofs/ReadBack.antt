@@ -1,184 +1,187 @@
--- The JSON text of a value is read as the value's JSON.
-use Rattle.std.proofs.Common.{◌≡◌, ℕ, ℤ, pos, negsuc, ◌^◌, ◌<◌, ◌≤◌, List, [], Bool, true, false, Some, Less, Equal, Greater, max, is_some, refl, sym, ap, ap₂, ◌∙◌, subst, append-nil, option_map, option_and_then, arith}
-use Rattle.std.specs.Int.{Width, w8, w16, w32, w64, cast_signed}
-use Rattle.std.specs.Cmp.Lexicographic.{slice_cmp}
-use Rattle.std.specs.Ordering.{nat_cmp, match_ordering}
-use Rattle.std.specs.Str.{is_utf8}
-use Rattle.std.specs.declared.cmp.Ordering.{Ordering}
+-- The text of a value is UTF-8, and is read as the value.
+use Rattle.std.proofs.Common.{◌≡◌, ℕ, ℤ, pos, negsuc, ◌^◌, ◌<◌, ◌≤◌, List, [], ◌∷◌, ◌++◌, Bool, true, false, Some, IsUtf8, refl, sym, ap, ◌∙◌, append-nil, option_and_then, arith, ltb-true}
+use Rattle.std.specs.Int.{Width, w8, w16, w32, w64, cast_signed, to_be_bytes}
+use Rattle.std.specs.Str.{is_utf8, IsAscii}
+use Rattle.std.specs.Prelude.{decimal as digits}
+use Rattle.std.specs.Fmt.{signed_decimal}
 use Rattle.std.proofs.Math.Facts.{sfits_to_z}
+use Rattle.std.proofs.lemmas.Bool.{and_parts}
+use Rattle.std.proofs.lemmas.Str.Ascii.{IsAscii-nil, IsAscii-cons}
+use Rattle.std.proofs.lemmas.Fmt.{IsAscii-decimal_wide, IsAscii-signed}
+use Rattle.std.proofs.lemmas.Str.{IsUtf8-append, IsUtf8-nil, IsUtf8-from_ascii, IsUtf8-from_is_utf8}
 use mir.Val.{bits, hbits, SFits}
-use Rattle.json.specs.Json as tree
-use Rattle.json.specs.Lex.{tokens}
-use Rattle.json.specs.Tree.{json_tokens, HasNumbers, ItemsHaveNumbers, MembersHaveNumbers, depth as tree_depth, items_depth as tree_items_depth, members_depth as tree_members_depth}
+use Rattle.hex.specs.Hex.{lower_digits, encode_lower}
+use Rattle.hex.proofs.HexLemmas.{IsAscii-encode_with}
+use Rattle.json.specs.Token.{Token, end_object}
+use Rattle.json.specs.Json.{Json, number, string, value, if_last}
+use Rattle.json.specs.Print.{print_from, ends, separator, token_text}
+use Rattle.json.specs.Tree.{json_tokens, items_tokens, members_tokens, HasNumbers, ItemsHaveNumbers, MembersHaveNumbers, depth}
 use Rattle.json.proofs.Printed.Decimals.{IsNumber-decimal, IsNumber-signed_decimal}
 use Rattle.json.proofs.Printed.Tokens.{tokens-print}
 use Rattle.json.proofs.Printed.Trees.{value-json_tokens, ArePrintable-json_tokens}
-use Rattle.serde_json.specs.Data.{Data, null, boolean, number, string, array, object, Items, no_items, item, Members, no_members, member, put, depth, items_depth, members_depth}
-use Rattle.serde_json.specs.Find.{of_integer}
-use Rattle.serde_json.specs.Read.{of_json, of_items, of_members, read, max_depth}
-use Rattle.serde_json.specs.Written.{outline, items_outline, members_outline, compact_text}
-use Rattle.serde_json.proofs.Numbers.{number_of-decimal, number_of-negative}
-use Rattle.serde_json.proofs.Texts.{print-outline}
+use Rattle.json.proofs.Printed.Utf8.{are_ascii, IsUtf8-are_ascii, IsUtf8-quoted, IsUtf8-key, IsUtf8-boolean, IsUtf8-separator}
 use Rattle.amqp_value_core.specs.declared.types.amqp_type.AMQPType.{AMQPType}
 use Rattle.amqp_value_core.specs.declared.types.amqp_type.AMQPType.TheVariants as amqp
-use Rattle.amqp_value_core.specs.InMemory.{IsNumber, IsScalar, IsValue, AreValues, AreEntries}
+use Rattle.amqp_value_core.specs.InMemory.{IsNumber, IsScalar}
+use Rattle.amqp_value_core.specs.Names.{name_of}
 use Rattle.amqp_value_core.specs.Values as values
-use Rattle.amqp_value_core.specs.Values.{Scalar, void, Tree, scalar, short, long, octets, table, Trees, no_trees, tree as with_tree, Entries, no_entries, entry, insert, insert_all}
-use Rattle.amqp_value_core.proofs.GrammarLaws.{rising_pairs, entries_rise}
-use Rattle.amqp_json.specs.Json.{under, natural, integer, number_json, decimal_json, scalar_json, sole_type, table_json, long_json, json, items_json, members_json}
+use Rattle.amqp_value_core.specs.Values.{Scalar, decimal, void, Tree, scalar, short, long, octets, table, Trees, no_trees, tree, Entries, no_entries, entry}
+use Rattle.amqp_json.specs.Meaning.{meaning, meant}
+use Rattle.amqp_json.specs.Written.{under, signed, number_written, long_written, scalar_written, is_marked, written_key, written, items_written, members_written, decimal_text, HasJson, AllHaveJson, EntriesHaveJson, json_text}
+use Rattle.amqp_json.proofs.Back.{read_back}
 
--- its text is that of numbers, and its outline is read as it
-record Reads (d : Data) : Type 0 where
-  pub numbers : HasNumbers (outline d)
-  pub read : of_json (outline d) ≡ Some d
+-- ---- the texts of tokens are UTF-8
+
+abbrev AreUtf8 : List Token → Type 0
+AreUtf8 [] = Unit {0}
+AreUtf8 (t ∷ ts) = IsUtf8 (token_text t) × AreUtf8 ts
+
+are_append : (ts us : List Token) → AreUtf8 ts → AreUtf8 us → AreUtf8 (ts ++ us)
+are_append [] us h k = k
+are_append (t ∷ ts) us h k = (h.0, are_append ts us h.1 k)
+
+all_utf8 : (c : Bool) (ts : List Token) → AreUtf8 ts → IsUtf8 (print_from c ts)
+unfolding print_from
+all_utf8 c [] h = IsUtf8-nil
+all_utf8 c (t ∷ ts) h = IsUtf8-append (separator c t) (token_text t ++ print_from (ends t) ts) (IsUtf8-separator c t) (IsUtf8-append (token_text t) (print_from (ends t) ts) h.0 (all_utf8 (ends t) ts h.1))
+
+-- JSON whose numbers are texts of numbers, and whose text is UTF-8
+record IsText (j : Json) : Type 0 where
+  pub numbers : HasNumbers j
+  pub utf8 : AreUtf8 (json_tokens j)
 
 -- ---- numbers
 
-reads_natural : (n : ℕ) → n < 2 ^ 64 → Reads (natural n)
-reads_natural n h = record { numbers = IsNumber-decimal n h; read = ap (option_map number) (number_of-decimal n h) }
-
-reads_signed : (w : Width) (z : ℤ) → 2 ^ hbits w ≤ 2 ^ 63 → SFits w z → Reads (number (of_integer z))
-reads_signed w (pos n) wide fits =
-    let low : n < 2 ^ hbits w = fits.sfits in
-    reads_natural n (omega (arith, low, wide))
-reads_signed w (negsuc n) wide fits =
-    let low : n < 2 ^ hbits w = fits.sfits in
-    let less : n < 2 ^ 63 = omega (arith, low, wide) in
-    record { numbers = IsNumber-signed_decimal (negsuc n) (omega (arith, less)); read = ap (option_map number) (number_of-negative n less) }
-
-reads_integer : (w : Width) (n : ℕ) → 2 ^ hbits w ≤ 2 ^ 63 → n < 2 ^ bits w → Reads (integer w n)
-reads_integer w n wide h = reads_signed w (cast_signed w n) wide (sfits_to_z (record { fits = h }))
-
-reads_under : (type : AMQPType) (d : Data) → Reads d → Reads (under type d)
-reads_under type d r = record { numbers = (r.numbers, tt); read = rw r.read refl }
-
-reads_string : (s : List ℕ) → Reads (string s)
-reads_string s = record { numbers = tt; read = refl }
-
-reads_number : (type : AMQPType) (n : ℕ) → IsNumber type n → Reads (number_json type n)
-reads_number amqp.Boolean n h = absurd h
-reads_number amqp.ShortShortInt n h = reads_under amqp.ShortShortInt _ (reads_integer w8 n (omega arith) h)
-reads_number amqp.ShortShortUInt n h = reads_under amqp.ShortShortUInt _ (reads_natural n (omega (arith, h)))
-reads_number amqp.ShortInt n h = reads_under amqp.ShortInt _ (reads_integer w16 n (omega arith) h)
-reads_number amqp.ShortUInt n h = reads_under amqp.ShortUInt _ (reads_natural n (omega (arith, h)))
-reads_number amqp.LongInt n h = reads_under amqp.LongInt _ (reads_integer w32 n (omega arith) h)
-reads_number amqp.LongUInt n h = reads_under amqp.LongUInt _ (reads_natural n (omega (arith, h)))
-reads_number amqp.LongLongInt n h = reads_integer w64 n (omega arith) h
-reads_number amqp.LongLongUInt n h = absurd h
-reads_number amqp.Float n h = reads_under amqp.Float _ (reads_string _)
-reads_number amqp.Double n h = reads_under amqp.Double _ (reads_string _)
-reads_number amqp.DecimalValue n h = absurd h
-reads_number amqp.ShortString n h = absurd h
-reads_number amqp.LongString n h = absurd h
-reads_number amqp.FieldArray n h = absurd h
-reads_number amqp.Timestamp n h = reads_under amqp.Timestamp _ (reads_natural n h)
-reads_number amqp.FieldTable n h = absurd h
-reads_number amqp.ByteArray n h = absurd h
-reads_number amqp.Void n h = absurd h
-
-reads_decimal : (scale n : ℕ) → Reads (natural scale) → Reads (natural n) → Reads (decimal_json scale n)
-reads_decimal scale n r s = record { numbers = (r.numbers, (s.numbers, tt)); read = rw (r.read, s.read) refl }
-
-reads_scalar : (x : Scalar) → IsScalar x → Reads (scalar_json x)
-reads_scalar (values.boolean b) h = record { numbers = tt; read = refl }
-reads_scalar (values.number type n) h = reads_number type n h
-reads_scalar (values.decimal scale n) h =
-    reads_under amqp.DecimalValue _ (reads_decimal scale n (reads_natural scale (omega (arith, h.0))) (reads_natural n (omega (arith, h.1))))
-reads_scalar void h = record { numbers = tt; read = refl }
-
-reads_long : (s : List ℕ) (b : Bool) → is_utf8 s ≡ b → Reads (long_json s)
-reads_long s true e = rw e (reads_string s)
-reads_long s false e = rw e (reads_under amqp.LongString _ (reads_string _))
-
--- ---- containers
-
-put_insert : (k : List ℕ) (v : Tree) (es : Entries) → put k (json v) (members_json es) ≡ members_json (insert k v es)
-put_insert k v no_entries = refl
-put_insert k v (entry j u es) = by (slice_cmp nat_cmp k j) (put_insert k v es)
-  where
-    by : (o : Ordering) → put k (json v) (members_json es) ≡ members_json (insert k v es)
-        → match_ordering o (member k (json v) (member j (json u) (members_json es))) (member j (json v) (members_json es)) (member j (json u) (put k (json v) (members_json es)))
-        ≡ members_json (match_ordering o (entry k v (entry j u es)) (entry j v es) (entry j u (insert k v es)))
-    by Less e = refl
-    by Equal e = refl
-    by Greater e = ap (member j (json u)) e
-
-reads_object : (es : Entries) → MembersHaveNumbers (members_outline (members_json es)) → of_members (members_outline (members_json es)) no_members ≡ Some (members_json es) → Reads (object (members_json es))
-reads_object es numbers r = record { numbers = numbers; read = ap (option_map object) r }
-
-reads_table : (ms : Members) (b : Bool) → is_some (sole_type ms) ≡ b → Reads (object ms) → Reads (table_json ms)
-reads_table ms true e r = rw e (reads_under amqp.FieldTable _ r)
-reads_table ms false e r = rw e r
-
-record AreRead (vs : Trees) : Type 0 where
-  pub numbers : ItemsHaveNumbers (items_outline (items_json vs))
-  pub read : of_items (items_outline (items_json vs)) ≡ Some (items_json vs)
-
-record MembersRead (es : Entries) : Type 0 where
-  pub numbers : MembersHaveNumbers (members_outline (members_json es))
-  pub read : (done : Entries) → of_members (members_outline (members_json es)) (members_json done) ≡ Some (members_json (insert_all done es))
-
-one_more : (v : Tree) (vs : Trees) → Reads (json v) → AreRead vs → AreRead (with_tree v vs)
-one_more v vs first rest = record { numbers = (first.numbers, rest.numbers); read = rw (first.read, rest.read) refl }
-
-one_more_member : (k : List ℕ) (v : Tree) (es : Entries) → Reads (json v) → MembersRead es → MembersRead (entry k v es)
-one_more_member k v es first rest = record {
-  numbers = (first.numbers, rest.numbers);
-  read = λ done.
-      ap (option_and_then (λ (d : Data). of_members (members_outline (members_json es)) (put k d (members_json done)))) first.read
-      ∙ ap (of_members (members_outline (members_json es))) (put_insert k v done)
-      ∙ rest.read (insert k v done);
+natural_text : (n : ℕ) → n < 2 ^ 64 → IsText (number (digits n))
+natural_text n h = record {
+  numbers = IsNumber-decimal n h;
+  utf8 = (IsUtf8-from_ascii (digits n) (IsAscii-decimal_wide n (omega (arith, h))), tt);
 }
 
-reads_array : (vs : Trees) → AreRead vs → Reads (json (values.array vs))
-reads_array vs r = record { numbers = r.numbers; read = ap (option_map array) r.read }
+integer_text : (z : ℤ) → SFits w64 z → IsText (number (signed_decimal z))
+integer_text (pos n) fits = let low : n < 2 ^ 63 = fits.sfits in natural_text n (omega (arith, low))
+integer_text (negsuc n) fits =
+    let low : n < 2 ^ 63 = fits.sfits in
+    record {
+      numbers = IsNumber-signed_decimal (negsuc n) (omega (arith, low));
+      utf8 = (IsUtf8-from_ascii (signed_decimal (negsuc n)) (IsAscii-signed (negsuc n) fits.sfits), tt);
+    }
+
+wide : (w : Width) (z : ℤ) → 2 ^ hbits w ≤ 2 ^ 63 → SFits w z → SFits w64 z
+wide w (pos n) few fits = let low : n < 2 ^ hbits w = fits.sfits in record { sfits = omega (arith, low, few) }
+wide w (negsuc n) few fits = let low : n < 2 ^ hbits w = fits.sfits in record { sfits = omega (arith, low, few) }
+
+signed_text : (w : Width) (n : ℕ) → 2 ^ hbits w ≤ 2 ^ 63 → n < 2 ^ bits w → IsText (signed w n)
+signed_text w n few h = integer_text (cast_signed w n) (wide w (cast_signed w n) few (sfits_to_z (record { fits = h })))
+
+-- ---- strings
+
+ascii : (xs : List ℕ) → are_ascii xs ≡ true → IsAscii xs
+ascii [] e = IsAscii-nil
+ascii (x ∷ xs) e = let p = and_parts _ _ e in IsAscii-cons x xs (ltb-true _ _ p.0) (ascii xs p.1)
+
+digits_text : (bytes : List ℕ) → IsText (string (encode_lower bytes))
+digits_text bytes = record { numbers = tt; utf8 = (IsUtf8-quoted _ (IsUtf8-from_ascii _ (IsAscii-encode_with lower_digits bytes (ascii lower_digits refl))), tt) }
+
+string_text : (s : List ℕ) → IsUtf8 s → IsText (string s)
+string_text s h = record { numbers = tt; utf8 = (IsUtf8-quoted s h, tt) }
+
+decimal_utf8 : (scale n : ℕ) → scale < 2 ^ 64 → n < 2 ^ 64 → IsUtf8 (decimal_text scale n)
+decimal_utf8 scale n few less =
+    IsUtf8-append (digits n) (101 ∷ 45 ∷ digits scale) (IsUtf8-from_ascii (digits n) (IsAscii-decimal_wide n (omega (arith, less))))
+    (IsUtf8-append (101 ∷ 45 ∷ []) (digits scale) (IsUtf8-are_ascii (101 ∷ 45 ∷ []) refl) (IsUtf8-from_ascii (digits scale) (IsAscii-decimal_wide scale (omega (arith, few)))))
+
+-- ---- values
+
+under_text : (type : AMQPType) (j : Json) → are_ascii (36 ∷ name_of type) ≡ true → IsText j → IsText (under type j)
+under_text type j name is = record {
+  numbers = (is.numbers, tt);
+  utf8 = (IsUtf8-are_ascii (123 ∷ []) refl, (IsUtf8-key (36 ∷ name_of type) (IsUtf8-are_ascii (36 ∷ name_of type) name), are_append (json_tokens j) (end_object ∷ []) is.utf8 (IsUtf8-are_ascii (125 ∷ []) refl, tt)));
+}
+
+number_text : (type : AMQPType) (n : ℕ) → IsNumber type n → IsText (number_written type n)
+number_text amqp.ShortShortInt n h = under_text amqp.ShortShortInt _ refl (signed_text w8 n (omega arith) h)
+number_text amqp.ShortShortUInt n h = under_text amqp.ShortShortUInt _ refl (natural_text n (omega (arith, h)))
+number_text amqp.ShortInt n h = under_text amqp.ShortInt _ refl (signed_text w16 n (omega arith) h)
+number_text amqp.ShortUInt n h = under_text amqp.ShortUInt _ refl (natural_text n (omega (arith, h)))
+number_text amqp.LongInt n h = under_text amqp.LongInt _ refl (signed_text w32 n (omega arith) h)
+number_text amqp.LongUInt n h = under_text amqp.LongUInt _ refl (natural_text n (omega (arith, h)))
+number_text amqp.LongLongInt n h = signed_text w64 n (omega arith) h
+number_text amqp.Timestamp n h = under_text amqp.Timestamp _ refl (natural_text n h)
+number_text amqp.Float n h = under_text amqp.Float _ refl (digits_text (to_be_bytes w32 n))
+number_text amqp.Double n h = under_text amqp.Double _ refl (digits_text (to_be_bytes w64 n))
+number_text amqp.Boolean n h = absurd h
+number_text amqp.LongLongUInt n h = absurd h
+number_text amqp.DecimalValue n h = absurd h
+number_text amqp.ShortString n h = absurd h
+number_text amqp.LongString n h = absurd h
+number_text amqp.FieldArray n h = absurd h
+number_text amqp.FieldTable n h = absurd h
+number_text amqp.ByteArray n h = absurd h
+number_text amqp.Void n h = absurd h
+
+scalar_text : (x : Scalar) → IsScalar x → IsText (scalar_written x)
+scalar_text (values.boolean b) h = record { numbers = tt; utf8 = (IsUtf8-boolean b, tt) }
+scalar_text (values.number type n) h = number_text type n h
+scalar_text (decimal scale n) h = under_text amqp.DecimalValue _ refl (string_text (decimal_text scale n) (decimal_utf8 scale n (omega (arith, h.0)) (omega (arith, h.1))))
+scalar_text void h = record { numbers = tt; utf8 = (IsUtf8-are_ascii _ refl, tt) }
+
+long_text : (s : List ℕ) (b : Bool) → is_utf8 s ≡ b → IsText (long_written s)
+long_text s true e = rw e (string_text s (IsUtf8-from_is_utf8 s e))
+long_text s false e = rw e (under_text amqp.LongString _ refl (digits_text s))
+
+key_utf8 : (k : List ℕ) (b : Bool) → is_marked k ≡ b → IsUtf8 k → IsUtf8 (written_key k)
+key_utf8 k true e h = rw e (IsUtf8-append (36 ∷ []) k (IsUtf8-are_ascii (36 ∷ []) refl) h)
+key_utf8 k false e h = rw e h
+
+record AreItemsText (vs : Trees) : Type 0 where
+  pub numbers : ItemsHaveNumbers (items_written vs)
+  pub utf8 : AreUtf8 (items_tokens (items_written vs))
+
+record AreMembersText (es : Entries) : Type 0 where
+  pub numbers : MembersHaveNumbers (members_written es)
+  pub utf8 : AreUtf8 (members_tokens (members_written es))
+
+array_text : (vs : Trees) → AreItemsText vs → IsText (written (values.array vs))
+array_text vs is = record { numbers = is.numbers; utf8 = (IsUtf8-are_ascii (91 ∷ []) refl, is.utf8) }
+
+table_text : (es : Entries) → AreMembersText es → IsText (written (table es))
+table_text es is = record { numbers = is.numbers; utf8 = (IsUtf8-are_ascii (123 ∷ []) refl, is.utf8) }
+
+one_more : (v : Tree) (vs : Trees) → IsText (written v) → AreItemsText vs → AreItemsText (tree v vs)
+one_more v vs first rest = record { numbers = (first.numbers, rest.numbers); utf8 = are_append _ _ first.utf8 rest.utf8 }
+
+one_more_member : (k : List ℕ) (v : Tree) (es : Entries) → IsUtf8 (written_key k) → IsText (written v) → AreMembersText es → AreMembersText (entry k v es)
+one_more_member k v es name first rest = record {
+  numbers = (first.numbers, rest.numbers);
+  utf8 = (IsUtf8-key (written_key k) name, are_append _ _ first.utf8 rest.utf8);
+}
 
 mutual
-  reads : (v : Tree) → IsValue v → Reads (json v)
-  reads (scalar x) h = reads_scalar x h
-  reads (short s) h = reads_under amqp.ShortString _ (reads_string s)
-  reads (long s) h = reads_long s _ refl
-  reads (octets s) h = reads_under amqp.ByteArray _ (reads_string _)
-  reads (values.array vs) h = reads_array vs (reads_all vs h)
-  reads (table es) h =
-      let r = reads_entries es h in
-      reads_table (members_json es) _ refl (reads_object es r.numbers (r.read no_entries ∙ ap (λ (fs : Entries). Some (members_json fs)) (rising_pairs es (entries_rise es h))))
+  is_text : (v : Tree) → HasJson v → IsText (written v)
+  is_text (scalar x) h = scalar_text x h
+  is_text (short s) h = absurd h
+  is_text (long s) h = long_text s _ refl
+  is_text (octets s) h = under_text amqp.ByteArray _ refl (digits_text s)
+  is_text (values.array vs) h = array_text vs (are_items vs h)
+  is_text (table es) h = table_text es (are_members es h.1)
 
-  reads_all : (vs : Trees) → AreValues vs → AreRead vs
-  reads_all no_trees h = record { numbers = tt; read = refl }
-  reads_all (with_tree v vs) h = one_more v vs (reads v h.0) (reads_all vs h.1)
+  are_items : (vs : Trees) → AllHaveJson vs → AreItemsText vs
+  are_items no_trees h = record { numbers = tt; utf8 = (IsUtf8-are_ascii (93 ∷ []) refl, tt) }
+  are_items (tree v vs) h = one_more v vs (is_text v h.0) (are_items vs h.1)
 
-  reads_entries : (es : Entries) → AreEntries es → MembersRead es
-  reads_entries no_entries h = record { numbers = tt; read = λ done. refl }
-  reads_entries (entry k v es) h = one_more_member k v es (reads v h.1) (reads_entries es h.3)
+  are_members : (es : Entries) → EntriesHaveJson es → AreMembersText es
+  are_members no_entries h = record { numbers = tt; utf8 = (IsUtf8-are_ascii (125 ∷ []) refl, tt) }
+  are_members (entry k v es) h = one_more_member k v es (key_utf8 k _ refl h.0.utf8) (is_text v h.1) (are_members es h.2)
 
 -- ---- the text
 
-mutual
-  outline_depth : (d : Data) → tree_depth (outline d) ≡ depth d
-  outline_depth null = refl
-  outline_depth (boolean b) = refl
-  outline_depth (number n) = refl
-  outline_depth (string s) = refl
-  outline_depth (array ds) = rw (items_outline_depth ds) refl
-  outline_depth (object ms) = rw (members_outline_depth ms) refl
+pub text_is_utf8 : (v : Tree) → HasJson v → IsUtf8 (json_text v)
+text_is_utf8 v h = all_utf8 false (json_tokens (written v)) (is_text v h).utf8
 
-  items_outline_depth : (ds : Items) → tree_items_depth (items_outline ds) ≡ items_depth ds
-  items_outline_depth no_items = refl
-  items_outline_depth (item d ds) = ap₂ max (outline_depth d) (items_outline_depth ds)
-
-  members_outline_depth : (ms : Members) → tree_members_depth (members_outline ms) ≡ members_depth ms
-  members_outline_depth no_members = refl
-  members_outline_depth (member k d ms) = ap₂ max (outline_depth d) (members_outline_depth ms)
-
-text_tokens : (d : Data) → HasNumbers (outline d) → tokens (compact_text d) ≡ json_tokens (outline d)
-text_tokens d numbers = ap tokens (sym (print-outline d)) ∙ tokens-print (json_tokens (outline d)) (ArePrintable-json_tokens (outline d) numbers)
-
-pub text_is_read : (v : Tree) → IsValue v → depth (json v) ≤ max_depth → read (compact_text (json v)) ≡ Some (json v)
-text_is_read v is shallow =
-    let r = reads v is in
-    let j = outline (json v) in
-    let low : tree_depth j ≤ max_depth = subst (λ (n : ℕ). n ≤ max_depth) (sym (outline_depth (json v))) shallow in
-    ap (λ o. option_and_then of_json (option_and_then (λ p. tree.if_last p.0 p.1) o))
-    (ap (tree.value max_depth) (text_tokens (json v) r.numbers ∙ sym (append-nil (json_tokens j))) ∙ value-json_tokens j max_depth [] low)
-    ∙ r.read
+pub text_is_read : (v : Tree) → HasJson v → depth (written v) ≤ 127 → meant (json_text v) ≡ Some v
+text_is_read v h shallow =
+    let j = written v in
+    ap (λ o. option_and_then meaning (option_and_then (λ p. if_last p.0 p.1) o))
+    (ap (value 127) (tokens-print (json_tokens j) (ArePrintable-json_tokens j (is_text v h).numbers) ∙ sym (append-nil (json_tokens j))) ∙ value-json_tokens j 127 [] shallow)
+    ∙ read_back v h

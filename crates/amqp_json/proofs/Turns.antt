@@ -1,20 +1,13 @@
--- The grammar's loops, a turn at a time, under the conversion to data.
-use Rattle.std.proofs.Common.{◌≡◌, ℕ, zero, suc, ◌-◌, ◌<◌, ◌≤◌, List, [], ◌∷◌, ◌++◌, length, Option, Some, None, Result, Ok, Err, IfOk, option_map, option_and_then, refl, sym, ap, ◌∙◌, arith, Bor}
-use Rattle.json.specs.Token.{Token}
+-- The grammar's loops, a turn at a time, under the meaning of items and of pairs.
+use Rattle.std.proofs.Common.{◌≡◌, ℕ, zero, suc, ◌-◌, ◌<◌, ◌≤◌, List, ◌∷◌, length, false, Option, Some, None, option_map, option_and_then, refl, sym, ap, ◌∙◌, arith}
+use Rattle.json.specs.Token.{Token, key}
 use Rattle.json.specs.Json as json
-use Rattle.json.specs.Json.{Parse, parse_map, after_end_array, read_key, items_step, items, members, if_last}
-use Rattle.json.proofs.Grammar.{value_is, items_end, items_more, members_end, members_no_key, members_more}
-use Rattle.serde_json.specs.Data.{Data, number, array, object, Items, no_items, item, Members, no_members, member, put}
-use Rattle.serde_json.specs.Read.{of_json, of_items, of_members, converted, number_of}
-use Rattle.amqp_value_core.specs.View.{view}
-use Rattle.amqp_value_core.specs.Containers.{trees}
-use Rattle.amqp_value_core.specs.declared.value.AMQPValue.{AMQPValue}
-use Rattle.std.specs.Ordering.{nat_cmp, match_ordering}
-use Rattle.std.specs.Cmp.Lexicographic.{slice_cmp}
-use Rattle.std.proofs.Common.{Ordering, Less, Equal, Greater}
-use Rattle.amqp_value_core.specs.Values.{Tree, Entries, no_entries, entry, insert}
-use Rattle.amqp_json.specs.Json.{items_json, members_json, under}
-use Rattle.amqp_json.specs.Json as amqp
+use Rattle.json.specs.Json.{Parse, parse_map, after_end_array, read_key, items_step, items, members}
+use Rattle.json.proofs.Grammar.{items_end, items_more, members_no_key, members_more, read_key_is}
+use Rattle.serde_json.specs.Read.{converted}
+use Rattle.amqp_value_core.specs.Values.{Tree, array, no_trees, tree, Entries, no_entries, entry}
+use Rattle.amqp_json.specs.Meaning.{is_name, entry_key, with_entry, meaning, meanings, pairs_in, object_in, table_of}
+use Rattle.amqp_json.specs.Puts.{next_token, object_read, pairs_read}
 
 abbrev pick : {A : Type 0} → A → Option A → A
 pick d None = d
@@ -29,154 +22,118 @@ converted_some f None b r e = absurd (cc)
 converted_some f (Some p) b r e = let both = found p.0 p.1 r (f p.0) b e in (p.0, ap (λ s. Some (p.0, s)) both.0, both.1)
 
 -- nothing is converted from what is read
-refused : {B : Type 0} (r : List Token) (x : Option B) → option_map {U = B × List Token} (λ y. (y, r)) x ≡ None → x ≡ None
-refused r None e = refl
-refused r (Some y) e = absurd (cc)
+none_of : {B : Type 0} (r : List Token) (x : Option B) → option_map {U = B × List Token} (λ y. (y, r)) x ≡ None → x ≡ None
+none_of r None e = refl
+none_of r (Some y) e = absurd (cc)
 
 twice : {A B : Type 0} (g : A → B) (r : List Token) (x : Option A) → option_map (λ b. (b, r)) (option_map g x) ≡ parse_map g (option_map (λ a. (a, r)) x)
 twice g r None = refl
 twice g r (Some a) = refl
 
-pub converted-array : (o : Option (json.Items × List Token)) → converted of_json (parse_map json.array o) ≡ parse_map array (converted of_items o)
+pub map_twice : {A B C : Type 0} (f : B → C) (g : A → B) (o : Option (A × List Token)) → parse_map f (parse_map g o) ≡ parse_map (λ a. f (g a)) o
+map_twice f g None = refl
+map_twice f g (Some p) = refl
+
+pub map_same : {A : Type 0} (o : Option (A × List Token)) → o ≡ parse_map (λ a. a) o
+map_same None = refl
+map_same (Some p) = refl
+
+pub converted-array : (o : Option (json.Items × List Token)) → converted meaning (parse_map json.array o) ≡ parse_map array (converted meanings o)
 converted-array None = refl
-converted-array (Some p) = twice array p.1 (of_items p.0)
+converted-array (Some p) = twice array p.1 (meanings p.0)
 
-pub converted-object : (o : Option (json.Members × List Token)) → converted of_json (parse_map json.object o) ≡ parse_map object (converted (λ ms. of_members ms no_members) o)
+pub converted-object : (o : Option (json.Members × List Token)) → converted meaning (parse_map json.object o) ≡ converted (λ ms. object_in ms (pairs_in ms)) o
 converted-object None = refl
-converted-object (Some p) = twice object p.1 (of_members p.0 no_members)
+converted-object (Some p) = refl
 
-with_item : (j : json.Json) (d : Data) → of_json j ≡ Some d → (o : Option (json.Items × List Token)) → converted of_items (parse_map (json.item j) o) ≡ parse_map (item d) (converted of_items o)
-with_item j d e None = refl
-with_item j d e (Some p) = rw e (twice (item d) p.1 (of_items p.0))
+with_item : (j : json.Json) (v : Tree) → meaning j ≡ Some v → (o : Option (json.Items × List Token)) → converted meanings (parse_map (json.item j) o) ≡ parse_map (tree v) (converted meanings o)
+with_item j v e None = refl
+with_item j v e (Some p) = rw e (twice (tree v) p.1 (meanings p.0))
 
-without_item : (j : json.Json) → of_json j ≡ None → (o : Option (json.Items × List Token)) → converted of_items (parse_map (json.item j) o) ≡ None
+without_item : (j : json.Json) → meaning j ≡ None → (o : Option (json.Items × List Token)) → converted meanings (parse_map (json.item j) o) ≡ None
 without_item j e None = refl
-without_item j e (Some p) = rw e
+without_item j e (Some p) = rw e refl
 
-with_member : (k : List ℕ) (j : json.Json) (d : Data) (old : Members) → of_json j ≡ Some d → (o : Option (json.Members × List Token))
-    → converted (λ ms. of_members ms old) (parse_map (json.member k j) o) ≡ converted (λ ms. of_members ms (put k d old)) o
-with_member k j d old e None = refl
-with_member k j d old e (Some p) = rw e
+-- a key that is no name, and short enough, and its value
+with_member : (k : List ℕ) (j : json.Json) (v : Tree) → ((ps : Option Entries) → with_entry k (Some v) ps ≡ option_map (entry (entry_key k) v) ps) → meaning j ≡ Some v → (o : Option (json.Members × List Token))
+    → converted pairs_in (parse_map (json.member k j) o) ≡ parse_map (entry (entry_key k) v) (converted pairs_in o)
+with_member k j v put e None = refl
+with_member k j v put e (Some p) = rw e (ap (option_map (λ ps. (ps, p.1))) (put (pairs_in p.0)) ∙ twice (entry (entry_key k) v) p.1 (pairs_in p.0))
 
-without_member : (k : List ℕ) (j : json.Json) (old : Members) → of_json j ≡ None → (o : Option (json.Members × List Token)) → converted (λ ms. of_members ms old) (parse_map (json.member k j) o) ≡ None
-without_member k j old e None = refl
-without_member k j old e (Some p) = rw e
+without_member : (k : List ℕ) (j : json.Json) → ((ps : Option Entries) → with_entry k (meaning j) ps ≡ None) → (o : Option (json.Members × List Token)) → converted pairs_in (parse_map (json.member k j) o) ≡ None
+without_member k j e None = refl
+without_member k j e (Some p) = ap (option_map (λ ps. (ps, p.1))) (e (pairs_in p.0))
+
+pub next_is : (ts : List Token) (o : Option (List ℕ)) (r : List Token) → read_key ts ≡ Some (o, r) → ts ≡ next_token o ∷ r
+next_is ts None r e = read_key_is ts None r e
+next_is ts (Some k) r e = read_key_is ts (Some k) r e
 
 module _ (p : Parse json.Json) where
-  pub item_read : (n : ℕ) (ts r : List Token) (d : Data) → 0 < n → after_end_array ts ≡ None → converted of_json (p ts) ≡ Some (d, r)
-      → converted of_items (items p n ts) ≡ parse_map (item d) (converted of_items (items p (n - 1) r))
-  item_read n ts r d some going e = let j = converted_some of_json (p ts) d r e in ap (converted of_items) (items_more p n ts r j.0 some going j.1) ∙ with_item j.0 d j.2 _
+  pub item_read : (n : ℕ) (ts r : List Token) (v : Tree) → 0 < n → after_end_array ts ≡ None → converted meaning (p ts) ≡ Some (v, r)
+      → converted meanings (items p n ts) ≡ parse_map (tree v) (converted meanings (items p (n - 1) r))
+  item_read n ts r v some going e = let j = converted_some meaning (p ts) v r e in ap (converted meanings) (items_more p n ts r j.0 some going j.1) ∙ with_item j.0 v j.2 _
 
-  no_item : (more : Parse json.Items) (o : Option (json.Json × List Token)) → converted of_json o ≡ None → converted of_items (option_and_then (λ q. parse_map (json.item q.0) (more q.1)) o) ≡ None
+  no_item : (more : Parse json.Items) (o : Option (json.Json × List Token)) → converted meaning o ≡ None → converted meanings (option_and_then (λ q. parse_map (json.item q.0) (more q.1)) o) ≡ None
   no_item more None e = refl
-  no_item more (Some q) e = without_item q.0 (refused q.1 (of_json q.0) e) (more q.1)
+  no_item more (Some q) e = without_item q.0 (none_of q.1 (meaning q.0) e) (more q.1)
 
-  pub item_refused : (n : ℕ) (ts : List Token) → after_end_array ts ≡ None → converted of_json (p ts) ≡ None → converted of_items (items p n ts) ≡ None
+  pub item_refused : (n : ℕ) (ts : List Token) → after_end_array ts ≡ None → converted meaning (p ts) ≡ None → converted meanings (items p n ts) ≡ None
   unfolding items
   item_refused zero ts going e = refl
-  item_refused (suc n) ts going e = ap (λ o. converted of_items (items_step p (items p n) ts o)) going ∙ no_item (items p n) (p ts) e
+  item_refused (suc n) ts going e = ap (λ o. converted meanings (items_step p (items p n) ts o)) going ∙ no_item (items p n) (p ts) e
 
-  pub items_over : (n : ℕ) (ts r : List Token) → length ts ≤ n → after_end_array ts ≡ Some r → converted of_items (items p n ts) ≡ Some (no_items, r)
-  items_over n ts r enough e = ap (converted of_items) (items_end p n ts r enough e)
+  pub items_over : (n : ℕ) (ts r : List Token) → length ts ≤ n → after_end_array ts ≡ Some r → converted meanings (items p n ts) ≡ Some (no_trees, r)
+  items_over n ts r enough e = ap (converted meanings) (items_end p n ts r enough e)
 
-  module _ (old : Members) where
-    pub member_read : (n : ℕ) (k : List ℕ) (ts s r : List Token) (d : Data) → 0 < n → read_key ts ≡ Some (Some k, s) → converted of_json (p s) ≡ Some (d, r)
-        → converted (λ ms. of_members ms old) (members p n ts) ≡ converted (λ ms. of_members ms (put k d old)) (members p (n - 1) r)
-    member_read n k ts s r d some key e =
-        let j = converted_some of_json (p s) d r e in
-        ap (converted (λ ms. of_members ms old)) (members_more p n k ts s r j.0 some key j.1) ∙ with_member k j.0 d old j.2 _
+  pub member_read : (n : ℕ) (k : List ℕ) (s r : List Token) (v : Tree) → 0 < n → ((ps : Option Entries) → with_entry k (Some v) ps ≡ option_map (entry (entry_key k) v) ps) → converted meaning (p s) ≡ Some (v, r)
+      → converted pairs_in (members p n (key k ∷ s)) ≡ parse_map (entry (entry_key k) v) (converted pairs_in (members p (n - 1) r))
+  member_read n k s r v some put e =
+      let j = converted_some meaning (p s) v r e in
+      ap (converted pairs_in) (members_more p n k (key k ∷ s) s r j.0 some refl j.1) ∙ with_member k j.0 v put j.2 _
 
-    no_member : (k : List ℕ) (more : Parse json.Members) (o : Option (json.Json × List Token)) → converted of_json o ≡ None
-        → converted (λ ms. of_members ms old) (option_and_then (λ q. parse_map (json.member k q.0) (more q.1)) o) ≡ None
-    no_member k more None e = refl
-    no_member k more (Some q) e = without_member k q.0 old (refused q.1 (of_json q.0) e) (more q.1)
+  no_member : (k : List ℕ) (more : Parse json.Members) (o : Option (json.Json × List Token)) → ((j : json.Json) (r : List Token) → o ≡ Some (j, r) → (ps : Option Entries) → with_entry k (meaning j) ps ≡ None)
+      → converted pairs_in (option_and_then (λ q. parse_map (json.member k q.0) (more q.1)) o) ≡ None
+  no_member k more None e = refl
+  no_member k more (Some q) e = without_member k q.0 (e q.0 q.1 refl) (more q.1)
 
-    pub member_refused : (n : ℕ) (k : List ℕ) (ts s : List Token) → read_key ts ≡ Some (Some k, s) → converted of_json (p s) ≡ None → converted (λ ms. of_members ms old) (members p n ts) ≡ None
-    unfolding members
-    member_refused zero k ts s key e = refl
-    member_refused (suc n) k ts s key e = rw key (no_member k (members p n) (p s) e)
+  -- a key or a value is none of a table
+  pub member_refused : (n : ℕ) (k : List ℕ) (s : List Token) → ((j : json.Json) (r : List Token) → p s ≡ Some (j, r) → (ps : Option Entries) → with_entry k (meaning j) ps ≡ None)
+      → converted pairs_in (members p n (key k ∷ s)) ≡ None
+  unfolding members
+  member_refused zero k s e = refl
+  member_refused (suc n) k s e = no_member k (members p n) (p s) e
 
-    pub key_refused : (n : ℕ) (ts : List Token) → read_key ts ≡ None → converted (λ ms. of_members ms old) (members p n ts) ≡ None
-    key_refused n ts e = ap (converted (λ ms. of_members ms old)) (members_no_key p n ts e)
+  pub members_over : (n : ℕ) (r : List Token) → 0 < n → converted pairs_in (members p n (next_token None ∷ r)) ≡ Some (no_entries, r)
+  unfolding members
+  members_over zero r some = let never : ⊥ = omega (arith, some) in absurd never
+  members_over (suc n) r some = refl
 
-    pub members_over : (n : ℕ) (ts r : List Token) → length ts ≤ n → read_key ts ≡ Some (None, r) → converted (λ ms. of_members ms old) (members p n ts) ≡ Some (old, r)
-    members_over n ts r enough e = ap (converted (λ ms. of_members ms old)) (members_end p n ts r enough e)
+  pub key_refused : (n : ℕ) (ts : List Token) → read_key ts ≡ None → converted pairs_in (members p n ts) ≡ None
+  key_refused n ts e = ap (converted pairs_in) (members_no_key p n ts e)
 
--- ---- a list that grows at its end
+  pub no_object : (n : ℕ) (ts : List Token) → read_key ts ≡ None → converted (λ ms. object_in ms (pairs_in ms)) (members p n ts) ≡ None
+  no_object n ts e = ap (converted (λ ms. object_in ms (pairs_in ms))) (members_no_key p n ts e)
 
-abbrev pub items_before : List AMQPValue → Items → Items
-items_before [] rest = rest
-items_before (v ∷ vs) rest = item (amqp.json (view v)) (items_before vs rest)
+  -- ---- an object whose first key is no name is a table
 
-pub items_before-no_items : (vs : List AMQPValue) → items_before vs no_items ≡ items_json (trees vs)
-items_before-no_items [] = refl
-items_before-no_items (v ∷ vs) = ap (item (amqp.json (view v))) (items_before-no_items vs)
+  entries_of_object : (k : List ℕ) (j : json.Json) (ms : json.Members) (o : Option Entries) → is_name k ≡ false → object_in (json.member k j ms) o ≡ option_map table_of o
+  entries_of_object k j json.no_members o e = rw e refl
+  entries_of_object k j (json.member l i ms) o e = refl
 
-items_push : (vs : List AMQPValue) (v : AMQPValue) (rest : Items) → items_before vs (item (amqp.json (view v)) rest) ≡ items_before (vs ++ v ∷ []) rest
-items_push [] v rest = refl
-items_push (w ∷ vs) v rest = ap (item (amqp.json (view w))) (items_push vs v rest)
+  as_table : (k : List ℕ) (j : json.Json) (o : Option (json.Members × List Token)) → is_name k ≡ false
+      → converted (λ ms. object_in ms (pairs_in ms)) (parse_map (json.member k j) o) ≡ parse_map table_of (converted pairs_in (parse_map (json.member k j) o))
+  as_table k j None e = refl
+  as_table k j (Some q) e = ap (option_map (λ v. (v, q.1))) (entries_of_object k j q.0 (pairs_in (json.member k j q.0)) e) ∙ twice table_of q.1 (pairs_in (json.member k j q.0))
 
-pub one_more_item : (vs : List AMQPValue) (v : AMQPValue) (r : Option (Items × List Token)) → parse_map (items_before vs) (parse_map (item (amqp.json (view v))) r) ≡ parse_map (items_before (vs ++ v ∷ [])) r
-one_more_item vs v None = refl
-one_more_item vs v (Some p) = ap (λ ds. Some (ds, p.1)) (items_push vs v p.0)
+  as_tables : (k : List ℕ) (more : Parse json.Members) (o : Option (json.Json × List Token)) → is_name k ≡ false
+      → converted (λ ms. object_in ms (pairs_in ms)) (option_and_then (λ q. parse_map (json.member k q.0) (more q.1)) o) ≡ parse_map table_of (converted pairs_in (option_and_then (λ q. parse_map (json.member k q.0) (more q.1)) o))
+  as_tables k more None e = refl
+  as_tables k more (Some q) e = as_table k q.0 (more q.1) e
 
-pub none_before : (r : Option (Items × List Token)) → r ≡ parse_map (λ a. a) r
-none_before None = refl
-none_before (Some p) = refl
+  pub table_first : (o : Option (List ℕ)) (r : List Token) → ((k : List ℕ) → o ≡ Some k → is_name k ≡ false) → object_read p (next_token o ∷ r) ≡ parse_map table_of (pairs_read p (next_token o ∷ r))
+  unfolding members
+  table_first None r plain = refl
+  table_first (Some k) r plain = as_tables k (members p (length r)) (p r) (plain k refl)
 
--- ---- the whole text
-
-abbrev pub whole : Option (json.Json × List Token) → Option Data
-whole o = option_and_then of_json (option_and_then (λ p. if_last p.0 p.1) o)
-
-pub whole_read : (o : Option (json.Json × List Token)) (d : Data) → converted of_json o ≡ Some (d, []) → whole o ≡ Some d
-whole_read o d e = let j = converted_some of_json o d [] e in ap whole j.1 ∙ j.2
-
-pub weaker : {A E : Type 0} (P Q : A → Type 0) (r : Result A E) → ((a : A) → P a → Q a) → IfOk r P → IfOk r Q
-weaker P Q (Err e) f h = tt
-weaker P Q (Ok a) f h = f a h
-
-pub whole_and_more : (o : Option (json.Json × List Token)) (d : Data) (t : Token) (r : List Token) → converted of_json o ≡ Some (d, t ∷ r) → whole o ≡ None
-whole_and_more o d t r e = ap whole (converted_some of_json o d (t ∷ r) e).1
-
-pub whole_refused : (o : Option (json.Json × List Token)) → converted of_json o ≡ None → whole o ≡ None
-whole_refused None e = refl
-whole_refused (Some (j, [])) e = refused [] (of_json j) e
-whole_refused (Some (j, t ∷ r)) e = refl
-
--- an object of one member
-pub one_member : (p : Parse json.Json) (k : List ℕ) (ts s r u : List Token) (d : Data) → read_key ts ≡ Some (Some k, s) → converted of_json (p s) ≡ Some (d, r) → read_key r ≡ Some (None, u) → length r < length ts
-    → converted (λ ms. of_members ms no_members) (members p (length ts) ts) ≡ Some (member k d no_members, u)
-one_member p k ts s r u d first value last less =
-    member_read p no_members (length ts) k ts s r d (omega (arith, less)) first value ∙ members_over p (put k d no_members) (length ts - 1) r u (omega (arith, less)) last
-
--- no key follows
-pub closed : (o : Option (Bor (List ℕ))) (vs end : List Token) → read_key vs ≡ Some (option_map (λ b. b.now) o, end) → o ≡ None → read_key vs ≡ Some (None, end)
-closed o vs end h none = h ∙ ap (λ (x : Option (Bor (List ℕ))). Some (option_map (λ b. b.now) x, end)) none
-
--- ---- a time
-
-pub mapped : {A B : Type 0} (f : A → B) (o : Option A) (b : B) → option_map f o ≡ Some b → (a : A) × (o ≡ Some a) × (f a ≡ b)
-mapped f None b h = absurd (cc h)
-mapped f (Some a) b h = let e : f a ≡ b = cc in (a, refl, e)
-
-pub number_read : (depth : ℕ) (s : List ℕ) (r : List Token) (d : Data) → option_map number (number_of s) ≡ Some d → converted of_json (json.value depth (Token.number s ∷ r)) ≡ Some (d, r)
-number_read depth s r d h = ap (converted of_json) (value_is depth _) ∙ ap (λ o. option_map (λ (x : Data). (x, r)) o) h
-
--- so is the token of a number, and nothing more
-pub number_is : (depth : ℕ) (s : List ℕ) (r : List Token) (t : Token) (u : List Token) → t ≡ Token.number s → u ≡ r → (d : Data) → option_map number (number_of s) ≡ Some d → converted of_json (json.value depth (t ∷ r)) ≡ Some (d, u)
-number_is depth s r t u is same d h = ap (λ k. converted of_json (json.value depth (k ∷ r))) is ∙ number_read depth s r d h ∙ ap (λ (ts : List Token). Some (d, ts)) (sym same)
-
--- ---- members
-
--- an entry that is put in its place is a member that is put in its place
-placed : (k j : List ℕ) (v u : Tree) (es : Entries) (o : Ordering) → members_json (insert k v es) ≡ put k (amqp.json v) (members_json es)
-    → members_json (match_ordering o (entry k v (entry j u es)) (entry j v es) (entry j u (insert k v es)))
-    ≡ match_ordering o (member k (amqp.json v) (member j (amqp.json u) (members_json es))) (member j (amqp.json v) (members_json es)) (member j (amqp.json u) (put k (amqp.json v) (members_json es)))
-placed k j v u es Less later = refl
-placed k j v u es Equal later = refl
-placed k j v u es Greater later = ap (member j (amqp.json u)) later
-
-pub insert_put : (k : List ℕ) (v : Tree) (es : Entries) → members_json (insert k v es) ≡ put k (amqp.json v) (members_json es)
-insert_put k v no_entries = refl
-insert_put k v (entry j u es) = placed k j v u es (slice_cmp nat_cmp k j) (insert_put k v es)
+pub none_is : (o : Option (json.Json × List Token)) (j : json.Json) (r : List Token) → o ≡ Some (j, r) → converted meaning o ≡ None → meaning j ≡ None
+none_is o j r is none = none_of r (meaning j) (sym (ap (converted meaning) is) ∙ none)

@@ -1,25 +1,11 @@
--- which names are those of types
+-- What a JSON text means, and what is written for a value.
 pub mod Names
--- the JSON of a value
-pub mod Json
--- what every value in memory is, bytes and all
-pub mod InMemory
--- what reading rejects
-pub mod Refusals
--- for private clauses: reading as a function, and by a text's tokens
-pub mod Reading
-pub mod Tokens
--- what converting returns
-pub mod Converts
--- for private clauses: encodings that are put after other bytes
-pub mod Encodes
-pub mod Exchanged
--- for private clauses: what is written of a value, and a table's pairs by their keys
-pub mod Adds
-pub mod Sorted
-pub mod Placed
-pub mod Puts
-pub mod Buffers
+pub mod Meaning
+pub mod Written
+-- What the calls' clauses say.
 pub mod Ascending
-pub mod Lexing
-pub mod Decimals
+pub mod Conversions
+-- For private clauses.
+pub mod Puts
+pub mod Printing
+pub mod Views

@@ -1,36 +1,83 @@
--- For private clauses: text that is put at the start of a buffer, and may be longer than that.
-use Rattle.std.specs.Prelude.{ℕ, ◌≡◌, ◌≤◌, ◌-◌, ◌^◌, min, List, ◌++◌, length, drop}
-use Rattle.json.specs.Token.{Token}
-use Rattle.json.specs.Tree.{json_tokens}
-use Rattle.serde_json.specs.Data.{Data}
-use Rattle.serde_json.specs.Written.{outline}
-use Rattle.json.specs.Print.{print, ends_value}
-use Rattle.amqp_json.specs.declared.buffer.place.Place.{Place}
+-- For private clauses: encodings that are put after other bytes.
+use Rattle.std.specs.Prelude.{◌≡◌, true, false, List, ◌∷◌, ◌++◌, ℕ, drop, length, Option, Some, None}
+use Rattle.json.specs.Token.{Token, key, end_object}
+use Rattle.json.specs.Json.{Parse, Json, members, value}
+use Rattle.serde_json.specs.Read.{converted}
+use Rattle.amqp_value_core.specs.declared.types.amqp_type.AMQPType.{AMQPType}
+use Rattle.amqp_value_core.specs.declared.types.amqp_type.AMQPType.TheVariants as amqp
+use Rattle.amqp_value_core.specs.Values.{Scalar, number, scalar, Tree, Trees, Entries}
+use Rattle.amqp_value_core.specs.Grammar.{Wire, ArrayBody, TableBody}
+use Rattle.amqp_value_core.specs.InMemory.{IsScalar}
+use Rattle.amqp_value_core.specs.Texts.{text}
+use Rattle.amqp_json.specs.declared.error.JsonError.{JsonError}
+use Rattle.amqp_json.specs.declared.error.JsonError.TheVariants.{Syntax, NotAValue}
+use Rattle.amqp_json.specs.declared.key.Key.{Key}
+use Rattle.amqp_json.specs.declared.key.Key.TheVariants.{Entry, Name}
+use Rattle.amqp_json.specs.Meaning.{is_name, entry_key, object_in, pairs_in, named, meant}
 
--- how many bytes a text has, by a count that ends at the largest one
-abbrev pub counted : List ℕ → ℕ
-counted t = min (length t) (2 ^ 64 - 1)
+-- what a key of an object says
+abbrev pub IsKey : List ℕ → Key → Type 0
+IsKey k (Entry s) = (is_name k ≡ false) × (s.now ≡ entry_key k)
+IsKey k (Name s) = (is_name k ≡ true) × (s.now ≡ drop 1 k)
 
--- the buffer, which was `start`, begins with a text of that count if the text fits it, and is as it
--- was after the text
-pub record Begins (start buffer : List ℕ) (at : ℕ) (t : List ℕ) : Type 0 where
-  pub count : at ≡ counted t
-  pub same : length buffer ≡ length start
-  pub text : length t ≤ length start → buffer ≡ t ++ drop (length t) start
+-- if the text is why no encoding is put, P is so; memory and size say nothing
+abbrev pub OnRefusal : JsonError → Type 0 → Type 0
+OnRefusal (Syntax at) P = P
+OnRefusal (NotAValue at mismatch) P = P
+OnRefusal e P = Unit {0}
 
--- bytes are put after the text
-abbrev pub Puts : List ℕ → ℕ → List ℕ → ℕ → List ℕ → Type 0
-Puts old at new end bytes = (start t : List ℕ) → Begins start old at t → Begins start new end (t ++ bytes)
+-- an encoding of a value is put after the bytes that were there, and P is so of the value
+abbrev pub PutsEncodingOf : (Tree → Type 0) → List ℕ → List ℕ → Type 0
+PutsEncodingOf P old new = (w : List ℕ) × (v : Tree) × (new ≡ old ++ w) × Wire w v × P v
 
--- the buffer begins with the text of these tokens
-pub record AreTokensPrinted (start buffer : List ℕ) (place : Place) (ts : List Token) : Type 0 where
-  pub text : Begins start buffer place.count (print ts)
-  pub after : place.after_value ≡ ends_value ts
+-- the values of an array's body are
+abbrev pub PutsValues : (Trees → Type 0) → List ℕ → List ℕ → Type 0
+PutsValues P old new = (w : List ℕ) × (vs : Trees) × (new ≡ old ++ w) × ArrayBody w vs × P vs
 
--- tokens are put after those that were there
-abbrev pub PutsTokens : List ℕ → Place → List ℕ → Place → List Token → Type 0
-PutsTokens old place new end us = (start : List ℕ) (ts : List Token) → AreTokensPrinted start old place ts → AreTokensPrinted start new end (ts ++ us)
+-- the pairs of a table's body are
+abbrev pub PutsPairs : (Entries → Type 0) → List ℕ → List ℕ → Type 0
+PutsPairs P old new = (w : List ℕ) × (ps : Entries) × (new ≡ old ++ w) × TableBody w ps × P ps
 
--- the tokens of a JSON value are put after those that were there
-abbrev pub PutsJson : List ℕ → Place → List ℕ → Place → Data → Type 0
-PutsJson old place new end d = PutsTokens old place new end (json_tokens (outline d))
+-- the value is a number or a decimal, and its canonical encoding is put
+abbrev pub PutsScalar : Tree → List ℕ → List ℕ → Type 0
+PutsScalar v old new = (x : Scalar) × (v ≡ scalar x) × IsScalar x × (new ≡ old ++ text v)
+
+-- what an object is that has the members at the start of some tokens
+abbrev pub object_read : Parse Json → List Token → Option (Tree × List Token)
+object_read p ts = converted (λ ms. object_in ms (pairs_in ms)) (members p (length ts) ts)
+
+-- the same as the pairs of a table
+abbrev pub pairs_read : Parse Json → List Token → Option (Entries × List Token)
+pairs_read p ts = converted pairs_in (members p (length ts) ts)
+
+-- the token of a key, or of the closing brace
+abbrev pub next_token : Option (List ℕ) → Token
+next_token None = end_object
+next_token (Some k) = key k
+
+-- what an object is whose first key is `$` and the name, with these tokens after it
+abbrev pub IsNamedRead : List ℕ → List Token → Option (Tree × List Token) → Type 0
+IsNamedRead name ts read = (k : List ℕ) (depth : ℕ) → is_name k ≡ true → name ≡ drop 1 k → object_read (value depth) (key k ∷ ts) ≡ read
+
+-- an integer of a type
+abbrev pub IsInteger : Tree → Type 0
+IsInteger (scalar (number amqp.ShortShortInt n)) = Unit {0}
+IsInteger (scalar (number amqp.ShortShortUInt n)) = Unit {0}
+IsInteger (scalar (number amqp.ShortInt n)) = Unit {0}
+IsInteger (scalar (number amqp.ShortUInt n)) = Unit {0}
+IsInteger (scalar (number amqp.LongInt n)) = Unit {0}
+IsInteger (scalar (number amqp.LongUInt n)) = Unit {0}
+IsInteger (scalar (number amqp.LongLongInt n)) = Unit {0}
+IsInteger (scalar (number amqp.Timestamp n)) = Unit {0}
+IsInteger v = ⊥
+
+-- a token is a value of the type, or none
+abbrev pub IsLeaf : AMQPType → Token → Tree → Type 0
+IsLeaf type t v = (j : Json) × ((depth : ℕ) (ts : List Token) → value depth (t ∷ ts) ≡ Some (j, ts)) × (named type j ≡ Some v)
+
+abbrev pub IsNoLeaf : AMQPType → Token → Type 0
+IsNoLeaf type t = (depth : ℕ) (ts r : List Token) (j : Json) → value depth (t ∷ ts) ≡ Some (j, r) → named type j ≡ None
+
+-- the bytes are an encoding of the value that the text means
+abbrev pub IsEncodedAsItComes : List ℕ → List ℕ → Type 0
+IsEncodedAsItComes t bytes = (v : Tree) × (meant t ≡ Some v) × Wire bytes v

@@ -1,21 +1,44 @@
-//! From an encoding to its JSON text.
+//! From a value or its encoding to JSON text.
 
-// The tactic at the function names the lemma that the bytes of a value that is read are all there.
+// The tactics at the functions name the lemmas that clauses are proved by.
 
-ghost use Rattle.std.specs.Prelude.{IfOk, IfErr, string_bytes};
-ghost use Rattle.amqp_json.specs.Converts.{IsJsonOf, IsNotRead};
+ghost use Rattle.std.specs.Prelude.{◌≡◌, ◌≤◌, List, ℕ, length, IfOk, IfErr, IfSome, MatchResult, string_bytes};
+ghost use Rattle.amq_protocol_types.specs.declared.parsing.limits.Limits.{Limits};
+ghost use Rattle.amqp_in_place.specs.Places.{IsViewIn};
+ghost use Rattle.amqp_in_place.specs.Refs.{Denotes};
+ghost use Rattle.amqp_value_core.specs.Values.{Tree};
+ghost use Rattle.amqp_value_core.specs.Texts.{text};
+ghost use Rattle.amqp_value_core.specs.View.{view};
+ghost use Rattle.amqp_json.specs.Ascending.{IfInOrder};
+ghost use Rattle.amqp_json.specs.Conversions.{IsJsonOf, IsNotRead, IsJsonWritten, IsNotWritten, HasNoText};
+ghost use Rattle.amqp_json.specs.Views.{HasText, IsReadBack, WritesView};
+ghost use Rattle.amqp_json.specs.Written.{json_text, MeansIfShallow};
 
-use crate::conversion_error::DecodeError;
-use crate::in_place::text;
-use amqp_in_place::{Limits, read_in_place};
-use std::alloc::Global;
+use crate::error::{DecodeError, EncodeError, WriteError};
+use crate::printing::{Place, put_value};
+use amq_protocol_types::generation::{GenError, WriteContext, gen_value};
+use amqp_in_place::{Limits, ValueRef, read_in_place, read_in_place_unlimited};
+use amqp_value_core::value::AMQPValue;
+use std::alloc::{AllocError, Global};
 
-/// Converts the encoding at the start of the bytes to JSON text without spaces, and returns the
-/// remaining bytes too. The value is read as `read_in_place` does, and the text is written from it
-/// in place. Only the text is allocated, the digits of the bytes at hand that are written in
-/// hexadecimal, and, while a table whose keys don't ascend is written, 8 bytes for each of its
-/// pairs. By measurements it uses stack for at most `limits.depth` levels; docs/PROMISES.md has what
-/// one takes.
+/// Converts a value to its JSON text, without spaces. `from_json` reads the text as the value if it
+/// nests at most 127 deep.
+///
+/// It allocates the canonical encoding and the text. It uses stack for each level of nesting.
+pub fn to_json(alloc: Global, value: &AMQPValue) -> Result<String, EncodeError>
+    ensures text { IfOk result (λ s. string_bytes s ≡ json_text (view value.now)) }
+    ensures read_back { IfOk result (λ s. MeansIfShallow (string_bytes s) (view value.now)) }
+    ensures refused { IfErr result (HasNoText (view value.now)) }
+{
+    let bytes = canonical(alloc, value)?;
+    text_of_canonical(alloc, bytes.as_slice())
+}
+
+/// Converts the encoding at the start of the bytes to JSON text, and returns the remaining bytes
+/// too. The value is read as `read_in_place` does.
+///
+/// It allocates the text. If the keys of a table don't ascend, it also allocates the value and its
+/// canonical encoding. It uses stack for at most `limits.depth` levels.
 #[tactic(auto, using(amq_protocol_types::proofs::ParsingLaws::found_all))]
 pub fn json_of_encoding<'a>(
     alloc: Global,
@@ -27,10 +50,109 @@ pub fn json_of_encoding<'a>(
     ensures refused { IfErr result (IsNotRead limits bytes.entry.now) }
 {
     match read_in_place(bytes, limits) {
-        Ok((value, rest)) => {
-            let json = text(alloc, value, limits.depth as usize)?;
-            Ok((unsafe { String::from_utf8_unchecked(json) }, rest))
-        }
+        Ok((value, rest)) => match text_of(alloc, value) {
+            Ok(text) => Ok((text, rest)),
+            Err(_) => Err(DecodeError::OutOfMemory),
+        },
         Err(refusal) => Err(DecodeError::Refused(refusal)),
+    }
+}
+
+/// Writes the JSON text of the encoding at the start of the bytes to the start of the buffer, and
+/// returns how many bytes the text has, and the bytes after the encoding.
+///
+/// Nothing is allocated, and nothing is sorted: if the keys of a table don't ascend, it returns
+/// `KeysOutOfOrder`. After an error the buffer may hold some of the text. It uses stack for at most
+/// `limits.depth` levels.
+pub fn write_json<'a>(
+    bytes: &'a [u8],
+    limits: Limits,
+    buffer: &mut [u8],
+) -> Result<(usize, &'a [u8]), WriteError>
+    ensures written { MatchResult result
+        (λ x. IsJsonWritten limits bytes.entry.now buffer.old buffer.new x.0 x.1.now)
+        (IsNotWritten limits bytes.entry.now (length buffer.old)) }
+{
+    match read_in_place(bytes, limits) {
+        Ok((value, rest)) => Ok((write_value(buffer, value)?, rest)),
+        Err(refusal) => Err(WriteError::Refused(refusal)),
+    }
+}
+
+fn write_value(buffer: &mut [u8], value: ValueRef<'_>) -> Result<usize, WriteError>
+    ensures written { WritesView value.entry buffer.old buffer.new result }
+{
+    match put_value(buffer, Place::START, value) {
+        Some(end) => {
+            if end.count > buffer.len() {
+                return Err(WriteError::BufferTooSmall(end.count));
+            }
+            Ok(end.count)
+        }
+        None => Err(WriteError::KeysOutOfOrder),
+    }
+}
+
+// The text of a value that was read.
+fn text_of(alloc: Global, value: ValueRef<'_>) -> Result<String, EncodeError>
+    requires json { HasText value }
+    ensures text { IfOk result (λ s. (v : Tree) → Denotes value.entry v → string_bytes s ≡ json_text v) }
+{
+    if let Some(text) = ordered_text(alloc, value)? {
+        return Ok(text);
+    }
+    let owned = value.to_owned(alloc)?;
+    to_json(alloc, &owned)
+}
+
+// The text of a value in whose tables the keys ascend. It is measured first, and written to a string of
+// that length.
+fn ordered_text(alloc: Global, value: ValueRef<'_>) -> Result<Option<String>, AllocError>
+    requires json { HasText value }
+    ensures text { IfOk result (λ found. IfSome found (λ s. (v : Tree) → Denotes value.entry v
+        → string_bytes s ≡ json_text v)) }
+    ensures order { IfOk result (λ found. (s rest : List ℕ) (v : Tree) → IsViewIn s value.entry rest
+        → Denotes value.entry v → IfInOrder found s rest) }
+{
+    let Some(end) = put_value(&mut [], Place::START, value) else {
+        return Ok(None);
+    };
+    let mut text = vec![in alloc; 0u8; end.count]?;
+    match put_value(text.as_mut_slice(), Place::START, value) {
+        Some(_) => Ok(Some(unsafe { String::from_utf8_unchecked(text) })),
+        None => Ok(None),
+    }
+}
+
+// The text of a canonical encoding.
+fn text_of_canonical(alloc: Global, bytes: &[u8]) -> Result<String, EncodeError>
+    requires canonical { (v : Tree) × (bytes.now ≡ text v) × IsReadBack v }
+    ensures text { IfOk result (λ s. (v : Tree) → bytes.now ≡ text v → IsReadBack v
+        → string_bytes s ≡ json_text v) }
+    ensures read_back { IfOk result (λ s. (v : Tree) → bytes.now ≡ text v → IsReadBack v
+        → MeansIfShallow (string_bytes s) v) }
+    ensures refused { IfErr result (λ e. (v : Tree) → bytes.now ≡ text v → IsReadBack v
+        → HasNoText v e) }
+{
+    match read_in_place_unlimited(bytes) {
+        Ok((found, _)) => match ordered_text(alloc, found)? {
+            Some(text) => Ok(text),
+            None => unreachable!(),
+        },
+        Err(_refusal) => Err(EncodeError::NoTypeTag),
+    }
+}
+
+// The canonical encoding of a value.
+fn canonical(alloc: Global, value: &AMQPValue) -> Result<Vec<u8>, EncodeError>
+    ensures text { IfOk result (λ bytes. bytes.items ≡ text (view value.now)) }
+    ensures back { IfOk result (λ bytes. IsReadBack (view value.now)) }
+    ensures refused { IfErr result (HasNoText (view value.now)) }
+{
+    let mut context = WriteContext::from(Vec::new(alloc));
+    match gen_value(value, &mut context) {
+        Ok(()) => Ok(context.into_inner().0),
+        Err(GenError::LengthTooLong) => Err(EncodeError::TooLong),
+        Err(_) => Err(EncodeError::OutOfMemory),
     }
 }

@@ -1,22 +1,21 @@
-//! From a JSON text to the canonical encoding.
+//! From a JSON text to the canonical encoding, and to a value.
 
-// The tactic at the function names the lemma that the value is read, whatever follows its encoding.
-
-ghost use Rattle.std.specs.Prelude.{◌≡◌, IfOk, IfErr, IfSome, length};
-ghost use Rattle.amqp_value_core.specs.Values.{Tree};
+ghost use Rattle.std.specs.Prelude.{◌≡◌, Some, IfOk, IfErr, List, ℕ, length};
+ghost use Rattle.amqp_value_core.specs.Grammar.{Wire};
 ghost use Rattle.amqp_value_core.specs.Texts.{text};
+ghost use Rattle.amqp_value_core.specs.Values.{Tree};
 ghost use Rattle.amqp_value_core.specs.View.{view};
-ghost use Rattle.amqp_json.specs.InMemory.{IsStored};
-ghost use Rattle.amqp_json.specs.Converts.{JsonTextMeans, IsEncodingOf, IsReadAs, HasNoEncoding, IsRefused};
-ghost use Rattle.amqp_json.specs.Refusals.{IsErrorWithin};
+ghost use Rattle.amqp_json.specs.Conversions.{IsEncodingOf, IsRefused, IsWithin};
+ghost use Rattle.amqp_json.specs.Meaning.{meant};
+ghost use Rattle.amqp_json.specs.Puts.{IsEncodedAsItComes};
 
-use crate::canonical::canonical_of;
-use crate::conversion_error::EncodeError;
-use crate::encoding::{Stop, encoding_of_text};
-use crate::text::{check_syntax, from_json};
+use crate::error::JsonError;
+use crate::walk::put_document;
 use amq_protocol_types::generation::{GenError, WriteContext, gen_value};
-use amqp_in_place::{Limits, is_canonical, read_in_place_unlimited};
+use amq_protocol_types::parsing::{SliceInput, parse_value};
+use amqp_in_place::{Limits, is_canonical};
 use amqp_value_core::value::AMQPValue;
+use json::{Reader, Scratch};
 use std::alloc::Global;
 
 // No text nests deeper.
@@ -25,68 +24,83 @@ const UNLIMITED: Limits = Limits {
     depth: 128,
 };
 
-/// Converts a JSON text to the canonical encoding of its value, which it reads as `from_json` does.
-/// The value is allocated only if the text has 2^32 bytes or more, or an encoding of it would.
-pub fn encoding_of_json(alloc: Global, json: &str) -> Result<Vec<u8>, EncodeError>
-    ensures encoding { IfOk result (λ bytes. IsEncodingOf json.now bytes.items) }
-    ensures only { IfOk result (λ bytes. (v : Tree) → IsStored v → JsonTextMeans json.now v
-        → bytes.items ≡ text v) }
-    ensures read_back { IfOk result (λ bytes. (v : Tree) → IsStored v → JsonTextMeans json.now v
-        → IsReadAs bytes.items v) }
-    ensures refused { IfErr result (IsRefused json.now) }
-    ensures within { IfErr result (λ e. IsErrorWithin e (length json.now)) }
+/// Converts a JSON text to the canonical encoding of the value that it means.
+pub fn encoding_of_json(alloc: Global, json: &str) -> Result<Vec<u8>, JsonError>
+    ensures ok { IfOk result (λ bytes. IsEncodingOf json.now bytes.items) }
+    ensures encodes { IfOk result (λ bytes. (v : Tree) → meant json.now ≡ Some v
+        → Wire bytes.items v) }
+    ensures refused { IfErr result (λ e. IsRefused e json.now) }
+    ensures within { IfErr result (λ e. IsWithin e (length json.now)) }
 {
-    if let Some(bytes) = direct_encoding(alloc, json)? {
+    let bytes = encoding_of_text(alloc, json)?;
+    if is_canonical(bytes.as_slice(), UNLIMITED) {
         return Ok(bytes);
     }
-    // Most texts that aren't encoded so are no JSON: then no value is made.
-    check_syntax(alloc, json)?;
-    let value = from_json(alloc, json)?;
-    encoding_of(alloc, &value)
+    canonical_of(alloc, bytes)
 }
 
-// The canonical encoding without the value in memory, if the text is encoded so.
-#[inline(never)]
-fn direct_encoding(alloc: Global, json: &str) -> Result<Option<Vec<u8>>, EncodeError>
-    ensures encoding { IfOk result (λ found. IfSome found (λ bytes. IsEncodingOf json.now bytes.items)) }
-    ensures only { IfOk result (λ found. IfSome found (λ bytes. (v : Tree) → IsStored v
-        → JsonTextMeans json.now v → bytes.items ≡ text v)) }
-    ensures read_back { IfOk result (λ found. IfSome found (λ bytes. (v : Tree) → IsStored v
-        → JsonTextMeans json.now v → IsReadAs bytes.items v)) }
-    ensures refused { IfErr result (IsRefused json.now) }
-    ensures within { IfErr result (λ e. IsErrorWithin e (length json.now)) }
+/// Converts a JSON text to the value that it means.
+pub fn from_json(alloc: Global, json: &str) -> Result<AMQPValue, JsonError>
+    ensures ok { IfOk result (λ v. meant json.now ≡ Some (view v)) }
+    ensures refused { IfErr result (λ e. IsRefused e json.now) }
+    ensures within { IfErr result (λ e. IsWithin e (length json.now)) }
 {
-    let Some(bytes) = encoding_of_text(alloc, json)? else {
-        return Ok(None);
-    };
-    if is_canonical(bytes.as_slice(), UNLIMITED) {
-        return Ok(Some(bytes));
-    }
-    match canonical_of(alloc, bytes, json.len()) {
-        Ok(canonical) => Ok(Some(canonical)),
-        Err(Stop::OutOfMemory) => Err(EncodeError::OutOfMemory),
-        Err(Stop::NotHere | Stop::NotAValue | Stop::NoEncoding) => Ok(None),
-    }
+    let bytes = encoding_of_text(alloc, json)?;
+    value_of(alloc, bytes)
 }
 
-// The canonical encoding of a value, if it has one that is read as it.
-#[inline(never)]
-#[tactic(auto, using(crate::proofs::Encodings::again))]
-fn encoding_of(alloc: Global, value: &AMQPValue) -> Result<Vec<u8>, EncodeError>
-    requires stored { IsStored (view value.now) }
-    ensures text { IfOk result (λ bytes. bytes.items ≡ text (view value.now)) }
-    ensures read_back { IfOk result (λ bytes. IsReadAs bytes.items (view value.now)) }
-    ensures refused { IfErr result (HasNoEncoding (view value.now)) }
+// The canonical encoding of the value of an encoding.
+fn canonical_of(alloc: Global, bytes: Vec<u8>) -> Result<Vec<u8>, JsonError>
+    ensures ok { IfOk result (λ out. (v : Tree) → Wire bytes.items v → out.items ≡ text v) }
+    ensures encodes { IfOk result (λ out. (v : Tree) → Wire bytes.items v → Wire out.items v) }
+    ensures refused { IfErr result (λ e. (t : List ℕ) → IsRefused e t) }
+    ensures within { IfErr result (λ e. (len : ℕ) → IsWithin e len) }
 {
+    let value = value_of(alloc, bytes)?;
     let mut context = WriteContext::from(Vec::new(alloc));
-    match gen_value(value, &mut context) {
-        Ok(()) => {}
-        Err(GenError::OutOfMemory) => return Err(EncodeError::OutOfMemory),
-        Err(_) => return Err(EncodeError::TooLong),
+    match gen_value(&value, &mut context) {
+        Ok(()) => Ok(context.into_inner().0),
+        Err(GenError::OutOfMemory) => Err(JsonError::OutOfMemory),
+        Err(_) => Err(JsonError::TooLarge),
     }
-    let (bytes, _) = context.into_inner();
-    if let Err(_refusal) = read_in_place_unlimited(bytes.as_slice()) {
-        return Err(EncodeError::NoTypeTag);
+}
+
+// The value of an encoding.
+fn value_of(alloc: Global, bytes: Vec<u8>) -> Result<AMQPValue, JsonError>
+    ensures ok { IfOk result (λ u. (v : Tree) → Wire bytes.items v → v ≡ view u) }
+    ensures refused { IfErr result (λ e. (t : List ℕ) → IsRefused e t) }
+    ensures within { IfErr result (λ e. (len : ℕ) → IsWithin e len) }
+{
+    match parse_value(alloc, SliceInput::new(bytes.as_slice())) {
+        Ok((_, value)) => Ok(value),
+        Err(_) => Err(JsonError::OutOfMemory),
     }
-    Ok(bytes)
+}
+
+// An encoding, with pairs in the order of the text.
+fn encoding_of_text(alloc: Global, text: &str) -> Result<Vec<u8>, JsonError>
+    ensures ok { IfOk result (λ bytes. IsEncodedAsItComes text.now bytes.items) }
+    ensures refused { IfErr result (λ e. IsRefused e text.now) }
+    ensures within { IfErr result (λ e. IsWithin e (length text.now)) }
+{
+    let mut scratch = Scratch::new(alloc);
+    let mut reader = Reader::new(text, &mut scratch)?;
+    let mut out = Vec::with_capacity(alloc, text.len())?;
+    match put_document(alloc, &mut reader, &mut out) {
+        Ok(()) => Ok(out),
+        Err(error) => Err(within(error, text.len())),
+    }
+}
+
+// The error, with a byte within the text.
+fn within(error: JsonError, len: usize) -> JsonError
+    ensures refused { (t : List ℕ) → IsRefused error t → IsRefused result t }
+    ensures within { IsWithin result len }
+{
+    match error {
+        JsonError::OutOfMemory => JsonError::OutOfMemory,
+        JsonError::TooLarge => JsonError::TooLarge,
+        JsonError::Syntax(at) => JsonError::Syntax(at.min(len)),
+        JsonError::NotAValue(at, mismatch) => JsonError::NotAValue(at.min(len), mismatch),
+    }
 }

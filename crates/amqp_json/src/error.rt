@@ -1,27 +1,6 @@
+use amq_protocol_types::parsing::ParserError;
 use std::alloc::AllocError;
 use thiserror::Error;
-
-/// Why a JSON value isn't the JSON of a value.
-#[derive(Clone, Copy, Debug, PartialEq, Eq, Error)]
-pub enum ValueError {
-    /// An allocation failed.
-    #[error("out of memory")]
-    OutOfMemory,
-    /// It isn't the JSON of any value.
-    #[error("the JSON of no AMQP value")]
-    NotAValue,
-}
-
-impl From<AllocError> for ValueError {
-    ghost use Rattle.std.specs.Prelude.{◌≡◌};
-    ghost use Rattle.amqp_json.specs.declared.error.ValueError.TheVariants.{OutOfMemory};
-
-    ghost from_gives = { λ _ e. e ≡ OutOfMemory };
-
-    fn from(_refused: AllocError) -> ValueError {
-        ValueError::OutOfMemory
-    }
-}
 
 /// Why no value was read from a JSON text.
 #[derive(Clone, Copy, Debug, Drop, PartialEq, Eq, Error)]
@@ -29,13 +8,87 @@ pub enum JsonError {
     /// An allocation failed.
     #[error("out of memory")]
     OutOfMemory,
-    /// The text isn't JSON from this byte on; or an array or an object begins there that nests
-    /// deeper than 127, or a number that is too large for a float.
-    #[error("no JSON at byte {0}")]
+    /// The encoding would have 2^32 bytes or more in a string or a container.
+    #[error("too large")]
+    TooLarge,
+    /// The text isn't JSON from this byte on.
+    #[error("not JSON at byte {0}")]
     Syntax(usize),
-    /// The text is JSON, but not that of any value: the part that begins at this byte is that of none.
-    #[error("the JSON of no AMQP value at byte {0}")]
-    NotAValue(usize),
+    /// The text is JSON up to this byte, where something begins that no AMQP value has.
+    #[error("{1} at byte {0}")]
+    NotAValue(usize, Mismatch),
+}
+
+/// What no AMQP value has.
+#[derive(Clone, Copy, Debug, Drop, PartialEq, Eq, Error)]
+pub enum Mismatch {
+    /// An array or an object inside 127 others.
+    #[error("more than 127 levels")]
+    TooDeep,
+    /// A key with one `$` and no name of a type that is written by its name.
+    #[error("expected the name of a type after `$`")]
+    UnknownType,
+    /// A key with one `$` beside another key, or another key beside it.
+    #[error("expected no other key beside a type name")]
+    NotAlone,
+    /// A table's key of more than 255 bytes.
+    #[error("a key of more than 255 bytes")]
+    KeyTooLong,
+    /// Anything but a number for a type that is written as a number.
+    #[error("expected a number")]
+    NotANumber,
+    /// Anything but a string for a type that is written as a string.
+    #[error("expected a string")]
+    NotAString,
+    /// A number that isn't an integer, or that the type doesn't hold.
+    #[error("expected an integer that the type holds")]
+    OutOfRange,
+    /// An odd number of hexadecimal digits.
+    #[error("expected an even number of hexadecimal digits")]
+    OddDigits,
+    /// A character that isn't a hexadecimal digit.
+    #[error("expected only hexadecimal digits")]
+    NotHexadecimal,
+    /// A `Float` without 8 digits, or a `Double` without 16.
+    #[error("expected 8 hexadecimal digits of a Float, or 16 of a Double")]
+    DigitCount,
+    /// A decimal that isn't a number, `e-` and a scale, as `314e-2`.
+    #[error("expected a number and a scale, as in 314e-2")]
+    NotADecimal,
+}
+
+/// Why a value has no JSON text.
+#[derive(Clone, Copy, Debug, Drop, PartialEq, Eq, Error)]
+pub enum EncodeError {
+    /// An allocation failed.
+    #[error("out of memory")]
+    OutOfMemory,
+    /// The value is or holds a `ShortString`, which has no type tag.
+    #[error("a ShortString has no type tag")]
+    NoTypeTag,
+    /// A string, a byte array or a container is longer than its length field can hold.
+    #[error("length too long")]
+    TooLong,
+}
+
+/// Why some bytes have no JSON text.
+#[derive(Debug, Drop)]
+pub enum DecodeError {
+    /// The bytes don't begin with a value within the limits: the error of `parse_value_within`.
+    Refused(ParserError),
+    /// An allocation failed.
+    OutOfMemory,
+}
+
+/// Why no JSON text was written to a buffer.
+#[derive(Debug, Drop)]
+pub enum WriteError {
+    /// The bytes don't begin with a value within the limits: the error of `parse_value_within`.
+    Refused(ParserError),
+    /// The text has that many bytes, more than the buffer. `usize::MAX` stands for any larger number too.
+    BufferTooSmall(usize),
+    /// The keys of a table don't ascend, or one is there twice.
+    KeysOutOfOrder,
 }
 
 impl From<AllocError> for JsonError {
@@ -46,5 +99,27 @@ impl From<AllocError> for JsonError {
 
     fn from(_refused: AllocError) -> JsonError {
         JsonError::OutOfMemory
+    }
+}
+
+impl From<AllocError> for EncodeError {
+    ghost use Rattle.std.specs.Prelude.{◌≡◌};
+    ghost use Rattle.amqp_json.specs.declared.error.EncodeError.TheVariants.{OutOfMemory};
+
+    ghost from_gives = { λ _ e. e ≡ OutOfMemory };
+
+    fn from(_refused: AllocError) -> EncodeError {
+        EncodeError::OutOfMemory
+    }
+}
+
+impl From<AllocError> for DecodeError {
+    ghost use Rattle.std.specs.Prelude.{◌≡◌};
+    ghost use Rattle.amqp_json.specs.declared.error.DecodeError.TheVariants.{OutOfMemory};
+
+    ghost from_gives = { λ _ e. e ≡ OutOfMemory };
+
+    fn from(_refused: AllocError) -> DecodeError {
+        DecodeError::OutOfMemory
     }
 }

@@ -1,16 +1,30 @@
-//! The law of the JSON of values: what its definition implies, for every value.
+//! The laws of the JSON of values: what its definitions imply, for every value.
 //!
-//! The function is a law. It does nothing, and its contract states what holds.
+//! The functions are laws. They do nothing, and their contracts state what holds.
 
-// The tactic at the function names the lemma that is the law.
+// The tactic at a function names the lemma that is the law.
 
-ghost use Rattle.std.specs.Prelude.{◌≡◌};
+ghost use Rattle.std.specs.Prelude.{◌≡◌, Some, List, ℕ};
+ghost use Rattle.amqp_value_core.specs.Grammar.{Wire};
+ghost use Rattle.amqp_value_core.specs.Inputs.{IsBytes};
 ghost use Rattle.amqp_value_core.specs.Values.{Tree};
-ghost use Rattle.amqp_json.specs.Json.{json};
-ghost use Rattle.amqp_json.specs.InMemory.{IsStored};
+ghost use Rattle.amqp_json.specs.Meaning.{meaning, meant};
+ghost use Rattle.amqp_json.specs.Written.{written, HasJson, json_text, MeansIfShallow};
 
-/// No two values have the same JSON.
-#[tactic(auto, using(crate::proofs::Back::one_value))]
-pub fn one_value()
-    ensures { (v u : Tree) → IsStored v → IsStored u → json v ≡ json u → v ≡ u }
+/// What is written for a value means the value.
+#[tactic(auto, using(crate::proofs::Back::read_back))]
+pub fn read_back()
+    ensures { (v : Tree) → HasJson v → meaning (written v) ≡ Some v }
+{}
+
+/// The text of a value is read as the value, if it nests at most 127 deep.
+#[tactic(auto, using(crate::proofs::ReadBack::text_is_read))]
+pub fn text_read_back()
+    ensures { (v : Tree) → HasJson v → MeansIfShallow (json_text v) v }
+{}
+
+/// Each value that is encoded has a text.
+#[tactic(auto, using(crate::proofs::Encoded::has_json))]
+pub fn encoded_has_json()
+    ensures { (w : List ℕ) (v : Tree) → IsBytes w → Wire w v → HasJson v }
 {}

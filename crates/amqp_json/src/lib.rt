@@ -1,38 +1,19 @@
-//! The JSON of a value, as text and as a `serde_json::Value`: plain if that determines the type,
-//! and otherwise under the type's name. No two values have the same JSON. Encodings are converted
-//! to JSON text, and back.
+//! The JSON of AMQP values: to text and back, from values and from encodings. docs/JSON.md has the
+//! format.
 #![tactic(auto)]
 
-mod buffer;
-mod canonical;
-mod conversion_error;
 mod decode;
-mod direct;
 mod encode;
-mod encoding;
 mod error;
-mod faults;
-mod few_places;
-mod in_place;
-mod integers;
-mod key_order;
-mod keys;
+mod key;
 pub mod laws;
+mod named;
 mod names;
 mod numerals;
-mod owned;
-mod pass;
-mod reading;
-mod sorted;
-mod text;
-mod tokens;
-mod writing;
+mod printing;
+mod put;
+mod walk;
 
-pub use buffer::{write_json, write_sorted_json, write_whole_json};
-pub use conversion_error::{DecodeError, EncodeError, WriteError};
-pub use decode::json_of_encoding;
-pub use encode::encoding_of_json;
-pub use error::{JsonError, ValueError};
-pub use reading::from_value;
-pub use text::{from_json, to_json};
-pub use writing::to_value;
+pub use decode::{json_of_encoding, to_json, write_json};
+pub use encode::{encoding_of_json, from_json};
+pub use error::{DecodeError, EncodeError, JsonError, Mismatch, WriteError};

@@ -1,7 +1,7 @@
 -- What is printed with `--json`.
 use Rattle.std.specs.Prelude.{ℕ, ◌≡◌, ◌≤◌, List}
 use Rattle.amq_protocol_types.specs.declared.parsing.limits.Limits.{Limits}
-use Rattle.amqp_json.specs.Converts.{IsJsonOf}
+use Rattle.amqp_json.specs.Conversions.{IsJsonOf}
 use Rattle.amqp_screen.specs.Escapes.{in_json}
 use Rattle.amqp_screen.specs.Pushes.{shown}
 use Rattle.amqp_show.specs.Text.{line}

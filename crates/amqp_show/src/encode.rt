@@ -9,15 +9,17 @@ ghost use Rattle.amqp_show.specs.Outcomes.{left_out_count};
 ghost use Rattle.amqp_show.specs.Text.{line};
 
 use crate::arguments::Subject;
-use crate::fault::Result;
+use crate::fault::{Fault, Result};
 use crate::input::read_file;
 use crate::messages::{complain, unreadable};
-use crate::reasons::reason;
 use amq_protocol_types::AMQPType;
-use amqp_json::encoding_of_json;
+use amqp_json::{JsonError, Mismatch, encoding_of_json};
 use amqp_screen::{Screen, Status, print_raw};
 use std::alloc::{AllocError, Global};
 use std::str;
+
+const DOUBLE_ADVICE: &str =
+    "a Double is written by its bits, as {\"$Double\":\"3ff0000000000000\"}";
 
 /// Writes the encoding of the value that a file's JSON denotes, or of the table without its type
 /// tag, raw or in hexadecimal.
@@ -34,18 +36,39 @@ pub fn encode_file(rt: &HostRuntime, file: &str, raw: bool, subject: Subject) ->
     match encoding_of_json(alloc, json) {
         Ok(bytes) => match other_type(bytes.as_slice(), subject) {
             Some(amqp_type) => {
-                let why = format!(in alloc; "$: --table encodes a FieldTable, not a {amqp_type}")?;
+                let why = format!(in alloc; "--table encodes a FieldTable, not a {amqp_type}")?;
                 complain(rt, file, why.as_str())?;
                 Ok(Status::Refused)
             }
             None => { print_encoding(rt, wanted_of(bytes.as_slice(), subject), raw) }
         },
         Err(error) => {
-            let why = reason(alloc, json, &error)?;
+            let why = reason(alloc, json, error)?;
             complain(rt, file, why.as_str())?;
             Ok(Status::Refused)
         }
     }
+}
+
+// Why a text has no encoding.
+fn reason(alloc: Global, json: &str, error: JsonError) -> Result<String> {
+    match error {
+        JsonError::OutOfMemory => Err(Fault::OutOfMemory),
+        JsonError::Syntax(_) => Ok(format!(in alloc; "{error} of {}", json.len())?),
+        JsonError::NotAValue(at, Mismatch::OutOfRange) if has_fraction(json, at) => Ok(
+            format!(in alloc; "{error}; {DOUBLE_ADVICE}")?,
+        ),
+        JsonError::NotAValue(..) | JsonError::TooLarge => Ok(format!(in alloc; "{error}")?),
+    }
+}
+
+// Whether the number at this byte has a point or an exponent.
+fn has_fraction(json: &str, at: usize) -> bool {
+    let after_digits = json
+        .bytes()
+        .skip(at)
+        .find(|byte| !byte.is_ascii_digit() && *byte != b'-');
+    matches!(after_digits, Some(b'.' | b'e' | b'E'))
 }
 
 // The type of an encoded value, if it isn't the one that is wanted.

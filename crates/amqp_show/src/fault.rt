@@ -18,9 +18,6 @@ pub enum Fault {
     /// Input that is no file failed.
     #[error(transparent)]
     Input(io::Error),
-    /// JSON isn't read.
-    #[error(transparent)]
-    Json(serde_json::Error),
     /// The limits allow no value.
     #[error("--stream with --max-bytes 0 reads no value")]
     NoValue,
@@ -47,11 +44,5 @@ impl From<io::Error> for Fault {
             ErrorKind::OutOfMemory => Fault::OutOfMemory,
             _ => Fault::Input(error),
         }
-    }
-}
-
-impl From<serde_json::Error> for Fault {
-    fn from(error: serde_json::Error) -> Fault {
-        Fault::Json(error)
     }
 }

@@ -110,8 +110,8 @@ pub fn push_json_line(screen: &mut Screen, json: &str) -> Result<(), AllocError>
     screen.end_line()
 }
 
-/// Reports how deep a JSON text nests, if that is deeper than its readers take.
-pub fn too_deep(alloc: Global, json: &str) -> Result<Option<String>, AllocError> {
+// Reports how deep a JSON text nests, if that is deeper than its readers take.
+fn too_deep(alloc: Global, json: &str) -> Result<Option<String>, AllocError> {
     // (each level begins and ends)
     if json.len() / 2 <= DEEPEST as usize {
         return Ok(None);

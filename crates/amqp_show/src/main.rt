@@ -23,7 +23,6 @@ mod messages;
 mod notes;
 mod payload;
 mod progress;
-mod reasons;
 mod recorder;
 mod repeats;
 mod show;

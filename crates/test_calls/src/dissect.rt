@@ -1,7 +1,7 @@
 //! The parts of an encoding: `dissect BYTES` and `dissect_partial BYTES`; and `escape BYTES`.
 //!
-//! Each part is its name and its bytes. Then comes where it ends, and why: of `dissect_partial` first how many bytes the
-//! parts have, and what isn't an entry after them.
+//! Each part is its name and its bytes. Then comes where it ends, and why: of `dissect_partial` first
+//! how many bytes the parts have, and what isn't an entry after them.
 
 use super::words::{bytes_of, digits};
 use super::{Answer, Trouble};

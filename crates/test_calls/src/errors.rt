@@ -1,4 +1,5 @@
-//! Texts of errors: `message BYTES` of the error that `parse_value` returns, `message_of ERROR` of an error by its name.
+//! Texts of errors: `message BYTES` of the error that `parse_value` returns, `message_of ERROR` of an
+//! error by its name.
 
 use super::words::{bytes_of, kind_of, number};
 use super::{Answer, Trouble};

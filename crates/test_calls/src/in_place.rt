@@ -17,7 +17,7 @@ use amqp_in_place::{
 use std::alloc::{AllocError, Global};
 
 /// Limits that only a value of 4 GiB exceeds.
-const WIDE: Limits = Limits {
+pub const WIDE: Limits = Limits {
     frame: u32::MAX,
     depth: u32::MAX,
 };

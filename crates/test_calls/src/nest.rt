@@ -41,8 +41,8 @@ pub fn answer<R: Eprint>(rt: &R, alloc: Global, words: &[&str]) -> Answer {
         }
         "ValueReader::next" => done(alloc, ValueReader::new(alloc, bytes, limits).next()),
         "gen_value" | "clone" | "==" | "to_json" => of_value(rt, alloc, *call, bytes),
-        "encoding_of_json" => done(alloc, encoding_of_json(alloc, text_of(bytes)?)),
-        "from_json" => done(alloc, from_json(alloc, text_of(bytes)?)),
+        "encoding_of_json" => done(alloc, call!(rt; encoding_of_json(alloc, text_of(bytes)?))),
+        "from_json" => done(alloc, call!(rt; from_json(alloc, text_of(bytes)?))),
         _ => in_place(rt, alloc, *call, bytes, limits),
     }
 }

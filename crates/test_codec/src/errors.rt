@@ -1,9 +1,10 @@
-//! The one error that every error of the crate becomes by `?`.
+//! The one error that every error of the crate becomes by `?`, and the texts of errors of JSON.
 
 use amq_protocol_types::generation::{SliceOutput, WriteContext, gen_value};
 use amq_protocol_types::parsing::{SliceInput, parse_value};
 use amq_protocol_types::stream::{Limits, ValueReader};
 use amq_protocol_types::{AMQPValue, Error, FieldTable, ShortString};
+use amqp_json::{EncodeError, JsonError};
 use std::alloc::{AllocError, Global};
 use std::test::Fail;
 
@@ -49,5 +50,21 @@ fn each_error_is_passed_on_with_its_text(rt: HostRuntime) -> Result<(), Fail> {
         let passed = pass_on(alloc, key.as_str(), buffer.as_mut_slice(), bytes);
         assert_eq!(rt; text_of(alloc, passed)?.as_str(), text);
     }
+    Ok(())
+}
+
+#[test]
+fn errors_of_json_without_a_byte(rt: HostRuntime) -> Result<(), Fail> {
+    let alloc = rt.alloc();
+    let memory = format!(in alloc; "{}", JsonError::OutOfMemory)?;
+    assert_eq!(rt; memory.as_str(), "out of memory");
+    let large = format!(in alloc; "{}", JsonError::TooLarge)?;
+    assert_eq!(rt; large.as_str(), "too large");
+    let memory = format!(in alloc; "{}", EncodeError::OutOfMemory)?;
+    assert_eq!(rt; memory.as_str(), "out of memory");
+    let short = format!(in alloc; "{}", EncodeError::NoTypeTag)?;
+    assert_eq!(rt; short.as_str(), "a ShortString has no type tag");
+    let long = format!(in alloc; "{}", EncodeError::TooLong)?;
+    assert_eq!(rt; long.as_str(), "length too long");
     Ok(())
 }

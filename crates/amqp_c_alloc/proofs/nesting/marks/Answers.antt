@@ -1,7 +1,7 @@
 use Rattle.std.proofs.Common.{◌≤◌, length, refl, arith}
 use Rattle.std.proofs.lemmas.Simd.{zip2_splat, zip2_of_maps, splat_is_map}
 use Rattle.amqp_c_alloc.specs.Nesting.{is_mark}
-use Rattle.amqp_json.proofs.Lanes.{masked}
+use Rattle.amqp_c_alloc.proofs.Marked.{masked}
 use Rattle.amqp_c_alloc.proofs.nesting.marks.Goals as goal
 
 pub returns : goal.returns

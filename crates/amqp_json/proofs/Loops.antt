@@ -1,0 +1,180 @@
+-- Values and pairs, one after another, of encodings whose pairs are in the order of a text.
+use Rattle.std.proofs.Common.{◌≡◌, ℕ, ◌-◌, ◌+◌, ◌<◌, ◌≤◌, ◌^◌, List, [], ◌∷◌, ◌++◌, length, take, drop, Option, Some, None, option_map, refl, sym, ap, ◌∙◌, subst, arith, append_assoc, append-nil, length-append}
+use Rattle.std.specs.Int.{w32, to_be_bytes}
+use Rattle.std.proofs.Math.Seq.{take-append_seam, drop-append-add}
+use Rattle.json.specs.Token.{Token}
+use Rattle.json.specs.Json as json
+use Rattle.json.specs.Json.{Parse, parse_map, after_end_array, read_key, items, members}
+use Rattle.json.proofs.Grammar.{read_key-shorter}
+use Rattle.serde_json.specs.Read.{converted}
+use Rattle.amqp_value_core.specs.Values.{Tree, scalar, long, octets, array, Trees, no_trees, tree, Entries, no_entries, entry}
+use Rattle.amqp_value_core.specs.Grammar.{Wire, wire, raw_array, raw_table, raw_long, raw_octets, ArrayBody, no_values, value, TableBody, no_pairs, pair, short_field, long_field}
+use Rattle.amqp_value_core.specs.Strings.{IsShort}
+use Rattle.amqp_value_core.specs.Texts.{text}
+use Rattle.amqp_value_core.proofs.GrammarLaws.{text_is_wire}
+use Rattle.amqp_json.specs.Meaning.{entry_key, with_entry, meaning, meanings, pairs_in, table_of}
+use Rattle.amqp_json.specs.Puts.{PutsEncodingOf, PutsValues, PutsPairs, PutsScalar, next_token, pairs_read}
+use Rattle.amqp_json.proofs.Turns.{map_twice, map_same, item_read, item_refused, items_over, member_read, member_refused, members_over, key_refused, next_is}
+
+-- ---- an array
+
+-- the values of the tokens before `now` are put, and with those that are left they are the array's
+pub record ItemsLeft (p : Parse json.Json) (first now : List Token) (old new : List ℕ) : Type 0 where
+  pub count : ℕ
+  pub enough : length now ≤ count
+  pub body : List ℕ
+  pub put : new ≡ old ++ body
+  pub ahead : Trees → Trees
+  pub rest : (tail : List ℕ) (vs : Trees) → ArrayBody tail vs → ArrayBody (body ++ tail) (ahead vs)
+  pub read : converted meanings (items p (length first) first) ≡ parse_map ahead (converted meanings (items p count now))
+
+module _ (p : Parse json.Json) (first : List Token) (old : List ℕ) where
+  pub items_first : ItemsLeft p first first old old
+  items_first = record {
+    count = length first;
+    enough = omega arith;
+    body = [];
+    put = sym (append-nil old);
+    ahead = λ vs. vs;
+    rest = λ tail vs all. all;
+    read = map_same _;
+  }
+
+  pub items_next : (now r : List Token) (mid new : List ℕ) → ItemsLeft p first now old mid → after_end_array now ≡ None → length r < length now
+      → PutsEncodingOf (λ v. converted meaning (p now) ≡ Some (v, r)) mid new → ItemsLeft p first r old new
+  items_next now r mid new l going less (w, v, same, is, read) =
+      let some : 0 < l.count = omega (arith, less, l.enough) in
+      record {
+        count = l.count - 1;
+        enough = omega (arith, less, l.enough);
+        body = l.body ++ w;
+        put = same ∙ ap (λ b. b ++ w) l.put ∙ append_assoc old l.body w;
+        ahead = λ vs. l.ahead (tree v vs);
+        rest = λ tail vs all. subst (λ (b : List ℕ). ArrayBody b (l.ahead (tree v vs))) (sym (append_assoc l.body w tail)) (l.rest (w ++ tail) (tree v vs) (value w tail v vs is all));
+        read = l.read ∙ ap (parse_map l.ahead) (item_read p l.count now r v some going read) ∙ map_twice l.ahead (tree v) _;
+      }
+
+  pub items_done : (now r : List Token) (new : List ℕ) → ItemsLeft p first now old new → after_end_array now ≡ Some r
+      → PutsValues (λ vs. converted meanings (items p (length first) first) ≡ Some (vs, r)) old new
+  items_done now r new l end = (
+    l.body,
+    l.ahead no_trees,
+    l.put,
+    subst (λ (b : List ℕ). ArrayBody b (l.ahead no_trees)) (append-nil l.body) (l.rest [] no_trees no_values),
+    l.read ∙ ap (parse_map l.ahead) (items_over p l.count now r l.enough end),
+  )
+
+  pub items_none : (now : List Token) (new : List ℕ) → ItemsLeft p first now old new → after_end_array now ≡ None → converted meaning (p now) ≡ None → converted meanings (items p (length first) first) ≡ None
+  items_none now new l going none = l.read ∙ ap (parse_map l.ahead) (item_refused p l.count now going none)
+
+-- ---- a table
+
+-- the pairs of the tokens before `now` are put, and `next` is the key that was read after them
+pub record PairsLeft (p : Parse json.Json) (start : List Token) (next : Option (List ℕ)) (now : List Token) (old new : List ℕ) : Type 0 where
+  pub count : ℕ
+  pub enough : length now < count
+  pub body : List ℕ
+  pub put : new ≡ old ++ body
+  pub ahead : Entries → Entries
+  pub rest : (tail : List ℕ) (ps : Entries) → TableBody tail ps → TableBody (body ++ tail) (ahead ps)
+  pub read : pairs_read p start ≡ parse_map ahead (converted pairs_in (members p count (next_token next ∷ now)))
+
+module _ (p : Parse json.Json) (start : List Token) (old : List ℕ) where
+  pub pairs_first : (next : Option (List ℕ)) (now : List Token) → start ≡ next_token next ∷ now → PairsLeft p start next now old old
+  pairs_first next now is = record {
+    count = length start;
+    enough = let size = ap length is in omega (arith, size);
+    body = [];
+    put = sym (append-nil old);
+    ahead = λ ps. ps;
+    rest = λ tail ps all. all;
+    read = map_same _ ∙ ap (λ ts. parse_map (λ ps. ps) (converted pairs_in (members p (length start) ts))) is;
+  }
+
+  pub pairs_next : (k : List ℕ) (next : Option (List ℕ)) (now r s : List Token) (mid keyed new : List ℕ) → PairsLeft p start (Some k) now old mid → IsShort (entry_key k)
+      → ((v : Tree) (ps : Option Entries) → with_entry k (Some v) ps ≡ option_map (entry (entry_key k) v) ps) → keyed ≡ mid ++ short_field (entry_key k)
+      → PutsEncodingOf (λ v. converted meaning (p now) ≡ Some (v, r)) keyed new → length r < length now → read_key r ≡ Some (next, s) → PairsLeft p start next s old new
+  pairs_next k next now r s mid keyed new l is_key fits key_put (w, v, same, is, found) less after =
+      let more = short_field (entry_key k) ++ w in
+      let some : 0 < l.count = omega (arith, less, l.enough) in
+      let shorter = read_key-shorter r next s after in
+      record {
+        count = l.count - 1;
+        enough = omega (arith, less, shorter, l.enough);
+        body = l.body ++ more;
+        put = same ∙ ap (λ b. b ++ w) key_put ∙ append_assoc mid (short_field (entry_key k)) w ∙ ap (λ b. b ++ more) l.put ∙ append_assoc old l.body more;
+        ahead = λ ps. l.ahead (entry (entry_key k) v ps);
+        rest = λ tail ps all.
+            let joined : (l.body ++ more) ++ tail ≡ l.body ++ (short_field (entry_key k) ++ (w ++ tail)) = append_assoc l.body more tail ∙ ap (λ b. l.body ++ b) (append_assoc (short_field (entry_key k)) w tail) in
+            subst (λ (b : List ℕ). TableBody b (l.ahead (entry (entry_key k) v ps))) (sym joined) (l.rest (short_field (entry_key k) ++ (w ++ tail)) (entry (entry_key k) v ps) (pair (entry_key k) w tail v ps is_key is all));
+        read = l.read ∙ ap (parse_map l.ahead) (member_read p l.count k now r v some (fits v) found) ∙ map_twice l.ahead (entry (entry_key k) v) _
+            ∙ ap (λ ts. parse_map (λ ps. l.ahead (entry (entry_key k) v ps)) (converted pairs_in (members p (l.count - 1) ts))) (next_is r next s after);
+      }
+
+  pub pairs_done : (now : List Token) (new : List ℕ) → PairsLeft p start None now old new → PutsPairs (λ ps. pairs_read p start ≡ Some (ps, now)) old new
+  pairs_done now new l = (
+    l.body,
+    l.ahead no_entries,
+    l.put,
+    subst (λ (b : List ℕ). TableBody b (l.ahead no_entries)) (append-nil l.body) (l.rest [] no_entries no_pairs),
+    l.read ∙ ap (parse_map l.ahead) (members_over p l.count now (omega (arith, l.enough))),
+  )
+
+  pub pair_none : (k : List ℕ) (now : List Token) (new : List ℕ) → PairsLeft p start (Some k) now old new → ((j : json.Json) (r : List Token) → p now ≡ Some (j, r) → (ps : Option Entries) → with_entry k (meaning j) ps ≡ None)
+      → pairs_read p start ≡ None
+  pair_none k now new l none = l.read ∙ ap (parse_map l.ahead) (member_refused p l.count k now none)
+
+  -- no key follows, nor the end
+  pub key_none : (k : List ℕ) (now r : List Token) (mid keyed new : List ℕ) → PairsLeft p start (Some k) now old mid
+      → ((v : Tree) (ps : Option Entries) → with_entry k (Some v) ps ≡ option_map (entry (entry_key k) v) ps) → PutsEncodingOf (λ v. converted meaning (p now) ≡ Some (v, r)) keyed new → read_key r ≡ None → pairs_read p start ≡ None
+  key_none k now r mid keyed new l fits (w, v, same, is, found) none =
+      l.read ∙ ap (parse_map l.ahead) (member_read p l.count k now r v (omega (arith, l.enough)) (fits v) found)
+      ∙ ap (λ o. parse_map l.ahead (parse_map (entry (entry_key k) v) o)) (key_refused p (l.count - 1) r none)
+
+-- ---- a container's head
+
+abbrev pub zeros : List ℕ
+zeros = 0 ∷ 0 ∷ 0 ∷ 0 ∷ []
+
+-- the length of w is filled in before it
+length_filled : (c at : ℕ) (old mid end new w : List ℕ) → at ≡ length old + 1 → mid ≡ old ++ c ∷ zeros → end ≡ mid ++ w
+    → new ≡ take at end ++ (to_be_bytes w32 (length end - at - 4) ++ drop (at + 4) end) → (length end - at - 4 ≡ length w) × (new ≡ old ++ c ∷ long_field w)
+length_filled c at old mid end new w place headed more filled =
+    let start = old ++ c ∷ [] in
+    let whole : end ≡ start ++ (zeros ++ w) = more ∙ ap (λ b. b ++ w) (headed ∙ sym (append_assoc old (c ∷ []) zeros)) ∙ append_assoc start zeros w in
+    let here : at ≡ length start = place ∙ sym (length-append old (c ∷ [])) in
+    let count = ap length whole ∙ length-append start (zeros ++ w) in
+    let size : length end - at - 4 ≡ length w = omega (arith, count, here) in
+    let before : take at end ≡ start = ap (λ n. take n end) here ∙ ap (take (length start)) whole ∙ take-append_seam start (zeros ++ w) in
+    let after : drop (at + 4) end ≡ w = ap (λ n. drop (n + 4) end) here ∙ ap (drop (length start + 4)) whole ∙ drop-append-add start (zeros ++ w) 4 in (
+      size,
+      filled ∙ ap (λ b. b ++ (to_be_bytes w32 (length end - at - 4) ++ drop (at + 4) end)) before
+          ∙ ap (λ n. start ++ (to_be_bytes w32 n ++ drop (at + 4) end)) size
+          ∙ ap (λ b. start ++ (to_be_bytes w32 (length w) ++ b)) after
+          ∙ append_assoc old (c ∷ []) (long_field w),
+    )
+
+module _ (at : ℕ) (old mid end new : List ℕ) (place : at ≡ length old + 1) (filled : new ≡ take at end ++ (to_be_bytes w32 (length end - at - 4) ++ drop (at + 4) end)) (fits : length end - at - 4 < 2 ^ 32) where
+  pub array_put : (P : Trees → Type 0) (Q : Tree → Type 0) → ((vs : Trees) → P vs → Q (array vs)) → mid ≡ old ++ 65 ∷ zeros → PutsValues P mid end → PutsEncodingOf Q old new
+  array_put P Q f headed (w, vs, more, all, is) =
+      let done = length_filled 65 at old mid end new w place headed more filled in
+      (65 ∷ long_field w, array vs, done.1, wire 65 _ (long_field w) (array vs) refl (raw_array w vs (subst (λ n. n < 2 ^ 32) done.0 fits) all), f vs is)
+
+  pub table_put : (P : Entries → Type 0) (Q : Tree → Type 0) → ((ps : Entries) → P ps → Q (table_of ps)) → mid ≡ old ++ 70 ∷ zeros → PutsPairs P mid end → PutsEncodingOf Q old new
+  table_put P Q f headed (w, ps, more, all, is) =
+      let done = length_filled 70 at old mid end new w place headed more filled in
+      (70 ∷ long_field w, table_of ps, done.1, wire 70 _ (long_field w) (table_of ps) refl (raw_table w ps (subst (λ n. n < 2 ^ 32) done.0 fits) all), f ps is)
+
+-- ---- what isn't a container
+
+pub puts_weaker : (P Q : Tree → Type 0) (old new : List ℕ) → ((v : Tree) → P v → Q v) → PutsEncodingOf P old new → PutsEncodingOf Q old new
+puts_weaker P Q old new f (w, v, more, is, h) = (w, v, more, is, f v h)
+
+pub scalar_put : (P : Tree → Type 0) (old new : List ℕ) (v : Tree) → PutsScalar v old new → P v → PutsEncodingOf P old new
+scalar_put P old new v (x, is, held, put) h = (text v, v, put, subst (λ t. Wire (text t) t) (sym is) (text_is_wire (scalar x) held tt refl), h)
+
+pub long_put : (P : Tree → Type 0) (old new s : List ℕ) → new ≡ old ++ 83 ∷ long_field s → length s < 2 ^ 32 → P (long s) → PutsEncodingOf P old new
+long_put P old new s put fits h = (83 ∷ long_field s, long s, put, wire 83 _ (long_field s) (long s) refl (raw_long s fits), h)
+
+pub octets_put : (P : Tree → Type 0) (old new s : List ℕ) → new ≡ old ++ 120 ∷ long_field s → length s < 2 ^ 32 → P (octets s) → PutsEncodingOf P old new
+octets_put P old new s put fits h = (120 ∷ long_field s, octets s, put, wire 120 _ (long_field s) (octets s) refl (raw_octets s fits), h)

@@ -1,0 +1,122 @@
+-- One more value or pair of a container in a buffer.
+use Rattle.std.proofs.Common.{◌≡◌, ◌<◌, ◌≤◌, ℕ, List, [], ◌∷◌, ◌++◌, length, false, Option, Some, None, IfSome, refl, sym, ap, ◌∙◌, subst, append_assoc, arith, length-append}
+use Rattle.std.specs.Borrow.{Bor}
+use Rattle.json.specs.Token.{Token, end_array, end_object, key}
+use Rattle.json.specs.Json.{object}
+use Rattle.json.specs.Tree.{json_tokens, items_tokens, members_tokens}
+use Rattle.json.specs.Print.{print, print_from}
+use Rattle.amqp_value_core.specs.Maps.{IsRising}
+use Rattle.amqp_value_core.specs.Values as values
+use Rattle.amqp_value_core.specs.Values.{table, insert_all, Tree, Trees, no_trees, tree, Entries, no_entries, entry}
+use Rattle.amqp_value_core.specs.Grammar.{Wire, wire, ArrayBody, TableBody}
+use Rattle.amqp_value_core.proofs.GrammarLaws.{rising_pairs}
+use Rattle.amqp_in_place.specs.declared.refs.ArrayRef.{ArrayRef}
+use Rattle.amqp_in_place.specs.declared.refs.TableRef.{TableRef}
+use Rattle.amqp_in_place.specs.Refs.{array_body, table_body, Denotes}
+use Rattle.amqp_in_place.specs.Places.{IsViewIn, IsPairViewIn}
+use Rattle.amqp_in_place.specs.Walks.{ValueStep, PairStep}
+use Rattle.amqp_in_place.specs.declared.refs.ValueRef.{ValueRef}
+use Rattle.amqp_in_place.specs.declared.refs.ValueRef.TheVariants as at
+use Rattle.amqp_json.specs.declared.printing.place.Place.{Place}
+use Rattle.amqp_json.specs.Printing.{Begins, PutsTokens, PutsJson}
+use Rattle.amqp_json.specs.Views.{body_len}
+use Rattle.amqp_json.specs.Written.{written, items_written, members_written, written_key, json_text}
+use Rattle.amqp_json.proofs.Printed.{tokens_more}
+
+-- ---- how many bytes are in a container
+
+plain_len : (s rest w : List ℕ) (v : Tree) → Wire w v → s ≡ w ++ rest → 0 < length s
+plain_len s rest _ v (wire c type b _ is raw) e = omega (arith, ap length e)
+
+-- fewer than the bytes that it is at the start of
+pub body_shorter : (r : ValueRef) (s rest : List ℕ) → IsViewIn s r rest → body_len r < length s
+body_shorter (at.FieldArray a) s rest (c, k, few, e) = omega (arith, ap length e, length-append (array_body a) rest)
+body_shorter (at.FieldTable t) s rest (c, k, few, e) = omega (arith, ap length e, length-append (table_body t) rest)
+body_shorter (at.LongString b) s rest (c, k, few, e) = omega (arith, ap length e)
+body_shorter (at.ByteArray b) s rest (c, k, few, e) = omega (arith, ap length e)
+body_shorter _ s rest y = plain_len s rest y.0 _ y.1 y.2
+
+pub pair_shorter : (s k rest : List ℕ) (r : ValueRef) → IsPairViewIn s k r rest → body_len r < length s
+pair_shorter s k rest r (after, e, inside) = omega (arith, body_shorter r after rest inside, ap length e, length-append k after)
+
+-- ---- an array
+
+pub item_put : (a : List ℕ) (p : Place) (b : List ℕ) (q : Place) (c : List ℕ) (r : Place) (done target : List Token) (rest : Trees) (x : ValueRef) (left : List ℕ) → ValueStep rest (Some x) left
+    → PutsTokens a p b q done → ((v : Tree) → Denotes x v → PutsJson b q c r (written v)) → done ++ items_tokens (items_written rest) ≡ target
+    → (more : List Token) × (ys : Trees) × ArrayBody left ys × PutsTokens a p c r more × (more ++ items_tokens (items_written ys) ≡ target)
+item_put a p b q c r done target no_trees x left step put puts e = absurd step
+item_put a p b q c r done target (tree v vs) x left step put puts e =
+    let value = json_tokens (written v) in
+    let more = items_tokens (items_written vs) in
+    (done ++ value, vs, step.1, tokens_more a b c p q r done value put (puts v step.0), append_assoc done value more ∙ e)
+
+pub items_end : (a : List ℕ) (p : Place) (b : List ℕ) (q : Place) (c : List ℕ) (r : Place) (done target : List Token) (rest : Trees) (left : List ℕ) → ValueStep rest None left
+    → PutsTokens a p b q done → PutsTokens b q c r (end_array ∷ []) → done ++ items_tokens (items_written rest) ≡ target → PutsTokens a p c r target
+items_end a p b q c r done target no_trees left step put puts e = subst (λ (ts : List Token). PutsTokens a p c r ts) e (tokens_more a b c p q r done (end_array ∷ []) put puts)
+items_end a p b q c r done target (tree v vs) left step put puts e = absurd step
+
+-- ---- a table
+
+pub pair_put : (a : List ℕ) (p : Place) (b : List ℕ) (q : Place) (d : List ℕ) (m : Place) (c : List ℕ) (r : Place) (done target : List Token) (rest : Entries) (x : Bor (List ℕ) × ValueRef) (left : List ℕ)
+    → PairStep rest (Some x) left → PutsTokens a p b q done → PutsTokens b q d m (key (written_key x.0.now) ∷ []) → ((v : Tree) → Denotes x.1 v → PutsJson d m c r (written v))
+    → done ++ members_tokens (members_written rest) ≡ target
+    → (more : List Token) × (ys : Entries) × TableBody left ys × PutsTokens a p c r more × (more ++ members_tokens (members_written ys) ≡ target)
+pair_put a p b q d m c r done target no_entries x left step put keyed puts e = absurd step
+pair_put a p b q d m c r done target (entry k v es) x left step put keyed puts e =
+    let value = json_tokens (written v) in
+    let more = members_tokens (members_written es) in
+    let name = key (written_key k) in
+    let named : PutsTokens b q d m (name ∷ []) = subst (λ (j : List ℕ). PutsTokens b q d m (key (written_key j) ∷ [])) step.0 keyed in (
+      done ++ name ∷ value,
+      es,
+      step.2,
+      tokens_more a b c p q r done (name ∷ value) put (tokens_more b d c q m r (name ∷ []) value named (puts v step.1)),
+      append_assoc done (name ∷ value) more ∙ e,
+    )
+
+pub pairs_end : (a : List ℕ) (p : Place) (b : List ℕ) (q : Place) (c : List ℕ) (r : Place) (done target : List Token) (rest : Entries) (left : List ℕ) → PairStep rest None left
+    → PutsTokens a p b q done → PutsTokens b q c r (end_object ∷ []) → done ++ members_tokens (members_written rest) ≡ target → PutsTokens a p c r target
+pairs_end a p b q c r done target no_entries left step put puts e = subst (λ (ts : List Token). PutsTokens a p c r ts) e (tokens_more a b c p q r done (end_object ∷ []) put puts)
+pairs_end a p b q c r done target (entry k v es) left step put puts e = absurd step
+
+-- ---- a value that is a container
+
+pub array_put : (a : List ℕ) (p : Place) (c : List ℕ) (result : Option Place) (r : ValueRef) (x : ArrayRef) → r ≡ at.FieldArray x
+    → IfSome result (λ e. (vs : Trees) → ArrayBody (array_body x) vs → PutsJson a p c e (written (values.array vs))) → IfSome result (λ e. (v : Tree) → Denotes r v → PutsJson a p c e (written v))
+array_put a p c None r x is puts = puts
+array_put a p c (Some e) r x is puts = λ v denotes.
+    let means : Denotes (at.FieldArray x) v = subst (λ (y : ValueRef). Denotes y v) is denotes in
+    subst (λ (u : Tree). PutsJson a p c e (written u)) (sym means.2) (puts means.0 means.1)
+
+pub table_put : (a : List ℕ) (p : Place) (c : List ℕ) (result : Option Place) (r : ValueRef) (x : TableRef) → r ≡ at.FieldTable x
+    → IfSome result (λ _. (ps : Entries) → TableBody (table_body x) ps → IsRising ps) → IfSome result (λ e. (ps : Entries) → TableBody (table_body x) ps → PutsJson a p c e (object (members_written ps)))
+    → IfSome result (λ e. (v : Tree) → Denotes r v → PutsJson a p c e (written v))
+table_put a p c None r x is rises puts = puts
+table_put a p c (Some e) r x is rises puts = λ v denotes.
+    let means : Denotes (at.FieldTable x) v = subst (λ (y : ValueRef). Denotes y v) is denotes in
+    let (es, has, same) = means in
+    let pairs : es ≡ has.0 = has.2 ∙ rising_pairs has.0 (rises has.0 has.1) in
+    subst (λ (u : Tree). PutsJson a p c e (written u)) (sym (same ∙ ap table pairs)) (puts has.0 has.1)
+
+-- ---- what is left is no longer
+
+pub left_of : (r : ValueRef) (s rest : List ℕ) → IsViewIn s r rest → length rest ≤ length s
+left_of (at.FieldArray a) s rest (c, k, few, e) = omega (arith, ap length e, length-append (array_body a) rest)
+left_of (at.FieldTable t) s rest (c, k, few, e) = omega (arith, ap length e, length-append (table_body t) rest)
+left_of (at.LongString b) s rest (c, k, few, e) = omega (arith, ap length e, length-append b.now rest)
+left_of (at.ByteArray b) s rest (c, k, few, e) = omega (arith, ap length e, length-append b.now rest)
+left_of _ s rest y = omega (arith, ap length y.2, length-append y.0 rest)
+
+pub left_of_pair : (s k rest : List ℕ) (r : ValueRef) → IsPairViewIn s k r rest → length rest ≤ length s
+left_of_pair s k rest r (after, e, inside) = omega (arith, left_of r after rest inside, ap length e, length-append k after)
+
+-- ---- the text of a value, from the start of a buffer
+
+nothing : print [] ≡ []
+unfolding print_from
+nothing = refl
+
+pub text_begins : (old new : List ℕ) (end : Place) (v : Tree) → PutsJson old (record { count = 0; after_value = false }) new end (written v) → Begins old new end.count (json_text v)
+text_begins old new end v puts =
+    let start : Begins old old 0 (print []) = subst (λ (t : List ℕ). Begins old old 0 t) (sym nothing) (record { count = refl; same = refl; text = λ fits. refl }) in
+    (puts old [] (record { text = start; after = refl })).text

@@ -1,7 +1,0 @@
-use Rattle.std.proofs.Common.{arith}
-use Rattle.amqp_json.proofs.Putting.{digits_counted}
-use Rattle.amqp_json.proofs.buffer.put.put_hexadecimal.Goals as goal
-
-pub returns-then-end-buffer : goal.returns-then-end-buffer
-returns-then-end-buffer c =
-    digits_counted c.args.buffer.now c.args.at c.saturating_add-end.result c.args.bytes.now (omega (arith, c.saturating_add-end.ensures)) (omega arith)

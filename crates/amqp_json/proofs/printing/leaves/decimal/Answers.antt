@@ -1,0 +1,11 @@
+use Rattle.std.proofs.Common.{◌∷◌, [], codes}
+use Rattle.json.specs.Token.{begin_object, key, string}
+use Rattle.amqp_json.specs.Written.{decimal_text}
+use Rattle.amqp_json.proofs.Printed.{tokens_more}
+use Rattle.amqp_json.proofs.printing.leaves.decimal.Goals as goal
+
+pub returns : goal.returns
+returns c =
+    tokens_more _ _ _ _ _ _ (begin_object ∷ []) _ c.put_token-place.ensures
+    (tokens_more _ _ _ _ _ _ (key (codes "$DecimalValue") ∷ []) _ c.put_token-place-2.ensures
+    (tokens_more _ _ _ _ _ _ (string (decimal_text c.args.d.scale c.args.d.value) ∷ []) _ c.put_decimal-place.ensures c.put_token.ensures))

@@ -1,0 +1,72 @@
+-- From JSON texts to values and encodings, and back: what the calls' clauses say.
+use Rattle.std.specs.Prelude.{ℕ, ◌≡◌, ◌<◌, ◌≤◌, List, ◌++◌, length, drop, Some, None, false}
+use Rattle.amq_protocol_types.specs.declared.parsing.limits.Limits.{Limits}
+use Rattle.amq_protocol_types.specs.parsing.Headers.{extent, IsWholeValue}
+use Rattle.amq_protocol_types.specs.parsing.Limits.{Within, RefusesWithin}
+use Rattle.amqp_in_place.specs.InPlaceResults.{NeedsNoMemory}
+use Rattle.amqp_value_core.specs.Values.{Tree, readable}
+use Rattle.amqp_value_core.specs.Outcomes.{found}
+use Rattle.amqp_value_core.specs.Texts.{text, Fits}
+use Rattle.amqp_json.specs.Ascending.{InOrder, OutOfOrder}
+use Rattle.amqp_json.specs.Meaning.{meant}
+use Rattle.amqp_json.specs.Written.{json_text, counted, MeansIfShallow}
+use Rattle.amqp_json.specs.declared.error.JsonError.{JsonError}
+use Rattle.amqp_json.specs.declared.error.JsonError.TheVariants.{Syntax, NotAValue}
+use Rattle.amqp_json.specs.declared.error.EncodeError.{EncodeError}
+use Rattle.amqp_json.specs.declared.error.EncodeError.TheVariants as encode
+use Rattle.amqp_json.specs.declared.error.DecodeError.{DecodeError}
+use Rattle.amqp_json.specs.declared.error.DecodeError.TheVariants as decode
+use Rattle.amqp_json.specs.declared.error.WriteError.{WriteError}
+use Rattle.amqp_json.specs.declared.error.WriteError.TheVariants as write
+
+-- ---- from a text
+
+-- the bytes are the canonical encoding of the value that the text means
+abbrev pub IsEncodingOf : List ℕ → List ℕ → Type 0
+IsEncodingOf t bytes = (v : Tree) × (meant t ≡ Some v) × (bytes ≡ text v)
+
+-- an error that blames the text means that the text means no value
+abbrev pub IsRefused : JsonError → List ℕ → Type 0
+IsRefused (Syntax at) t = meant t ≡ None
+IsRefused (NotAValue at mismatch) t = meant t ≡ None
+IsRefused e t = Unit {0}
+
+-- the byte of an error is in a text of that many bytes, or its end
+abbrev pub IsWithin : JsonError → ℕ → Type 0
+IsWithin (Syntax at) len = at ≤ len
+IsWithin (NotAValue at mismatch) len = at ≤ len
+IsWithin e len = Unit {0}
+
+-- ---- to a text
+
+-- a text is the JSON text of the value at the start of s, as reading within the limits finds it, with
+-- `rest` after it, and means that value
+abbrev pub IsJsonOf : Limits → List ℕ → List ℕ → List ℕ → Type 0
+IsJsonOf l s t rest = (v : Tree) × Within l s (found v rest) × (t ≡ json_text v) × MeansIfShallow t v
+
+-- the same, and in the tables of the encoding the keys ascend
+abbrev pub IsOrderedJsonOf : Limits → List ℕ → List ℕ → List ℕ → Type 0
+IsOrderedJsonOf l s t rest = IsJsonOf l s t rest × InOrder s rest
+
+-- that text is the first n bytes of the buffer, and after them it is as it was
+abbrev pub IsJsonWritten : Limits → List ℕ → List ℕ → List ℕ → ℕ → List ℕ → Type 0
+IsJsonWritten l s old new n rest = (t : List ℕ) × IsOrderedJsonOf l s t rest × (n ≡ length t) × (n ≤ length old) × (new ≡ t ++ drop n old)
+
+-- why a value has no JSON text
+abbrev pub HasNoText : Tree → EncodeError → Type 0
+HasNoText v encode.NoTypeTag = readable v ≡ false
+HasNoText v encode.TooLong = Fits v → ⊥
+HasNoText v encode.OutOfMemory = Unit {0}
+
+-- why no text is made of the value at the start of s: it isn't read; or memory ran out, if all of its
+-- bytes are there, and no more than the limit `frame` allows
+abbrev pub IsNotRead : Limits → List ℕ → DecodeError → Type 0
+IsNotRead l s (decode.Refused e) = RefusesWithin l s e
+IsNotRead l s decode.OutOfMemory = (extent s ≤ l.frame) × IsWholeValue s
+
+-- why no text of the value at the start of s is in a buffer of that many bytes: it isn't read, which
+-- needs no memory; the text has more bytes, as many as the error says; or keys don't ascend
+abbrev pub IsNotWritten : Limits → List ℕ → ℕ → WriteError → Type 0
+IsNotWritten l s buffer (write.Refused e) = RefusesWithin l s e × NeedsNoMemory e
+IsNotWritten l s buffer (write.BufferTooSmall n) = (t : List ℕ) × (rest : List ℕ) × IsOrderedJsonOf l s t rest × (n ≡ counted t) × (buffer < n)
+IsNotWritten l s buffer write.KeysOutOfOrder = (v : Tree) × (rest : List ℕ) × Within l s (found v rest) × OutOfOrder s rest

@@ -1,0 +1,39 @@
+-- For private clauses: values that were read in place.
+use Rattle.std.specs.Prelude.{ℕ, List, ◌++◌, length, Result, MatchResult}
+use Rattle.amqp_in_place.specs.declared.refs.ValueRef.{ValueRef}
+use Rattle.amqp_in_place.specs.declared.refs.ValueRef.TheVariants as at
+use Rattle.amqp_in_place.specs.Places.{IsViewIn}
+use Rattle.amqp_in_place.specs.Refs.{Denotes, array_body, table_body}
+use Rattle.amq_protocol_types.specs.declared.parsing.limits.Limits.{Limits}
+use Rattle.amq_protocol_types.specs.parsing.Limits.{Within}
+use Rattle.amqp_value_core.specs.Inputs.{IsBytes}
+use Rattle.amqp_value_core.specs.Outcomes.{Outcome, found}
+use Rattle.amqp_value_core.specs.Readings.{read_back}
+use Rattle.amqp_value_core.specs.Texts.{text}
+use Rattle.amqp_value_core.specs.Values.{Tree}
+use Rattle.amqp_json.specs.Conversions.{IsJsonWritten, IsNotWritten}
+use Rattle.amqp_json.specs.Written.{HasJson}
+use Rattle.amqp_json.specs.declared.error.WriteError.{WriteError}
+
+-- how many bytes are in a container
+abbrev pub body_len : ValueRef → ℕ
+body_len (at.FieldArray a) = length (array_body a)
+body_len (at.FieldTable t) = length (table_body t)
+body_len _ = 0
+
+-- the view is of a value that has a JSON text
+abbrev pub HasText : ValueRef → Type 0
+HasText r = (v : Tree) × Denotes r v × HasJson v
+
+-- what reading the canonical encoding results in, whatever follows
+abbrev pub IsReadBack : Tree → Type 0
+IsReadBack v = (rest : List ℕ) → Outcome (text v ++ rest) (read_back v rest)
+
+-- a value is read from the start of s within the limits, `view` denotes it, and `rest` is after it
+abbrev pub IsViewOfRead : Limits → List ℕ → ValueRef → List ℕ → Type 0
+IsViewOfRead l s view rest = IsBytes s × IsViewIn s view rest × ((v : Tree) × Denotes view v × Within l s (found v rest))
+
+-- of whatever bytes the view is, the text of the value is written, or the error is right
+abbrev pub WritesView : ValueRef → List ℕ → List ℕ → Result ℕ WriteError → Type 0
+WritesView view old new r =
+    (l : Limits) (s rest : List ℕ) → IsViewOfRead l s view rest → MatchResult r (λ n. IsJsonWritten l s old new n rest) (IsNotWritten l s (length old))

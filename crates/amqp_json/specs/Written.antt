@@ -1,0 +1,108 @@
+-- The JSON of a value, as it is written.
+use Rattle.std.specs.Prelude.{ℕ, ◌≡◌, ◌≤◌, Some, ◌-◌, ◌^◌, min, length, List, ◌∷◌, ◌++◌, ◌==◌, Bool, slice_index, decimal as digits, if◌then◌else◌}
+use Rattle.std.specs.Int.{Width, w8, w16, w32, w64, cast_signed, to_be_bytes}
+use Rattle.std.specs.Fmt.{signed_decimal}
+use Rattle.std.specs.Str.{is_utf8}
+use Rattle.hex.specs.Hex.{encode_lower, IsBytes}
+use Rattle.amqp_value_core.specs.InMemory.{IsScalar}
+use Rattle.amqp_value_core.specs.Maps.{IsRising}
+use Rattle.amqp_value_core.specs.Strings.{IsShort}
+use Rattle.json.specs.Print.{print}
+use Rattle.json.specs.Tree.{json_tokens, depth}
+use Rattle.json.specs.Json.{Json, null, boolean, number, string, array, object, Items, no_items, item, Members, no_members, member}
+use Rattle.amqp_value_core.specs.declared.types.amqp_type.AMQPType.{AMQPType}
+use Rattle.amqp_value_core.specs.declared.types.amqp_type.AMQPType.TheVariants as amqp
+use Rattle.amqp_value_core.specs.Names.{name_of}
+use Rattle.amqp_value_core.specs.Values as values
+use Rattle.amqp_json.specs.Meaning.{most_levels, meant}
+use Rattle.amqp_value_core.specs.Values.{Scalar, decimal, void, Tree, scalar, short, long, octets, table, Trees, no_trees, tree, Entries, no_entries, entry}
+
+-- an object whose only key is `$` and the type's name
+abbrev pub under : AMQPType → Json → Json
+under type j = object (member (36 ∷ name_of type) j no_members)
+
+abbrev pub signed : Width → ℕ → Json
+signed w n = number (signed_decimal (cast_signed w n))
+
+abbrev pub number_written : AMQPType → ℕ → Json
+number_written amqp.LongLongInt n = signed w64 n
+number_written amqp.ShortShortInt n = under amqp.ShortShortInt (signed w8 n)
+number_written amqp.ShortInt n = under amqp.ShortInt (signed w16 n)
+number_written amqp.LongInt n = under amqp.LongInt (signed w32 n)
+number_written amqp.Float n = under amqp.Float (string (encode_lower (to_be_bytes w32 n)))
+number_written amqp.Double n = under amqp.Double (string (encode_lower (to_be_bytes w64 n)))
+-- (the others are unsigned: ShortShortUInt, ShortUInt, LongUInt and Timestamp)
+number_written type n = under type (number (digits n))
+
+-- a decimal's number, `e-` and its scale
+abbrev pub decimal_text : ℕ → ℕ → List ℕ
+decimal_text scale n = digits n ++ 101 ∷ 45 ∷ digits scale
+
+abbrev pub decimal_written : ℕ → ℕ → Json
+decimal_written scale n = under amqp.DecimalValue (string (decimal_text scale n))
+
+abbrev pub long_written : List ℕ → Json
+long_written s = if is_utf8 s then string s else under amqp.LongString (string (encode_lower s))
+
+abbrev pub scalar_written : Scalar → Json
+scalar_written (values.boolean b) = boolean b
+scalar_written (values.number type n) = number_written type n
+scalar_written (decimal scale n) = decimal_written scale n
+scalar_written void = null
+
+-- the key begins with `$`
+abbrev pub is_marked : List ℕ → Bool
+is_marked k = slice_index k 0 == 36
+
+-- a key, with one more `$` before its own
+abbrev pub written_key : List ℕ → List ℕ
+written_key k = if is_marked k then 36 ∷ k else k
+
+abbrev mutual
+  -- the JSON of a value. A short string has none: null is in its place, and `HasJson` leaves it out
+  pub written : Tree → Json
+  written (scalar x) = scalar_written x
+  written (short s) = null
+  written (long s) = long_written s
+  written (octets s) = under amqp.ByteArray (string (encode_lower s))
+  written (values.array vs) = array (items_written vs)
+  written (table es) = object (members_written es)
+
+  pub items_written : Trees → Items
+  items_written no_trees = no_items
+  items_written (tree v vs) = item (written v) (items_written vs)
+
+  pub members_written : Entries → Members
+  members_written no_entries = no_members
+  members_written (entry k v es) = member (written_key k) (written v) (members_written es)
+
+-- a value that has a JSON: each number is in its type's range, no short string is in it, each key is UTF-8 of at most
+-- 255 bytes, and the keys of each table ascend
+abbrev mutual
+  pub HasJson : Tree → Type 0
+  HasJson (scalar x) = IsScalar x
+  HasJson (short s) = ⊥
+  HasJson (long s) = IsBytes s
+  HasJson (octets s) = IsBytes s
+  HasJson (values.array vs) = AllHaveJson vs
+  HasJson (table es) = IsRising es × EntriesHaveJson es
+
+  pub AllHaveJson : Trees → Type 0
+  AllHaveJson no_trees = Unit {0}
+  AllHaveJson (tree v vs) = HasJson v × AllHaveJson vs
+
+  pub EntriesHaveJson : Entries → Type 0
+  EntriesHaveJson no_entries = Unit {0}
+  EntriesHaveJson (entry k v es) = IsShort k × HasJson v × EntriesHaveJson es
+
+-- the JSON text of a value
+abbrev pub json_text : Tree → List ℕ
+json_text v = print (json_tokens (written v))
+
+-- how many bytes a text has, by a count of 64 bits that stops at its largest number
+abbrev pub counted : List ℕ → ℕ
+counted t = min (length t) (2 ^ 64 - 1)
+
+-- the text means the value, if it doesn't nest deeper than texts are read: a value under its type's name is a level
+abbrev pub MeansIfShallow : List ℕ → Tree → Type 0
+MeansIfShallow t v = depth (written v) ≤ most_levels → meant t ≡ Some v

@@ -1,0 +1,139 @@
+//! Numbers and strings, as values of named types.
+
+ghost use Rattle.std.specs.Prelude.{◌≡◌, Some, None, OnOk, IfOk, IfErr, MatchOption, option_map};
+ghost use Rattle.std.specs.Result.{result_ok};
+ghost use Rattle.hex.specs.Hex.{decode_of};
+ghost use Rattle.amqp_value_core.specs.Values.{scalar, decimal};
+ghost use Rattle.amqp_json.specs.Meaning.{number_in, string_in, natural_of, decimal_in};
+ghost use Rattle.amqp_json.specs.Puts.{PutsEncodingOf, OnRefusal};
+
+use crate::error::{JsonError, Mismatch};
+use crate::numerals::number;
+use crate::put::{put, put_counted, put_decimal, put_integer};
+use amqp_value_core::types::{AMQPType, DecimalValue};
+use amqp_value_core::value::AMQPValue;
+use hex::{FromHex, FromHexError};
+use itoa::Buffer;
+use serde_json::Value;
+use std::alloc::Global;
+
+/// A number.
+pub(crate) fn put_number(
+    alloc: Global,
+    out: &mut Vec<u8>,
+    amqp_type: AMQPType,
+    text: &str,
+    at: usize,
+) -> Result<(), JsonError>
+    ensures ok { OnOk result (PutsEncodingOf (λ v. number_in amqp_type text.now ≡ Some v)
+        out.old.items out.new.items) }
+    ensures refused { IfErr result (λ e. OnRefusal e (number_in amqp_type text.now ≡ None)) }
+{
+    let Some(n) = number(text) else {
+        return Err(JsonError::NotAValue(at, Mismatch::OutOfRange));
+    };
+    match AMQPValue::try_from(alloc, &Value::Number(n), amqp_type)? {
+        Some(value) => put_integer(out, &value, at),
+        None => Err(JsonError::NotAValue(at, not_this_number(amqp_type))),
+    }
+}
+
+// What a number is for a type that doesn't hold it.
+fn not_this_number(amqp_type: AMQPType) -> Mismatch {
+    match other_kind(amqp_type) {
+        Mismatch::NotANumber => Mismatch::OutOfRange,
+        mismatch => mismatch,
+    }
+}
+
+/// What a value of another kind is: no number or no string.
+pub(crate) fn other_kind(amqp_type: AMQPType) -> Mismatch {
+    match amqp_type {
+        AMQPType::Float
+        | AMQPType::Double
+        | AMQPType::DecimalValue
+        | AMQPType::LongString
+        | AMQPType::ByteArray => Mismatch::NotAString,
+        _ => Mismatch::NotANumber,
+    }
+}
+
+/// A string.
+pub(crate) fn put_string(
+    alloc: Global,
+    out: &mut Vec<u8>,
+    amqp_type: AMQPType,
+    text: &str,
+    at: usize,
+) -> Result<(), JsonError>
+    ensures ok { OnOk result (PutsEncodingOf (λ v. string_in amqp_type text.now ≡ Some v)
+        out.old.items out.new.items) }
+    ensures refused { IfErr result (λ e. OnRefusal e (string_in amqp_type text.now ≡ None)) }
+{
+    match amqp_type {
+        AMQPType::DecimalValue => match decimal(text) {
+            Some(d) => put_decimal(out, d),
+            None => Err(JsonError::NotAValue(at, Mismatch::NotADecimal)),
+        },
+        AMQPType::Float => match <[u8; 4] as FromHex>::from_hex(text) {
+            Ok(bits) => put(out, b'f', &bits),
+            Err(e) => Err(digits_error(e, at)),
+        },
+        AMQPType::Double => match <[u8; 8] as FromHex>::from_hex(text) {
+            Ok(bits) => put(out, b'd', &bits),
+            Err(e) => Err(digits_error(e, at)),
+        },
+        AMQPType::LongString => put_counted(out, b'S', &bytes_of(alloc, text, at)?),
+        AMQPType::ByteArray => put_counted(out, b'x', &bytes_of(alloc, text, at)?),
+        _ => Err(JsonError::NotAValue(at, Mismatch::NotANumber)),
+    }
+}
+
+// The bytes of hexadecimal digits.
+fn bytes_of(alloc: Global, text: &str, at: usize) -> Result<Vec<u8>, JsonError>
+    ensures ok { IfOk result (λ b. result_ok (decode_of text.now) ≡ Some b.items) }
+    ensures refused { IfErr result (λ e. OnRefusal e (result_ok (decode_of text.now) ≡ None)) }
+{
+    match hex::decode(alloc, text) {
+        Ok(bytes) => Ok(bytes),
+        Err(FromHexError::OutOfMemory) => Err(JsonError::OutOfMemory),
+        Err(e) => Err(digits_error(e, at)),
+    }
+}
+
+// What is wrong with hexadecimal digits.
+fn digits_error(error: FromHexError, at: usize) -> JsonError {
+    match error {
+        FromHexError::OutOfMemory => JsonError::OutOfMemory,
+        FromHexError::OddLength => JsonError::NotAValue(at, Mismatch::OddDigits),
+        FromHexError::InvalidHexCharacter { .. } => JsonError::NotAValue(
+            at,
+            Mismatch::NotHexadecimal,
+        ),
+        FromHexError::InvalidStringLength => JsonError::NotAValue(at, Mismatch::DigitCount),
+    }
+}
+
+// A decimal: `314e-2` has the number 314 and the scale 2.
+fn decimal(text: &str) -> Option<DecimalValue>
+    ensures { option_map (λ d. scalar (decimal d.scale d.value)) result ≡ decimal_in text.now }
+{
+    let (value, exponent) = text.split_once('e')?;
+    let scale = natural(exponent.strip_prefix('-')?)?;
+    let scale = u8::try_from(scale).ok()?;
+    let value = u32::try_from(natural(value)?).ok()?;
+    Some(DecimalValue { scale, value })
+}
+
+// A number of digits alone, without a zero before others.
+fn natural(text: &str) -> Option<u64>
+    ensures { result ≡ natural_of text.now }
+{
+    let n = number(text)?.as_u64()?;
+    let mut digits = Buffer::new();
+    if digits.format(n) == text {
+        Some(n)
+    } else {
+        None
+    }
+}

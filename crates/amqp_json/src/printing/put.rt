@@ -1,0 +1,107 @@
+//! Bytes after others in a buffer: each call returns how many there are then, which may be more
+//! than the buffer has space for. Those that don't fit are counted, and not written.
+
+// The tactic at the function opens the definition of an escape, by which a byte needs none.
+
+ghost use Rattle.std.specs.Prelude.{◌≡◌, ◌+◌, ◌<◌, ◌≤◌, ◌∷◌, [], ◌++◌, length, take, drop};
+ghost use Rattle.std.specs.List.{prefix_len};
+ghost use Rattle.std.specs.Char.{digit_char};
+ghost use Rattle.hex.specs.Hex.{encode_lower};
+ghost use Rattle.json.specs.Print.{escape_letter, escape_byte, escape};
+ghost use Rattle.json.specs.Run.{is_plain};
+ghost use Rattle.amqp_json.specs.Printing.{PutsBytes};
+
+#[inline(always)]
+pub(crate) fn put(buffer: &mut [u8], at: usize, bytes: &[u8]) -> usize
+    ensures { PutsBytes buffer.old at buffer.new result bytes.now }
+{
+    if at <= buffer.len() && bytes.len() <= buffer.len() - at {
+        buffer[at..at + bytes.len()].copy_from_slice(bytes);
+    }
+    at.saturating_add(bytes.len())
+}
+
+/// The bytes in hexadecimal digits.
+pub(crate) fn put_hexadecimal(buffer: &mut [u8], at: usize, bytes: &[u8]) -> usize
+    ensures { PutsBytes buffer.old at buffer.new result (encode_lower bytes.now) }
+{
+    let end = at.saturating_add(2 * bytes.len());
+    if end > buffer.len() {
+        return end;
+    }
+    match hex::encode_to_slice(bytes, &mut buffer[at..end]) {
+        Ok(()) => end,
+        Err(_) => unreachable!(),
+    }
+}
+
+/// A text with its escapes, and then `close`.
+pub(crate) fn put_escaped(buffer: &mut [u8], at: usize, text: &[u8], close: &[u8]) -> usize
+    ensures { PutsBytes buffer.old at buffer.new result (escape text.now ++ close.now) }
+{
+    let mut at = at;
+    let mut from = 0;
+    loop {
+        let stop = plain_end(text, from);
+        at = put(buffer, at, &text[from..stop]);
+        if stop == text.len() {
+            return put(buffer, at, close);
+        }
+        let (escape, count) = escape_of(text[stop]);
+        at = put(buffer, at, &escape[..count]);
+        from = stop + 1;
+    }
+}
+
+// The first place from this one on that has a quote, a backslash or a control character, or the end.
+fn plain_end(bytes: &[u8], from: usize) -> usize
+    requires { from ≤ length bytes.now }
+    ensures value { result ≡ from + prefix_len is_plain (drop from bytes.now) }
+    ensures bound { result ≤ length bytes.now }
+{
+    let mut at = from;
+    while at < bytes.len() && bytes[at] != b'"' && bytes[at] != b'\\' && bytes[at] >= 0x20 {
+        at += 1;
+    }
+    at
+}
+
+#[tactic(auto, unfolding(json::specs::Print::escape_byte))]
+fn escape_of(byte: u8) -> ([u8; 6], usize)
+    ensures value { take result.1 result.0 ≡ escape_byte byte }
+    ensures bound { result.1 ≤ 6 }
+{
+    let letter = letter(byte);
+    if letter > 0 {
+        return ([b'\\', letter, 0, 0, 0, 0], 2);
+    }
+    if byte < 0x20 {
+        return (
+            [b'\\', b'u', b'0', b'0', digit(byte / 16), digit(byte % 16)],
+            6,
+        );
+    }
+    ([byte, 0, 0, 0, 0, 0], 1)
+}
+
+// The letter of the short escape, or 0.
+fn letter(byte: u8) -> u8
+    ensures { result ≡ escape_letter byte }
+{
+    match byte {
+        b'"' | b'\\' => byte,
+        8 => b'b',
+        12 => b'f',
+        b'\n' => b'n',
+        b'\r' => b'r',
+        b'\t' => b't',
+        _ => 0,
+    }
+}
+
+fn digit(n: u8) -> u8
+    requires { n < 16 }
+    ensures { result ≡ digit_char n }
+{
+    if n < 10 { b'0' + n } else { b'a' - 10 + n }
+}

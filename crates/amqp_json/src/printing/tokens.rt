@@ -1,0 +1,142 @@
+//! A token of JSON after others in a buffer.
+
+ghost use Rattle.std.specs.Prelude.{◌≡◌, ◌∷◌, [], ◌++◌, ◌&&◌, cond, true, decimal};
+ghost use Rattle.hex.specs.Hex.{encode_lower};
+ghost use Rattle.json.specs.Token.{key, string};
+ghost use Rattle.json.specs.Reads.{token_of};
+ghost use Rattle.json.specs.Print.{begins, ends, escape, token_text};
+ghost use Rattle.amqp_json.specs.Printing.{PutsBytes, PutsTokens};
+ghost use Rattle.amqp_json.specs.Written.{is_marked, written_key, decimal_text};
+
+use super::place::Place;
+use super::put::{put, put_escaped, put_hexadecimal};
+use amqp_value_core::types::DecimalValue;
+use itoa::Buffer;
+use json::Token;
+
+/// A token, with a comma before it after a value.
+#[inline(always)]
+pub(crate) fn put_token(buffer: &mut [u8], place: Place, token: Token<'_>) -> Place
+    ensures { PutsTokens buffer.old place buffer.new result (token_of token.entry ∷ []) }
+{
+    let at = put_separator(buffer, place, begins(token));
+    Place {
+        count: put_text(buffer, at, token),
+        after_value: ends(token),
+    }
+}
+
+/// The key of an entry: one that begins with `$` is written with one more.
+pub(crate) fn put_key(buffer: &mut [u8], place: Place, name: &str) -> Place
+    ensures { PutsTokens buffer.old place buffer.new result (key (written_key name.now) ∷ []) }
+{
+    let at = put_separator(buffer, place, true);
+    let at = put(buffer, at, quote_of(name));
+    Place {
+        count: put_escaped(buffer, at, name.as_bytes(), b"\":"),
+        after_value: false,
+    }
+}
+
+// The quote before a key, with the `$` before another.
+fn quote_of(name: &str) -> &'static [u8]
+    ensures { result.now ≡ cond (is_marked name.now) (34 ∷ 36 ∷ []) (34 ∷ []) }
+{
+    if name.starts_with('$') { b"\"$" } else { b"\"" }
+}
+
+/// The string of the bytes in hexadecimal digits.
+pub(crate) fn put_digits(buffer: &mut [u8], place: Place, bytes: &[u8]) -> Place
+    ensures { PutsTokens buffer.old place buffer.new result (string (encode_lower bytes.now) ∷ []) }
+{
+    let at = put_separator(buffer, place, true);
+    let at = put(buffer, at, b"\"");
+    let at = put_hexadecimal(buffer, at, bytes);
+    Place {
+        count: put(buffer, at, b"\""),
+        after_value: true,
+    }
+}
+
+/// The string of a decimal: its number, `e-` and its scale.
+pub(crate) fn put_decimal(buffer: &mut [u8], place: Place, d: DecimalValue) -> Place
+    ensures { PutsTokens buffer.old place buffer.new result (string (decimal_text d.scale d.value) ∷ []) }
+{
+    let at = put_separator(buffer, place, true);
+    let at = put(buffer, at, b"\"");
+    let at = put_natural(buffer, at, d.value);
+    let at = put(buffer, at, b"e-");
+    let at = put_natural(buffer, at, d.scale as u32);
+    Place {
+        count: put(buffer, at, b"\""),
+        after_value: true,
+    }
+}
+
+fn put_natural(buffer: &mut [u8], at: usize, n: u32) -> usize
+    ensures { PutsBytes buffer.old at buffer.new result (decimal n) }
+{
+    let mut text = Buffer::new();
+    put(buffer, at, text.format(n).as_bytes())
+}
+
+#[inline(always)]
+fn put_separator(buffer: &mut [u8], place: Place, is_first: bool) -> usize
+    ensures { PutsBytes buffer.old place.count buffer.new result
+        (cond (place.after_value && is_first) (44 ∷ []) []) }
+{
+    if place.after_value && is_first {
+        put(buffer, place.count, b",")
+    } else {
+        place.count
+    }
+}
+
+#[inline(always)]
+fn put_text(buffer: &mut [u8], at: usize, token: Token<'_>) -> usize
+    ensures { PutsBytes buffer.old at buffer.new result (token_text (token_of token.entry)) }
+{
+    match token {
+        Token::BeginObject => put(buffer, at, b"{"),
+        Token::EndObject => put(buffer, at, b"}"),
+        Token::BeginArray => put(buffer, at, b"["),
+        Token::EndArray => put(buffer, at, b"]"),
+        Token::Key(name) => put_quoted(buffer, at, name.as_bytes(), b"\":"),
+        Token::String(text) => put_quoted(buffer, at, text.as_bytes(), b"\""),
+        Token::Number(text) => put(buffer, at, text.as_bytes()),
+        Token::Bool(true) => put(buffer, at, b"true"),
+        Token::Bool(false) => put(buffer, at, b"false"),
+        Token::Null => put(buffer, at, b"null"),
+        Token::Bad => at,
+    }
+}
+
+// A text in quotes, of which `close` is the last one with what follows.
+fn put_quoted(buffer: &mut [u8], at: usize, text: &[u8], close: &[u8]) -> usize
+    ensures { PutsBytes buffer.old at buffer.new result (34 ∷ (escape text.now ++ close.now)) }
+{
+    let at = put(buffer, at, b"\"");
+    put_escaped(buffer, at, text, close)
+}
+
+// Whether it is the first token of a value or a member.
+#[inline(always)]
+fn begins(token: Token<'_>) -> bool
+    ensures { result ≡ begins (token_of token.entry) }
+{
+    match token {
+        Token::EndObject | Token::EndArray => false,
+        _ => true,
+    }
+}
+
+// Whether it is the last token of a value.
+#[inline(always)]
+fn ends(token: Token<'_>) -> bool
+    ensures { result ≡ ends (token_of token.entry) }
+{
+    match token {
+        Token::BeginObject | Token::BeginArray | Token::Key(_) => false,
+        _ => true,
+    }
+}

@@ -1,0 +1,253 @@
+//! From the tokens of a text to an encoding: the pairs of a table are in the order of the text.
+
+ghost use Rattle.std.specs.Prelude.{◌≡◌, ◌≢◌, ◌<◌, ◌≤◌, ◌∷◌, [], length, Some, None, option_map, OnOk, IfErr, MatchResult, MatchOption, List, ℕ, drop, true, false};
+ghost use Rattle.json.specs.Reads.{token_of};
+ghost use Rattle.json.specs.Json.{value, items, parse_map, read_key};
+ghost use Rattle.serde_json.specs.Read.{converted};
+ghost use Rattle.amqp_value_core.specs.Values.{Tree, array};
+ghost use Rattle.amqp_json.specs.Meaning.{meaning, meanings, is_name};
+ghost use Rattle.amqp_json.specs.Puts.{OnRefusal, PutsEncodingOf, PutsValues, PutsPairs, IsNamedRead, IsLeaf, IsNoLeaf, object_read, pairs_read, next_token};
+
+use crate::error::{JsonError, Mismatch};
+use crate::key::{Key, key_of};
+use crate::named::{other_kind, put_number, put_string};
+use crate::names::type_of_name;
+use crate::put::{fill_length, put, put_counted, put_head, put_key};
+use amqp_value_core::types::AMQPType;
+use json::{Reader, Token};
+use std::alloc::Global;
+
+const MAX_DEPTH: usize = 127;
+
+/// The value of a whole text.
+pub(crate) fn put_document(
+    alloc: Global,
+    reader: &mut Reader<'_>,
+    out: &mut Vec<u8>,
+) -> Result<(), JsonError>
+    ensures ok { OnOk result (PutsEncodingOf (λ v. converted meaning (value 127 reader.old)
+        ≡ Some (v, [])) out.old.items out.new.items) }
+    ensures refused { IfErr result (λ e. OnRefusal e ((v : Tree)
+        → converted meaning (value 127 reader.old) ≢ Some (v, []))) }
+{
+    put_value(alloc, reader, out, MAX_DEPTH)?;
+    let end = reader.offset();
+    match reader.next() {
+        None => Ok(()),
+        Some(_) => Err(JsonError::Syntax(end)),
+    }
+}
+
+#[cycle(walk)]
+fn put_value(
+    alloc: Global,
+    reader: &mut Reader<'_>,
+    out: &mut Vec<u8>,
+    depth: usize,
+) -> Result<(), JsonError>
+    ensures ok { OnOk result (PutsEncodingOf (λ v. converted meaning (value depth reader.old)
+        ≡ Some (v, reader.new)) out.old.items out.new.items) }
+    ensures shorter { OnOk result (length reader.new < length reader.old) }
+    ensures refused { IfErr result (λ e. OnRefusal e (converted meaning (value depth reader.old) ≡ None)) }
+{
+    let at = reader.offset();
+    let Some(token) = reader.next() else {
+        return Err(JsonError::Syntax(at));
+    };
+    match token {
+        Token::Null => put(out, b'V', &[]),
+        Token::Bool(b) => put(out, b't', &[u8::from(b)]),
+        Token::Number(text) => put_number(alloc, out, AMQPType::LongLongInt, text, at),
+        Token::String(text) => put_counted(out, b'S', text.as_bytes()),
+        Token::BeginArray => {
+            if depth == 0 {
+                return Err(JsonError::NotAValue(at, Mismatch::TooDeep));
+            }
+            put_array(alloc, reader, out, depth - 1)
+        }
+        Token::BeginObject => {
+            if depth == 0 {
+                return Err(JsonError::NotAValue(at, Mismatch::TooDeep));
+            }
+            put_object(alloc, reader, out, depth - 1)
+        }
+        Token::EndArray | Token::EndObject | Token::Key(_) | Token::Bad => Err(JsonError::Syntax(
+            at,
+        )),
+    }
+}
+
+#[cycle(walk)]
+fn put_array(
+    alloc: Global,
+    reader: &mut Reader<'_>,
+    out: &mut Vec<u8>,
+    depth: usize,
+) -> Result<(), JsonError>
+    ensures ok { OnOk result (PutsEncodingOf (λ v. parse_map array (converted meanings
+        (items (value depth) (length reader.old) reader.old)) ≡ Some (v, reader.new))
+        out.old.items out.new.items) }
+    ensures shorter { OnOk result (length reader.new < length reader.old) }
+    ensures refused { IfErr result (λ e. OnRefusal e (converted meanings
+        (items (value depth) (length reader.old) reader.old) ≡ None)) }
+{
+    let at = out.len() + 1;
+    put_head(out, b'A')?;
+    put_items(alloc, reader, out, depth)?;
+    fill_length(out, at)
+}
+
+#[cycle(walk)]
+fn put_items(
+    alloc: Global,
+    reader: &mut Reader<'_>,
+    out: &mut Vec<u8>,
+    depth: usize,
+) -> Result<(), JsonError>
+    ensures ok { OnOk result (PutsValues (λ vs. converted meanings
+        (items (value depth) (length reader.old) reader.old) ≡ Some (vs, reader.new))
+        out.old.items out.new.items) }
+    ensures shorter { OnOk result (length reader.new < length reader.old) }
+    ensures refused { IfErr result (λ e. OnRefusal e (converted meanings
+        (items (value depth) (length reader.old) reader.old) ≡ None)) }
+{
+    'items: loop {
+        if reader.take_end_array() {
+            return Ok(());
+        }
+        put_value(alloc, reader, out, depth)?;
+    }
+}
+
+#[cycle(walk)]
+fn put_object(
+    alloc: Global,
+    reader: &mut Reader<'_>,
+    out: &mut Vec<u8>,
+    depth: usize,
+) -> Result<(), JsonError>
+    ensures ok { OnOk result (PutsEncodingOf (λ v. object_read (value depth) reader.old
+        ≡ Some (v, reader.new)) out.old.items out.new.items) }
+    ensures shorter { OnOk result (length reader.new < length reader.old) }
+    ensures refused { IfErr result (λ e. OnRefusal e (object_read (value depth) reader.old ≡ None)) }
+{
+    let key_at = reader.offset();
+    let first = next_key(reader)?;
+    if let Some(name) = name_in(first) {
+        return put_named(alloc, reader, out, name, key_at);
+    }
+    let at = out.len() + 1;
+    put_head(out, b'F')?;
+    put_pairs(alloc, reader, out, first, key_at, depth)?;
+    fill_length(out, at)
+}
+
+// The name of a type that is the first key of an object.
+fn name_in<'a>(first: Option<&'a str>) -> Option<&'a str>
+    ensures { MatchOption result
+        ((k : List ℕ) → option_map (λ s. s.now) first.entry ≡ Some k → is_name k ≡ false)
+        (λ name. (k : List ℕ) × (option_map (λ s. s.now) first.entry ≡ Some k) × (is_name k ≡ true) × (name.now ≡ drop 1 k)) }
+{
+    let key = first?;
+    match key_of(key) {
+        Key::Name(name) => Some(name),
+        Key::Entry(_) => None,
+    }
+}
+
+// The pairs from a key on.
+#[cycle(walk)]
+fn put_pairs<'a>(
+    alloc: Global,
+    reader: &mut Reader<'a>,
+    out: &mut Vec<u8>,
+    first: Option<&'a str>,
+    first_at: usize,
+    depth: usize,
+) -> Result<(), JsonError>
+    ensures ok { OnOk result (PutsPairs (λ ps. pairs_read (value depth)
+        (next_token (option_map (λ s. s.now) first.entry) ∷ reader.old) ≡ Some (ps, reader.new))
+        out.old.items out.new.items) }
+    ensures shorter { OnOk result (length reader.new ≤ length reader.old) }
+    ensures refused { IfErr result (λ e. OnRefusal e (pairs_read (value depth)
+        (next_token (option_map (λ s. s.now) first.entry) ∷ reader.old) ≡ None)) }
+{
+    let mut next = first;
+    let mut at = first_at;
+    'pairs: loop {
+        let Some(key) = next else {
+            return Ok(());
+        };
+        put_key(out, key, at)?;
+        put_value(alloc, reader, out, depth)?;
+        at = reader.offset();
+        next = next_key(reader)?;
+    }
+}
+
+// What is after the name of a type, the only key of an object.
+fn put_named(
+    alloc: Global,
+    reader: &mut Reader<'_>,
+    out: &mut Vec<u8>,
+    name: &str,
+    name_at: usize,
+) -> Result<(), JsonError>
+    ensures ok { OnOk result (PutsEncodingOf (λ v. IsNamedRead name.now reader.old
+        (Some (v, reader.new))) out.old.items out.new.items) }
+    ensures shorter { OnOk result (length reader.new < length reader.old) }
+    ensures refused { IfErr result (λ e. OnRefusal e (IsNamedRead name.now reader.old None)) }
+{
+    let Some(amqp_type) = type_of_name(name) else {
+        return Err(JsonError::NotAValue(name_at, Mismatch::UnknownType));
+    };
+    let at = reader.offset();
+    let Some(token) = reader.next() else {
+        return Err(JsonError::Syntax(at));
+    };
+    put_leaf(alloc, out, amqp_type, token, at)?;
+    let next_at = reader.offset();
+    match next_key(reader)? {
+        None => Ok(()),
+        Some(_) => Err(JsonError::NotAValue(next_at, Mismatch::NotAlone)),
+    }
+}
+
+// A number or a string, as a value of the type.
+fn put_leaf(
+    alloc: Global,
+    out: &mut Vec<u8>,
+    amqp_type: AMQPType,
+    token: Token<'_>,
+    at: usize,
+) -> Result<(), JsonError>
+    ensures ok { OnOk result (PutsEncodingOf (IsLeaf amqp_type (token_of token.entry)) out.old.items out.new.items) }
+    ensures refused { IfErr result (λ e. OnRefusal e (IsNoLeaf amqp_type (token_of token.entry))) }
+{
+    match token {
+        Token::Number(text) => put_number(alloc, out, amqp_type, text, at),
+        Token::String(text) => put_string(alloc, out, amqp_type, text, at),
+        _ => Err(leaf_error(amqp_type, token, at)),
+    }
+}
+
+// Why a token is neither a number nor a string.
+fn leaf_error(amqp_type: AMQPType, token: Token<'_>, at: usize) -> JsonError {
+    match token {
+        Token::Bad | Token::Key(_) | Token::EndArray | Token::EndObject => JsonError::Syntax(at),
+        _ => JsonError::NotAValue(at, other_kind(amqp_type)),
+    }
+}
+
+fn next_key<'a>(reader: &mut Reader<'a>) -> Result<Option<&'a str>, JsonError>
+    ensures value { MatchResult result
+        (λ k. read_key reader.old ≡ Some (option_map (λ s. s.now) k, reader.new))
+        (λ _. read_key reader.old ≡ None) }
+    ensures shorter { OnOk result (length reader.new < length reader.old) }
+{
+    let at = reader.offset();
+    match reader.next_key() {
+        Ok(key) => Ok(key),
+        Err(_) => Err(JsonError::Syntax(at)),
+    }
+}

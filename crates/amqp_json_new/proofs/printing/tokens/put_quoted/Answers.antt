@@ -1,6 +1,0 @@
-use Rattle.std.proofs.Common.{◌∷◌, []}
-use Rattle.amqp_json_new.proofs.Printed.{puts_more}
-use Rattle.amqp_json_new.proofs.printing.tokens.put_quoted.Goals as goal
-
-pub returns : goal.returns
-returns c = puts_more _ _ _ _ _ _ (34 ∷ []) _ c.put-at.ensures c.put_escaped.ensures

@@ -1,0 +1,394 @@
+"""Which value a JSON text means, and which text is written for a value, by docs/JSON.md; and values and texts to try.
+
+The reader and the writer share nothing with the crates.
+"""
+
+import json
+import re
+from collections.abc import Iterable, Iterator
+from random import Random
+from typing import Any
+
+# The type tag that a value is written with, and its content: of a table a dict, of an array a list, else bytes.
+Value = tuple[str, Any]
+
+# How many arrays and objects may be open in a text.
+LEVELS = 127
+# The types under whose name is a number: the type tag, how many bytes there are, and whether it is signed.
+INTEGERS = {
+    "ShortShortInt": ("b", 1, True), "ShortShortUInt": ("B", 1, False), "ShortInt": ("s", 2, True),
+    "ShortUInt": ("u", 2, False), "LongInt": ("I", 4, True), "LongUInt": ("i", 4, False),
+    "LongLongInt": ("l", 8, True), "Timestamp": ("T", 8, False),
+}  # fmt: skip
+# The types under whose name are hexadecimal digits: the type tag, and how many bytes, or None for any number.
+DIGITS = {"Float": ("f", 4), "Double": ("d", 8), "LongString": ("S", None), "ByteArray": ("x", None)}
+NAMES = {tag: name for name, (tag, *_) in [*INTEGERS.items(), *DIGITS.items()]}
+# How many bytes a value has of each type without a length before it.
+WIDTHS = {"V": 0, "t": 1, "D": 5, "f": 4, "d": 8, **{tag: width for tag, width, _ in INTEGERS.values()}}
+SPACE = b" \t\n\r"
+# (which escapes a string may have, Python's own reader knows)
+STRING = re.compile(rb'"(?:[^"\\]|\\.)*"', re.DOTALL)
+# What is neither a string nor punctuation goes on to what ends it.
+WORD = re.compile(rb'[^ \t\n\r{}\[\]:,"]+')
+NUMBER = re.compile(rb"-?(?:0|[1-9][0-9]*)(?:\.[0-9]+)?(?:[eE][+-]?[0-9]+)?")
+
+
+class Rejected(Exception):
+    """A text means no value: the byte where it doesn't, and the mismatch there, or nothing if it isn't JSON."""
+
+    def __init__(self, at: int, mismatch: str = "") -> None:
+        super().__init__(at, mismatch)
+        self.at, self.mismatch = at, mismatch
+
+
+class Number(str):
+    """The text of a number."""
+
+
+# Reading
+
+
+class Text:
+    """A text that is being read."""
+
+    def __init__(self, text: bytes) -> None:
+        self.text, self.at = text, 0
+
+    def peek(self) -> bytes:
+        """The next byte that isn't white space, or nothing at the end."""
+        while self.text[self.at : self.at + 1] and self.text[self.at] in SPACE:
+            self.at += 1
+        return self.text[self.at : self.at + 1]
+
+    def take(self, mark: bytes) -> bool:
+        """Whether this byte is next, which is then passed."""
+        is_next = self.peek() == mark
+        self.at += is_next
+        return is_next
+
+    def string(self) -> str:
+        found = STRING.match(self.text, self.at)
+        try:
+            read: str = json.loads(found[0]) if found else ""
+            # (half of a surrogate pair has no UTF-8)
+            read.encode()
+        except ValueError:
+            found = None
+        if not found:
+            raise Rejected(self.at)
+        self.at = found.end()
+        return read
+
+    def key(self) -> tuple[int, str]:
+        """A key and its colon: the offset, and the key."""
+        mark, at = self.peek(), self.at
+        if mark != b'"':
+            raise Rejected(at)
+        name = self.string()
+        if not self.take(b":"):
+            raise Rejected(at)
+        return at, name
+
+    def scalar(self) -> tuple[int, Any]:
+        """Null, a boolean, a number or a string, and its offset."""
+        mark, at = self.peek(), self.at
+        if mark == b'"':
+            text = self.string()
+            # (what has a colon is a key)
+            if self.peek() == b":":
+                raise Rejected(at)
+            return at, text
+        found = WORD.match(self.text, at)
+        words: dict[bytes, Any] = {b"null": None, b"true": True, b"false": False}
+        # (a string doesn't end a word)
+        if not found or self.text[found.end() : found.end() + 1] == b'"':
+            raise Rejected(at)
+        self.at = found.end()
+        if found[0] in words:
+            return at, words[found[0]]
+        if not NUMBER.fullmatch(found[0]):
+            raise Rejected(at)
+        return at, Number(found[0].decode())
+
+    def value(self, levels: int) -> Value:
+        mark, at = self.peek(), self.at
+        if mark not in (b"[", b"{"):
+            return plain(*self.scalar())
+        if not levels:
+            raise Rejected(at, "TooDeep")
+        self.at += 1
+        return ("A", self.items(levels - 1)) if mark == b"[" else self.members(levels - 1)
+
+    def items(self, levels: int) -> list[Value]:
+        found: list[Value] = []
+        if self.take(b"]"):
+            return found
+        while True:
+            found.append(self.value(levels))
+            if self.take(b"]"):
+                return found
+            if not self.take(b","):
+                raise Rejected(self.at)
+
+    def members(self, levels: int) -> Value:
+        found: dict[bytes, Value] = {}
+        if self.take(b"}"):
+            return "F", found
+        at, key = self.key()
+        if is_name(key):
+            return self.named(at, key[1:])
+        while True:
+            if is_name(key):
+                raise Rejected(at, "NotAlone")
+            name = key.removeprefix("$").encode()
+            if len(name) > 255:
+                raise Rejected(at, "KeyTooLong")
+            found[name] = self.value(levels)
+            if self.take(b"}"):
+                return "F", found
+            if not self.take(b","):
+                raise Rejected(self.at)
+            at, key = self.key()
+
+    def named(self, at: int, name: str) -> Value:
+        """The value under the name of its type, which is an object's only key."""
+        if name not in INTEGERS and name not in DIGITS and name != "DecimalValue":
+            raise Rejected(at, "UnknownType")
+        if self.peek() in (b"[", b"{"):
+            raise Rejected(self.at, "NotANumber" if name in INTEGERS else "NotAString")
+        found = of_type(name, *self.scalar())
+        if self.take(b"}"):
+            return found
+        if not self.take(b","):
+            raise Rejected(self.at)
+        at, _ = self.key()
+        raise Rejected(at, "NotAlone")
+
+
+def is_name(key: str) -> bool:
+    return key.startswith("$") and not key.startswith("$$")
+
+
+def plain(at: int, content: Any) -> Value:
+    """The value of null, a boolean, a number or a string that is under no name."""
+    if content is None:
+        return "V", b""
+    if isinstance(content, bool):
+        return "t", bytes([content])
+    if isinstance(content, Number):
+        return of_type("LongLongInt", at, content)
+    return "S", content.encode()
+
+
+def of_type(name: str, at: int, content: Any) -> Value:
+    """The value of what is under a type's name."""
+    if name in INTEGERS:
+        if not isinstance(content, Number):
+            raise Rejected(at, "NotANumber")
+        tag, width, is_signed = INTEGERS[name]
+        number = integer(content, width, is_signed)
+        if number is None:
+            raise Rejected(at, "OutOfRange")
+        return tag, number
+    if not isinstance(content, str) or isinstance(content, Number):
+        # (a number that no float holds is out of each type's range)
+        is_huge = isinstance(content, Number) and abs(float(content)) == float("inf")
+        raise Rejected(at, "OutOfRange" if is_huge else "NotAString")
+    if name == "DecimalValue":
+        parts = re.fullmatch("([^e]*)e-(.*)", content, re.DOTALL)
+        value, scale = (integer(parts[1], 4, False), integer(parts[2], 1, False)) if parts else (None, None)
+        if value is None or scale is None:
+            raise Rejected(at, "NotADecimal")
+        return "D", scale + value
+    tag, size = DIGITS[name]
+    count = len(content.encode())
+    if count % 2:
+        raise Rejected(at, "OddDigits")
+    if size is not None and count != 2 * size:
+        raise Rejected(at, "DigitCount")
+    if not re.fullmatch("[0-9a-fA-F]*", content):
+        raise Rejected(at, "NotHexadecimal")
+    return tag, bytes.fromhex(content)
+
+
+def integer(text: str, width: int, is_signed: bool) -> bytes | None:
+    """An integer of so many bytes; `-0` is none."""
+    if not re.fullmatch("-?(0|[1-9][0-9]*)", text) or text == "-0":
+        return None
+    try:
+        return int(text).to_bytes(width, "big", signed=is_signed)
+    except (OverflowError, ValueError):
+        # (what has thousands of digits is no integer in Python)
+        return None
+
+
+def value_of_json(text: bytes) -> Value:
+    """The value that a text means."""
+    reader = Text(text)
+    found = reader.value(LEVELS)
+    # (a comma belongs to what is before it)
+    if reader.take(b",") or reader.peek():
+        reader.peek()
+        raise Rejected(reader.at)
+    return found
+
+
+# Writing
+
+
+def json_of(value: Value) -> str:
+    """The text that is written for a value."""
+    tag, content = value
+    if tag == "V":
+        return "null"
+    if tag == "t":
+        return "true" if content != b"\0" else "false"
+    if tag == "A":
+        return f"[{','.join(map(json_of, content))}]"
+    if tag == "F":
+        return "{" + ",".join(f"{json_of_key(key)}:{json_of(it)}" for key, it in sorted(content.items())) + "}"
+    if tag == "S":
+        try:
+            return quoted(content.decode())
+        except UnicodeDecodeError:
+            pass
+    if tag == "D":
+        return f'{{"$DecimalValue":"{int.from_bytes(content[1:], "big")}e-{content[0]}"}}'
+    name = NAMES[tag]
+    if name in DIGITS:
+        return f'{{"${name}":"{content.hex()}"}}'
+    number = int.from_bytes(content, "big", signed=INTEGERS[name][2])
+    return str(number) if tag == "l" else f'{{"${name}":{number}}}'
+
+
+def json_of_key(key: bytes) -> str:
+    return quoted(("$" if key.startswith(b"$") else "") + key.decode())
+
+
+def quoted(text: str) -> str:
+    return json.dumps(text, ensure_ascii=False)
+
+
+# Values
+
+# Keys and strings: with a dollar sign, with each kind of escape, and as long as a key may be.
+WORDS = [
+    "", "a", "b", "$", "$$", "$ShortInt", "ShortInt", "\u00e9", '"', "\\", "/\x7f", "\b\f\n\r\t", "\x00\x1f", "\u2028",
+    "\U0001f407", "k" * 255, "$" + "k" * 254, "plain text of more than sixteen bytes", 'with a quote at the end "',
+]  # fmt: skip
+
+
+def some_value(make: Random, levels: int) -> Value:
+    """A value of any type, in which containers nest no deeper."""
+    tag = make.choice("bBsuIilTfdDtVSSSx" + "AF" * levels)
+    if tag in "AF":
+        return container(make, tag, [some_value(make, levels - 1) for _ in range(make.randrange(4))])
+    if tag == "t":
+        return tag, bytes([make.randrange(2)])
+    if tag in "Sx":
+        return tag, make.choice([make.randbytes(make.randrange(6)), make.choice(WORDS).encode()])
+    width = WIDTHS[tag]
+    return tag, make.choice([make.randbytes(width), bytes(width), b"\xff" * width, (b"\x80" + bytes(width))[:width]])
+
+
+def container(make: Random, tag: str, content: list[Value]) -> Value:
+    """An array of these values, or a table."""
+    if tag == "A":
+        return tag, content
+    # (of many values most have a key with a number)
+    keys = [make.choice(WORDS).encode() for _ in content[:10]]
+    keys += [f"{make.choice(WORDS[:7])}{number}".encode() for number in range(10, len(content))]
+    return tag, dict(zip(keys, content))
+
+
+def large_values(make: Random, count: int) -> Iterator[Value]:
+    """So many values, of which some nest up to 30 levels, and some have up to 10,000 entries."""
+    for number in range(count):
+        value = some_value(make, 3)
+        for _ in range(make.randrange(1, 28) if number % 10 == 0 else 0):
+            others = [some_value(make, 0) for _ in range(make.randrange(3))]
+            value = container(make, make.choice("AF"), [*others, value])
+        if number % 500 == 0:
+            size = make.choice([100, 1000, 10_000])
+            value = container(make, make.choice("AF"), [some_value(make, 1) for _ in range(size)])
+        yield value
+
+
+# Texts
+
+SCALAR = re.compile(r'"(?:[^"\\]|\\.)*"(?!\s*:)|-?\d+|null|true|false')
+TOKEN = re.compile(r'("(?:[^"\\]|\\.)*")|([][{}:,])')
+# Texts that mean a value.
+VALUES = [
+    "null", "true", "0", "-1", "9223372036854775807", "-9223372036854775808", '""', '"a"', "[]", "{}", '{"$LongLongInt":5}',
+    '{"$LongString":"6f"}', '{"$ByteArray":"fF"}', '{"$$ShortInt":5}', '{"ShortInt":5}', '{"$DecimalValue":"1e-255"}',
+    '{"$Timestamp":18446744073709551615}', '{"$Float":"7FC00000"}',
+]  # fmt: skip
+# What is put in the place of something in a text.
+ODD = [
+    "", "{", "}", "[", "]", ",", ":", '"', "\\", "\\u", "\\ud800", "0", "-", "-0", ".5", "1.5", "e", "E9", "1e999", "256",
+    "18446744073709551616", "9" * 5000, "nul", "$", "$$", '"$', '"$ShortInt"', '"$Float"', '"$Boolean"', '"$DecimalValue":"1e-2"',
+    '{"$LongLongUInt":5}', '{"$ByteArray":"f"}', '{"$ByteArray":"fg"}', '{"$Float":"00"}', '{"$Float":1}', '{"$Void":null}',
+    '{"$Float":-1e999}', '{"$Float":"000000000"}', '{"$Double":"\u00e9"}', '{"$ShortInt":"5"}', '{"$ShortInt":[]}',
+    '{"$Timestamp":-1}', '{"$ShortShortInt":128}', '{"$ShortInt":5,"a":1}', '{"a":1,"$ShortInt":5}', '{"$FieldTable":{}}',
+    '{"$DecimalValue":"01e-2"}', '{"$DecimalValue":"1e2"}', '{"$DecimalValue":314}', '{"$DecimalValue":"4294967296e-2"}',
+    '{"$ShortString":"a"}', f'{{"{"k" * 256}":1}}', f'{{"$${"k" * 255}":1}}', "[" * 127 + "]" * 127, "[" * 128, "\0", " ",
+    "\u00e9", *VALUES,
+]  # fmt: skip
+
+
+def text_for(make: Random, value: Value) -> str:
+    """A text that means a value: with white space and escapes, keys in any order and again, and names that needn't be."""
+    return TOKEN.sub(lambda it: spelled(make, it), f"{blank(make)}{respelled(make, value)}{blank(make)}")
+
+
+def respelled(make: Random, value: Value) -> str:
+    tag, content = value
+    if tag == "A":
+        return f"[{','.join(respelled(make, it) for it in content)}]"
+    if tag == "F":
+        members = [f"{json_of_key(key)}:{respelled(make, it)}" for key, it in content.items()]
+        again = [f"{json_of_key(key)}:{make.choice(VALUES)}" for key in content if make.random() < 0.05]
+        make.shuffle(members)
+        return "{" + ",".join([*again, *members]) + "}"
+    if tag == "l" and make.random() < 0.2:
+        return f'{{"$LongLongInt":{json_of(value)}}}'
+    if tag in "Sxfd" and make.random() < 0.2:
+        return f'{{"${NAMES[tag]}":"{make.choice([content.hex(), content.hex().upper()])}"}}'
+    return json_of(value)
+
+
+def blank(make: Random) -> str:
+    return make.choice(["", "", "", "", "", "", " ", "\n\t", "\r "])
+
+
+def spelled(make: Random, token: re.Match[str]) -> str:
+    """Punctuation with white space around it, or a string, in which a character may be escaped though it needn't be."""
+    if token[2]:
+        return f"{blank(make)}{token[2]}{blank(make)}"
+    if make.random() < 0.8:
+        return token[1]
+    text = json.loads(token[1])
+    at = make.randrange(len(text) + 1)
+    units = text[at : at + 1].encode("utf-16-be")
+    escape = "".join(f"\\u{units[n]:02x}{units[n + 1]:02X}" for n in range(0, len(units), 2))
+    before, after = (quoted(it)[1:-1].replace("/", "\\/") for it in (text[:at], text[at + 1 :]))
+    return f'"{before}{escape}{after}"'
+
+
+def damaged_text(make: Random, text: str) -> str:
+    """A text with something odd in the place of a few characters, or of a string, a number or a word."""
+    begin = make.randrange(len(text) + 1)
+    end = begin + make.choice([0, 1, 1, 2, 5])
+    scalars = [it.span() for it in SCALAR.finditer(text)]
+    if scalars and make.random() < 0.5:
+        begin, end = make.choice(scalars)
+    return text[:begin] + make.choice(ODD) + text[end:]
+
+
+def texts(make: Random, values: Iterable[Value]) -> Iterator[bytes]:
+    """For each of these values a text that means it, and one that is changed in one place."""
+    for value in values:
+        text = text_for(make, value)
+        yield text.encode()
+        yield damaged_text(make, text).encode()
