@@ -14,6 +14,8 @@ use Rattle.amqp_value_core.specs.Grammar.{Wire, wire, Raw, raw_fixed, raw_short,
 use Rattle.amqp_value_core.specs.Texts.{size}
 use Rattle.amqp_value_core.proofs.Spelling.{size_of_scalar, body_size_more, pairs_size_more}
 use Rattle.amqp_value_core.specs.Members.{greatest_depth, entries_depth, count_all, entries_count, body_size, pairs_size}
+use Rattle.amqp_value_core.specs.Maps.{Mean}
+use Rattle.amqp_value_core.proofs.Tables.{of_mean}
 
 -- ---- entries that are put
 
@@ -38,13 +40,20 @@ put_within k v (entry j u es) = by (slice_cmp nat_cmp k j) (put_within k v es)
     by Greater inner = record { size = omega (arith, inner.size, pairs_size_more j u (insert k v es), pairs_size_more j u es); count = omega arith; depth = omega arith }
 
 -- so they do if pairs are inserted one after another
-pub onto_within : (ps es : Entries)
+onto_within : (ps es : Entries)
     → EntriesWithin (pairs_size ps + pairs_size es) (entries_count ps + entries_count es) (max (entries_depth ps) (entries_depth es)) (insert_all es ps)
 onto_within no_entries es = record { size = omega arith; count = omega arith; depth = omega arith }
 onto_within (entry k v ps) es =
     let first = put_within k v es in
     let all = onto_within ps (insert k v es) in
     record { size = omega (arith, pairs_size_more k v ps, first.size, all.size); count = omega (arith, first.count, all.count); depth = omega (arith, first.depth, all.depth) }
+
+-- so does what they mean
+pub mean_within : (ps es : Entries) → Mean ps es → EntriesWithin (pairs_size ps) (entries_count ps) (entries_depth ps) es
+mean_within ps es mean =
+    let all = onto_within ps no_entries in
+    of_mean (EntriesWithin (pairs_size ps) (entries_count ps) (entries_depth ps)) ps es mean
+    (record { size = omega (arith, all.size); count = omega (arith, all.count); depth = omega (arith, all.depth) })
 
 -- ---- values of fixed width
 
@@ -86,9 +95,9 @@ mutual
   raw_bounded _ _ _ (raw_array body vs fits all) =
       let inner = body_bounded body vs all in
       record { size = omega (arith, inner.size); count = omega (arith, inner.count); depth = omega (arith, inner.depth) }
-  raw_bounded _ _ _ (raw_table body ps fits all) =
+  raw_bounded _ _ _ (raw_table body ps es fits all mean) =
       let inner = pairs_bounded body ps all in
-      let kept = onto_within ps no_entries in
+      let kept = mean_within ps es mean in
       record {
         size = omega (arith, inner.size, kept.size);
         count = omega (arith, inner.count, kept.count);
@@ -123,8 +132,8 @@ mutual
       }
 
 -- what a table holds is no larger than the pairs that it was read from
-pub table_size : (body : List ℕ) (ps : Entries) → TableBody body ps → pairs_size (insert_all no_entries ps) ≤ length body
-table_size body ps all = omega (arith, (onto_within ps no_entries).size, (pairs_bounded body ps all).size)
+pub table_size : (body : List ℕ) (ps es : Entries) → TableBody body ps → Mean ps es → pairs_size es ≤ length body
+table_size body ps es all mean = omega (arith, (mean_within ps es mean).size, (pairs_bounded body ps all).size)
 
 pub array_size : (body : List ℕ) (vs : Trees) → ArrayBody body vs → body_size vs ≤ length body
 array_size body vs all = (body_bounded body vs all).size

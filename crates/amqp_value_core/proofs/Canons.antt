@@ -22,7 +22,7 @@ use Rattle.amqp_value_core.specs.Canonical.{IsStrict, IsCanon, IsCanonRaw, IsCan
 use Rattle.amqp_value_core.specs.Payloads.{CanonRaw}
 use Rattle.amqp_value_core.specs.Members.{CanonBody, CanonPairs}
 use Rattle.amqp_value_core.proofs.Bytes.{bytes_before, bytes_after, byte_at}
-use Rattle.amqp_value_core.proofs.Tables.{rising_pairs}
+use Rattle.amqp_value_core.proofs.Tables.{rising_pairs, rising_mean, mean_put}
 use Rattle.amqp_value_core.proofs.Ids.{kind_read}
 use Rattle.amqp_value_core.proofs.Shortest.{what_is_read}
 
@@ -53,8 +53,7 @@ pub canon_array : (body : List ℕ) (vs : Trees) → length body < 2 ^ 32 → Ca
 canon_array body vs fits (p, is) = (raw_array body vs fits p, is)
 
 pub canon_table : (body : List ℕ) (es : Entries) → length body < 2 ^ 32 → CanonPairs body es → CanonRaw amqp.FieldTable (long_field body) (table es)
-canon_table body es fits (p, is) =
-    subst (λ (fs : Entries). CanonRaw amqp.FieldTable (long_field body) (table fs)) (rising_pairs es (canon_rises body es p is)) (raw_table body es fits p, is)
+canon_table body es fits (p, is) = (raw_table body es es fits p (rising_mean es (canon_rises body es p is)), is)
 
 -- a value and those after it
 pub canon_value : (w rest : List ℕ) (v : Tree) (vs : Trees) → Canon w v → CanonBody rest vs → CanonBody (w ++ rest) (tree v vs)
@@ -203,9 +202,9 @@ mutual
   raw_is_payload _ _ _ (raw_octets s fits) read bytes all = (refl, refl)
   raw_is_payload _ _ _ (raw_array b vs fits p) read bytes all =
       (refl, ap long_field (body_is_texts b vs p (bytes_after (to_be_bytes w32 (length b)) b bytes) all))
-  raw_is_payload _ _ _ (raw_table b ps fits p) read bytes all =
+  raw_is_payload _ _ _ (raw_table b ps es fits p mean) read bytes all =
       let texts = pairs_are_keyed b ps p (bytes_after (to_be_bytes w32 (length b)) b bytes) all in
-      (refl, ap long_field (texts ∙ ap pairs (sym (rising_pairs ps (canon_rises b ps p all)))))
+      (refl, ap long_field (texts ∙ ap pairs (sym (mean_put ps es mean ∙ rising_pairs ps (canon_rises b ps p all)))))
 
   -- canonical encodings one after another are `text` of the values, joined
   body_is_texts : (b : List ℕ) (vs : Trees) (p : ArrayBody b vs) → IsBytes b → IsCanonBody b vs p → b ≡ body vs

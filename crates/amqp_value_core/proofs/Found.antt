@@ -1,6 +1,6 @@
 -- What has an encoding is found: reading as a function finds each value of the grammar, whatever
 -- follows its encoding.
-use Rattle.std.proofs.Common.{ℕ, suc, zero, ◌+◌, ◌-◌, ◌≤◌, ◌≡◌, ◌∙◌, ap, sym, refl, subst, Bool, true, ◌&&◌, Option, Some, None, option_map, List, [], ◌∷◌, ◌++◌, length, take, drop, arith, append_assoc, length-append}
+use Rattle.std.proofs.Common.{ℕ, suc, zero, ◌+◌, ◌≤◌, ◌≡◌, ◌∙◌, ap, sym, refl, subst, Bool, true, ◌&&◌, Option, Some, None, option_map, List, [], ◌∷◌, ◌++◌, length, take, drop, arith, append_assoc, length-append}
 use Rattle.std.proofs.Math.Seq.{take-append_seam, drop-append_seam}
 use Rattle.std.proofs.lemmas.Bool.{le-leb}
 use Rattle.std.proofs.lemmas.Nat.{from_be_bytes-to_be_bytes_4}
@@ -16,6 +16,7 @@ use Rattle.amqp_value_core.specs.Grammar.{Wire, Raw, ArrayBody, TableBody, short
 use Rattle.amqp_value_core.specs.Nesting.{nesting, raw_nesting, body_nesting, pairs_nesting}
 use Rattle.amqp_value_core.specs.Outcomes.{Reading, found, more, unknown, malformed, length_field, counted, lack_of}
 use Rattle.amqp_value_core.specs.Decode.{Meaning, framed, raw_outcome_by, outcome_by, values_by, is_short, is_key, pairs_onto, meaning}
+use Rattle.amqp_value_core.proofs.Tables.{mean_put}
 use Rattle.amqp_value_core.proofs.Headers.{FirstWithin, first_within, lack_of-none, length-wire}
 
 -- the cases of reading, under names: by what the type tag denotes
@@ -134,10 +135,10 @@ mutual
   found_raw depth _ _ rest _ (raw_array body vs fits entries) within =
       framed_found (meaning depth) amqp.FieldArray (to_be_bytes w32 (length body)) body rest (array vs) refl refl (from_be_bytes-to_be_bytes_4 (length body) fits)
       (array_means depth (body_nesting body vs entries) body vs within (λ inner deep. found_body inner (length body) body vs entries deep (omega arith)))
-  found_raw depth _ _ rest _ (raw_table body ps fits entries) within =
-      framed_found (meaning depth) amqp.FieldTable (to_be_bytes w32 (length body)) body rest (table (insert_all no_entries ps)) refl refl (from_be_bytes-to_be_bytes_4 (length body) fits)
-      (table_means depth (pairs_nesting body ps entries) body (insert_all no_entries ps) within
-      (λ inner deep. found_pairs inner (length body) no_entries body ps entries deep (omega arith)))
+  found_raw depth _ _ rest _ (raw_table body ps es fits entries mean) within =
+      framed_found (meaning depth) amqp.FieldTable (to_be_bytes w32 (length body)) body rest (table es) refl refl (from_be_bytes-to_be_bytes_4 (length body) fits)
+      (table_means depth (pairs_nesting body ps entries) body es within
+      (λ inner deep. found_pairs inner (length body) no_entries body ps entries deep (omega arith) ∙ ap Some (sym (mean_put ps es mean))))
 
   -- and a body's values are those that it encodes
   found_body : (depth n : ℕ) (body : List ℕ) (vs : Trees) (p : ArrayBody body vs) → body_nesting body vs p ≤ depth → length body ≤ n

@@ -15,7 +15,7 @@ pub use Rattle.amqp_value_core.proofs.Found.{and_others, and_pairs}
 pub use Rattle.amqp_value_core.proofs.Whole.{never_malformed}
 pub use Rattle.amqp_value_core.proofs.Agreement.{outcome_holds, outcome_is, raw_outcome_holds, raw_outcome_is}
 -- tables as finite maps, and what pairs mean
-pub use Rattle.amqp_value_core.proofs.Tables.{put_found, put_other, key_has_value, last_stays, option_or-assoc, option_or-none, pairs_rise, rising_pairs, same_tables, entries_rise}
+pub use Rattle.amqp_value_core.proofs.Tables.{put_found, put_other, key_has_value, last_stays, option_or-assoc, option_or-none, pairs_rise, rising_pairs, same_tables, entries_rise, put_mean, mean_put, rising_mean, of_mean}
 -- what an encoding bounds, what is read from it, and that the canonical one is a shortest
 pub use Rattle.amqp_value_core.proofs.Bounds.{bounds, raw_bounds}
 pub use Rattle.amqp_value_core.proofs.Shortest.{what_is_read, what_raw_reads, read_is_value, raw_value, shortest, same_text_same_value}

@@ -132,7 +132,7 @@ extent-raw _ _ rest _ (raw_short s is) = omega (arith, counted-short_field s res
 extent-raw _ _ rest _ (raw_long s fits) = omega (arith, counted-long_field s rest fits)
 extent-raw _ _ rest _ (raw_octets s fits) = omega (arith, counted-long_field s rest fits)
 extent-raw _ _ rest _ (raw_array body vs fits all) = omega (arith, counted-long_field body rest fits)
-extent-raw _ _ rest _ (raw_table body ps fits all) = omega (arith, counted-long_field body rest fits)
+extent-raw _ _ rest _ (raw_table body ps es fits all mean) = omega (arith, counted-long_field body rest fits)
 
 -- the length-prefixed field of a payload is complete, whatever follows
 pub lack-raw : (type : AMQPType) (b rest : List ℕ) (v : Tree) → Raw type b v → lack type (b ++ rest) ≡ 0

@@ -17,7 +17,7 @@ mutual
   raw_nesting-le _ _ _ (raw_long s fits) = omega arith
   raw_nesting-le _ _ _ (raw_octets s fits) = omega arith
   raw_nesting-le _ _ _ (raw_array body vs fits entries) = omega (arith, body_nesting-le body vs entries)
-  raw_nesting-le _ _ _ (raw_table body ps fits entries) = omega (arith, pairs_nesting-le body ps entries)
+  raw_nesting-le _ _ _ (raw_table body ps es fits entries mean) = omega (arith, pairs_nesting-le body ps entries)
 
   -- a body nests no deeper than one of its values
   pub body_nesting-le : (body : List ℕ) (vs : Trees) (p : ArrayBody body vs) → 5 * body_nesting body vs p ≤ length body

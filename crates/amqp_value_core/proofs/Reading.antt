@@ -44,7 +44,7 @@ array_body s x b y z fits p e = let r = array_body_within (raw_nesting amqp.Fiel
 pub table_body_within : (d : ℕ) (s x b y : List ℕ) (z : Tree) → length s < 2 ^ 32 → (p : Raw amqp.FieldTable b z) → raw_nesting amqp.FieldTable b z p ≤ d
     → long_field s ++ x ≡ b ++ y → (ps : Entries) × (q : TableBody s ps) × (suc (pairs_nesting s ps q) ≤ d)
 table_body_within d s x _ y _ fits (raw_fixed type f b row len) within e = absurd cc
-table_body_within d s x _ y _ fits (raw_table c ps bounded p) within e =
+table_body_within d s x _ y _ fits (raw_table c ps es bounded p mean) within e =
     let same = one_large s c x y fits bounded e in
     let at = subst (λ (t : List ℕ). (q : TableBody t ps) × (suc (pairs_nesting t ps q) ≤ d)) (sym same.0) (p, within) in
     (ps, at.0, at.1)

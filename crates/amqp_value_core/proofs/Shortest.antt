@@ -6,7 +6,7 @@ use Rattle.std.specs.Int.{w32, to_be_bytes}
 use Rattle.std.proofs.lemmas.Bool.{and_from}
 use Rattle.amqp_value_core.specs.declared.types.amqp_type.AMQPType.{AMQPType}
 use Rattle.amqp_value_core.specs.declared.types.amqp_type.AMQPType.TheVariants as amqp
-use Rattle.amqp_value_core.specs.Values.{Tree, Trees, Entries, no_entries, entry, insert_all, readable}
+use Rattle.amqp_value_core.specs.Values.{Tree, Trees, Entries, no_entries, entry, readable}
 use Rattle.amqp_value_core.specs.Ids.{kind}
 use Rattle.amqp_value_core.specs.Names.{read_as}
 use Rattle.amqp_value_core.proofs.Ids.{kind_read}
@@ -19,7 +19,7 @@ use Rattle.amqp_value_core.specs.InMemory.{IsScalar, IsValue, AreValues, AreEntr
 use Rattle.amqp_value_core.specs.Inputs.{IsBytes}
 use Rattle.amqp_value_core.specs.Maps.{IsRising}
 use Rattle.amqp_value_core.proofs.Bytes.{bytes_before, bytes_after, bytes_take, bytes_drop, below_1, below_2, below_4, below_8}
-use Rattle.amqp_value_core.proofs.Tables.{Each, each-onto, pairs_rise}
+use Rattle.amqp_value_core.proofs.Tables.{Each, each-mean}
 use Rattle.amqp_value_core.proofs.Unique.{one_meaning}
 use Rattle.amqp_value_core.proofs.Spelling.{text_is_wire}
 use Rattle.amqp_value_core.proofs.Bounds.{bounds, array_size, table_size}
@@ -60,12 +60,9 @@ mutual
   raw_written _ _ _ other (raw_array body vs fits all) =
       let inner = body_written body vs all in
       record { fits = (omega (arith, fits, array_size body vs all), inner.0); reads = inner.1 }
-  raw_written _ _ _ other (raw_table body ps fits all) =
-      let each = each-onto (λ k v. IsEncodable v) ps no_entries (pairs_written body ps all) tt in
-      record {
-        fits = (omega (arith, fits, table_size body ps all), entries_fit (insert_all no_entries ps) each);
-        reads = entries_read (insert_all no_entries ps) each;
-      }
+  raw_written _ _ _ other (raw_table body ps es fits all mean) =
+      let each = each-mean (λ k v. IsEncodable v) ps es mean (pairs_written body ps all) in
+      record { fits = (omega (arith, fits, table_size body ps es all mean), entries_fit es each); reads = entries_read es each }
 
   body_written : (body : List ℕ) (vs : Trees) → ArrayBody body vs → AllFit vs × IsTrue (all_readable vs)
   body_written _ _ no_values = (tt, refl)
@@ -117,9 +114,9 @@ mutual
   raw_value _ _ _ bytes (raw_long s fits) = tt
   raw_value _ _ _ bytes (raw_octets s fits) = tt
   raw_value _ _ _ bytes (raw_array body vs fits all) = body_values body vs (bytes_after (to_be_bytes w32 (length body)) body bytes) all
-  raw_value _ _ _ bytes (raw_table body ps fits all) =
+  raw_value _ _ _ bytes (raw_table body ps es fits all mean) =
       let pairs = pairs_values body ps (bytes_after (to_be_bytes w32 (length body)) body bytes) all in
-      are_entries (insert_all no_entries ps) (each-onto (λ k v. IsShort k × IsValue v) ps no_entries pairs tt) (pairs_rise ps)
+      are_entries es (each-mean (λ k v. IsShort k × IsValue v) ps es mean pairs) mean.rising
 
   body_values : (body : List ℕ) (vs : Trees) → IsBytes body → ArrayBody body vs → AreValues vs
   body_values _ _ bytes no_values = tt

@@ -1,5 +1,5 @@
 -- What is found has an encoding: reading as a function finds nothing but values of the grammar.
-use Rattle.std.proofs.Common.{ℕ, suc, zero, ◌+◌, ◌-◌, ◌<◌, ◌^◌, ◌≡◌, ◌∙◌, ap, sym, refl, subst, Bool, true, false, Option, Some, None, option_map, List, [], ◌∷◌, ◌++◌, length, take, drop, arith, append_assoc, length-take, length-drop}
+use Rattle.std.proofs.Common.{ℕ, suc, zero, ◌<◌, ◌^◌, ◌≡◌, ◌∙◌, ap, sym, refl, subst, Bool, true, false, Option, Some, None, option_map, List, [], ◌∷◌, ◌++◌, length, take, drop, arith, append_assoc, length-take, length-drop}
 use Rattle.std.proofs.lemmas.Bool.{leb-true, and_parts}
 use Rattle.std.proofs.lemmas.List.{take-append-drop}
 use Rattle.std.proofs.lemmas.Nat.{be_bytes_4}
@@ -20,6 +20,8 @@ use Rattle.amqp_value_core.specs.Inputs.{IsBytes}
 use Rattle.amqp_value_core.specs.Outcomes.{Reading, found, more, unknown, malformed, NeedsMoreOr, length_field, counted, lack, lack_of, frame_lack}
 use Rattle.amqp_value_core.specs.Decode.{Meaning, framed, raw_outcome_by, outcome_by, values_by, is_short, is_key, pairs_onto, meaning}
 use Rattle.amqp_value_core.proofs.Bytes.{bytes_after, bytes_take, bytes_drop, byte_at}
+use Rattle.amqp_value_core.specs.Maps.{Mean}
+use Rattle.amqp_value_core.proofs.Tables.{put_mean}
 use Rattle.amqp_value_core.proofs.Headers.{extent_of-whole}
 use Rattle.amqp_value_core.proofs.Outcomes.{NeedsMoreOr-weaker}
 use Rattle.amqp_value_core.proofs.Found.{by_kind, by_layout, by_lack, by_meaning, and_others, and_pairs, and_key}
@@ -233,8 +235,8 @@ table_end : (depth : ℕ) (l s : List ℕ) → IsBytes l → length l ≡ 4 → 
     → IfSome es (PairsOnto depth no_entries s) → IfSome (option_map table es) (RawWithin (suc depth) amqp.FieldTable (l ++ s))
 table_end depth l s bytes four counts None ends = tt
 table_end depth l s bytes four counts (Some es) (ps, (p, within), is) =
-    subst (λ x. RawWithin (suc depth) amqp.FieldTable (l ++ s) (table x)) (sym is)
-    (large_end (λ b. RawWithin (suc depth) amqp.FieldTable b (table (insert_all no_entries ps))) l s bytes four counts (λ fits. (raw_table s ps fits p, omega arith)))
+    large_end (λ b. RawWithin (suc depth) amqp.FieldTable b (table es)) l s bytes four counts
+    (λ fits. (raw_table s ps es fits p (subst (Mean ps) (sym is) (put_mean ps)), omega arith))
 
 -- what bytes mean, they encode
 pub means_spelled : (depth : ℕ) → IsSoundMeaning depth (meaning depth)

@@ -12,7 +12,7 @@ use Rattle.amqp_value_core.specs.Ids.{kind, id_of}
 use Rattle.amqp_value_core.specs.Layouts.{Layout, fixed, width_of, spelled}
 use Rattle.amqp_value_core.specs.Grammar.{long_field, Wire, wire, Raw, raw_fixed, raw_long, raw_octets, raw_array, raw_table, ArrayBody, no_values, value, TableBody, no_pairs, pair}
 use Rattle.amqp_value_core.specs.InMemory.{IsNumber, IsScalar, IsValue, AreValues, AreEntries}
-use Rattle.amqp_value_core.proofs.Tables.{onto-rising}
+use Rattle.amqp_value_core.proofs.Tables.{rising_mean, entries_rise}
 
 -- ---- size
 
@@ -99,9 +99,8 @@ scalar_raw x is =
 -- ---- all values
 
 -- pairs whose keys are ascending are the payload of a table that has them for entries
-rising_raw : (b : List ℕ) (es : Entries) → AreEntries es → length b < 2 ^ 32 → TableBody b es → Raw amqp.FieldTable (long_field b) (table es)
-rising_raw b es are fits all =
-    subst (λ (fs : Entries). Raw amqp.FieldTable (long_field b) (table fs)) (onto-rising es are) (raw_table b es fits all)
+abbrev pub rising_raw : (b : List ℕ) (es : Entries) → AreEntries es → length b < 2 ^ 32 → TableBody b es → Raw amqp.FieldTable (long_field b) (table es)
+rising_raw b es are fits all = raw_table b es es fits all (rising_mean es (entries_rise es are))
 
 mutual
   -- the canonical encoding of a value is an encoding of it

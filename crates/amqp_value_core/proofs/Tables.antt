@@ -9,7 +9,7 @@ use Rattle.std.specs.declared.cmp.Ordering.TheVariants.{Less, Equal, Greater}
 use Rattle.std.proofs.lemmas.Cmp.{nat_list_cmp_total}
 use Rattle.amqp_value_core.specs.Values.{Tree, Entries, no_entries, entry, insert, insert_all, ComesBefore}
 use Rattle.amqp_value_core.specs.InMemory.{AreEntries}
-use Rattle.amqp_value_core.specs.Maps.{same_bytes, has_key, value_at, last_at, IsRising}
+use Rattle.amqp_value_core.specs.Maps.{same_bytes, has_key, value_at, last_at, IsRising, Mean}
 
 -- ---- the order of keys
 
@@ -88,10 +88,6 @@ pub rising_pairs : (es : Entries) → IsRising es → insert_all no_entries es �
 unfolding join
 rising_pairs es rises = onto-join es no_entries rises
 
--- so are those of a table
-pub onto-rising : (es : Entries) → AreEntries es → insert_all no_entries es ≡ es
-onto-rising es are = rising_pairs es (entries_rise es are)
-
 -- what comes before a key and before the entries comes before them with the key
 before-put : (j k : List ℕ) (v : Tree) (es : Entries) → slice_cmp nat_cmp j k ≡ Less → ComesBefore j es → ComesBefore j (insert k v es)
 before-put j k v no_entries first before = first
@@ -141,7 +137,7 @@ each-put P k v (entry j u es) here others = by (slice_cmp nat_cmp k j) refl (eac
     by Greater is inner = (others.0, inner)
 
 -- so does what holds of each pair
-pub each-onto : (P : List ℕ → Tree → Type 0) (ps es : Entries) → Each P ps → Each P es → Each P (insert_all es ps)
+each-onto : (P : List ℕ → Tree → Type 0) (ps es : Entries) → Each P ps → Each P es → Each P (insert_all es ps)
 each-onto P no_entries es pairs others = others
 each-onto P (entry k v ps) es pairs others = each-onto P ps (insert k v es) pairs.1 (each-put P k v es pairs.0 others)
 
@@ -265,3 +261,29 @@ same_tables (entry k v es) (entry j u fs) r s same = by (slice_cmp nat_cmp k j) 
     by Greater is inner =
         let e : None ≡ Some u = sym (none_before j (entry k v es) (less j k is) r) ∙ (same j ∙ first_value j u fs) in
         cc
+
+-- ---- what pairs mean
+
+-- what they make if they are put one after another
+pub put_mean : (ps : Entries) → Mean ps (insert_all no_entries ps)
+put_mean ps = record { rising = pairs_rise ps; last = λ k. last_stays k ps }
+
+-- and nothing else
+pub mean_put : (ps es : Entries) → Mean ps es → es ≡ insert_all no_entries ps
+mean_put ps es mean = same_tables es (insert_all no_entries ps) mean.rising (pairs_rise ps) (λ k. mean.last k ∙ sym (last_stays k ps))
+
+-- sorted pairs mean themselves
+pub rising_mean : (es : Entries) → IsRising es → Mean es es
+rising_mean es rises = subst (Mean es) (rising_pairs es rises) (put_mean es)
+
+-- what holds of what they make holds of what they mean
+pub of_mean : (P : Entries → Type 0) (ps es : Entries) → Mean ps es → P (insert_all no_entries ps) → P es
+of_mean P ps es mean p = subst P (sym (mean_put ps es mean)) p
+
+-- so does what holds of each pair
+pub each-mean : (P : List ℕ → Tree → Type 0) (ps es : Entries) → Mean ps es → Each P ps → Each P es
+each-mean P ps es mean pairs = of_mean (Each P) ps es mean (each-onto P ps no_entries pairs tt)
+
+-- equal pairs mean equal entries
+pub one_mean : (ps qs es fs : Entries) → ps ≡ qs → Mean ps es → Mean qs fs → es ≡ fs
+one_mean ps qs es fs same p q = mean_put ps es p ∙ (ap (insert_all no_entries) same ∙ sym (mean_put qs fs q))

@@ -1,9 +1,9 @@
 -- How deep `text` nests: as deep as its value, which is no deeper than any encoding of it.
-use Rattle.std.proofs.Common.{◌≡◌, ◌≤◌, ◌+◌, ℕ, List, ◌∷◌, refl, subst, arith, IsTrue}
+use Rattle.std.proofs.Common.{◌≡◌, ◌≤◌, ℕ, List, refl, arith, IsTrue}
 use Rattle.std.proofs.lemmas.Bool.{and_parts}
 use Rattle.amqp_value_core.specs.declared.types.amqp_type.AMQPType.{AMQPType}
 use Rattle.amqp_value_core.specs.declared.types.amqp_type.AMQPType.TheVariants as amqp
-use Rattle.amqp_value_core.specs.Values.{Scalar, Tree, scalar, short, long, octets, array, table, Trees, no_trees, tree, Entries, no_entries, entry, scalar_type, insert_all, depth, readable}
+use Rattle.amqp_value_core.specs.Values.{Scalar, Tree, scalar, short, long, octets, array, table, Trees, no_trees, tree, Entries, no_entries, entry, scalar_type, depth, readable}
 use Rattle.amqp_value_core.specs.Ids.{id_of}
 use Rattle.amqp_value_core.specs.Layouts.{spelled}
 use Rattle.amqp_value_core.specs.Grammar.{long_field, Wire, wire, Raw, raw_fixed, raw_short, raw_long, raw_octets, raw_array, raw_table, ArrayBody, no_values, value, TableBody, no_pairs, pair}
@@ -13,9 +13,8 @@ use Rattle.amqp_value_core.proofs.Shortest.{what_is_read, read_is_value}
 use Rattle.amqp_value_core.specs.Texts.{text, body, pairs, Fits}
 use Rattle.amqp_value_core.specs.Members.{greatest_depth, entries_depth, all_readable, entries_readable, AllFit, EntriesFit}
 use Rattle.amqp_value_core.specs.InMemory.{IsValue, AreValues, AreEntries}
-use Rattle.amqp_value_core.proofs.Bounds.{onto_within}
-use Rattle.amqp_value_core.proofs.Tables.{onto-rising}
-use Rattle.amqp_value_core.proofs.Spelling.{scalar_spelled, scalar_raw}
+use Rattle.amqp_value_core.proofs.Bounds.{mean_within}
+use Rattle.amqp_value_core.proofs.Spelling.{scalar_spelled, scalar_raw, rising_raw}
 
 mutual
   -- a value is no deeper than an encoding of it
@@ -28,7 +27,7 @@ mutual
   raw_depth-le _ _ _ (raw_long s fits) = omega arith
   raw_depth-le _ _ _ (raw_octets s fits) = omega arith
   raw_depth-le _ _ _ (raw_array body vs fits entries) = omega (arith, body_depth-le body vs entries)
-  raw_depth-le _ _ _ (raw_table body ps fits entries) = omega (arith, pairs_depth-le body ps entries, (onto_within ps no_entries).depth)
+  raw_depth-le _ _ _ (raw_table body ps es fits entries mean) = omega (arith, pairs_depth-le body ps entries, (mean_within ps es mean).depth)
 
   body_depth-le : (body : List ℕ) (vs : Trees) (p : ArrayBody body vs) → greatest_depth vs ≤ body_nesting body vs p
   body_depth-le _ _ no_values = omega arith
@@ -45,7 +44,7 @@ scalar_flat _ _ _ x (raw_short s is) e = refl
 scalar_flat _ _ _ x (raw_long s fits) e = refl
 scalar_flat _ _ _ x (raw_octets s fits) e = refl
 scalar_flat _ _ _ x (raw_array body vs fits all) e = absurd cc
-scalar_flat _ _ _ x (raw_table body ps fits all) e = absurd cc
+scalar_flat _ _ _ x (raw_table body ps es fits all mean) e = absurd cc
 
 mutual
   -- `text` of a value is an encoding of it that nests as deep as the value
@@ -61,8 +60,7 @@ mutual
       (wire (id_of amqp.FieldArray) amqp.FieldArray (long_field (body vs)) (array vs) refl (raw_array (body vs) vs fits.0 q.0), omega (arith, q.1))
   text_within (table es) is fits r =
       let q = pairs_within es is fits.1 r in
-      subst (λ (fs : Entries). WireWithin (1 + entries_depth es) (id_of amqp.FieldTable ∷ long_field (pairs es)) (table fs)) (onto-rising es is)
-      (wire (id_of amqp.FieldTable) amqp.FieldTable (long_field (pairs es)) (table (insert_all no_entries es)) refl (raw_table (pairs es) es fits.0 q.0), omega (arith, q.1))
+      (wire (id_of amqp.FieldTable) amqp.FieldTable (long_field (pairs es)) (table es) refl (rising_raw (pairs es) es is fits.0 q.0), omega (arith, q.1))
 
   texts_within : (vs : Trees) → AreValues vs → AllFit vs → IsTrue (all_readable vs) → BodyWithin (greatest_depth vs) (body vs) vs
   texts_within no_trees is fits r = (no_values, omega arith)

@@ -1,12 +1,13 @@
 -- One reading: a list has at most one encoding at its start, and an encoding one meaning.
 use Rattle.std.proofs.Common.{◌≡◌, ℕ, List, [], ◌++◌, length, drop, refl, sym, ap, ap₂, ◌∙◌, subst}
 use Rattle.amqp_value_core.specs.declared.types.amqp_type.AMQPType.{AMQPType}
-use Rattle.amqp_value_core.specs.Values.{Tree, scalar, short, long, octets, array, table, Trees, tree, Entries, no_entries, entry, insert_all}
+use Rattle.amqp_value_core.specs.Values.{Tree, scalar, short, long, octets, array, table, Trees, tree, Entries, entry}
 use Rattle.amqp_value_core.specs.Ids.{kind}
 use Rattle.amqp_value_core.specs.Layouts.{Layout, fixed}
 use Rattle.amqp_value_core.specs.Grammar.{short_field, long_field, Wire, wire, Raw, raw_fixed, raw_short, raw_long, raw_octets, raw_array, raw_table, ArrayBody, no_values, value, TableBody, no_pairs, pair}
 use Rattle.amqp_value_core.proofs.Prefixes.{same_prefixes, one_held}
 use Rattle.amqp_value_core.proofs.Headers.{extent, extent-raw}
+use Rattle.amqp_value_core.proofs.Tables.{one_mean}
 
 -- two payloads of one type at the start of a list are one
 one_raw_prefix : (type : AMQPType) (b c x y : List ℕ) (v u : Tree) → Raw type b v → Raw type c u → b ++ x ≡ c ++ y → (b ≡ c) × (x ≡ y)
@@ -47,8 +48,8 @@ mutual
   one_raw_meaning _ _ _ _ _ (raw_octets s fits) (raw_octets t fits2) e = ap octets (same_large s t e)
   one_raw_meaning _ _ _ _ _ (raw_array body vs fits all) (raw_array body2 us fits2 all2) e =
       ap array (one_body_meaning body body2 vs us all all2 (same_large body body2 e))
-  one_raw_meaning _ _ _ _ _ (raw_table body ps fits all) (raw_table body2 qs fits2 all2) e =
-      ap (λ (rs : Entries). table (insert_all no_entries rs)) (one_pairs_meaning body body2 ps qs all all2 (same_large body body2 e))
+  one_raw_meaning _ _ _ _ _ (raw_table body ps es fits all mean) (raw_table body2 qs fs fits2 all2 mean2) e =
+      ap table (one_mean ps qs es fs (one_pairs_meaning body body2 ps qs all all2 (same_large body body2 e)) mean mean2)
 
   -- an encoding has one meaning
   pub one_meaning : (w u : List ℕ) (v z : Tree) → Wire w v → Wire u z → w ≡ u → v ≡ z

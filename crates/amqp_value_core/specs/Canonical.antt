@@ -20,7 +20,7 @@ abbrev mutual
   pub IsCanonRaw : (type : AMQPType) (b : List ℕ) (v : Tree) → Raw type b v → Type 0
   IsCanonRaw _ _ _ (raw_fixed type f b is wide) = IsStrict type b
   IsCanonRaw _ _ _ (raw_array body vs fits all) = IsCanonBody body vs all
-  IsCanonRaw _ _ _ (raw_table body ps fits all) = IsCanonPairs body ps all
+  IsCanonRaw _ _ _ (raw_table body ps es fits all mean) = IsCanonPairs body ps all
   IsCanonRaw _ _ _ _ = Unit {0}
 
   pub IsCanonBody : (body : List ℕ) (vs : Trees) → ArrayBody body vs → Type 0

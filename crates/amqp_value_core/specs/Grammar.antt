@@ -4,10 +4,11 @@ use Rattle.std.specs.Prelude.{ℕ, ◌^◌, ◌<◌, ◌≡◌, Some, List, [], 
 use Rattle.std.specs.Int.{w32, to_be_bytes}
 use Rattle.amqp_value_core.specs.declared.types.amqp_type.AMQPType.{AMQPType}
 use Rattle.amqp_value_core.specs.declared.types.amqp_type.AMQPType.TheVariants as amqp
-use Rattle.amqp_value_core.specs.Values.{Tree, scalar, short, long, octets, array, table, Trees, no_trees, tree, Entries, no_entries, entry, insert_all}
+use Rattle.amqp_value_core.specs.Values.{Tree, scalar, short, long, octets, array, table, Trees, no_trees, tree, Entries, no_entries, entry}
 use Rattle.amqp_value_core.specs.Ids.{kind}
 use Rattle.amqp_value_core.specs.Layouts.{Layout, fixed}
 use Rattle.amqp_value_core.specs.Strings.{IsShort}
+use Rattle.amqp_value_core.specs.Maps.{Mean}
 
 -- bytes after their length in one byte
 abbrev pub short_field : List ℕ → List ℕ
@@ -32,8 +33,8 @@ mutual
     raw_octets : (s : List ℕ) → length s < 2 ^ 32 → Raw amqp.ByteArray (long_field s) (octets s)
     -- of an array: its body after the body's length
     raw_array : (body : List ℕ) → (vs : Trees) → length body < 2 ^ 32 → ArrayBody body vs → Raw amqp.FieldArray (long_field body) (array vs)
-    -- of a table: its body after the body's length; of equal keys the last pair's value stays
-    raw_table : (body : List ℕ) → (ps : Entries) → length body < 2 ^ 32 → TableBody body ps → Raw amqp.FieldTable (long_field body) (table (insert_all no_entries ps))
+    -- of a table: its body after the body's length; at each key the value of the last pair with it
+    raw_table : (body : List ℕ) → (ps : Entries) → (es : Entries) → length body < 2 ^ 32 → TableBody body ps → Mean ps es → Raw amqp.FieldTable (long_field body) (table es)
 
   -- the bytes are encodings of these values, one after another, and nothing else
   pub data ArrayBody : List ℕ → Trees → Type 0 where

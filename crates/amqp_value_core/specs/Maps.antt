@@ -1,5 +1,5 @@
 -- A table is a finite map: what is found at a key.
-use Rattle.std.specs.Prelude.{ℕ, Bool, false, ◌||◌, Option, Some, None, List, nat_eq, if◌then◌else◌}
+use Rattle.std.specs.Prelude.{ℕ, Bool, false, ◌||◌, ◌≡◌, Option, Some, None, List, nat_eq, if◌then◌else◌}
 use Rattle.std.specs.Option.{option_or}
 use Rattle.std.specs.Cmp.Lexicographic.{pointwise}
 use Rattle.amqp_value_core.specs.Values.{Tree, Entries, no_entries, entry, ComesBefore}
@@ -27,3 +27,9 @@ last_at k (entry j v ps) = option_or (last_at k ps) (if same_bytes k j then Some
 abbrev pub IsRising : Entries → Type 0
 IsRising no_entries = Unit {0}
 IsRising (entry k v es) = ComesBefore k es × IsRising es
+
+-- the pairs mean the entries: those have ascending keys, and at each key the value of the last pair
+-- with it
+pub record Mean (ps es : Entries) : Type 0 where
+  pub rising : IsRising es
+  pub last : (k : List ℕ) → value_at k es ≡ last_at k ps

@@ -16,7 +16,7 @@ abbrev mutual
   raw_nesting _ _ _ (raw_long s fits) = 0
   raw_nesting _ _ _ (raw_octets s fits) = 0
   raw_nesting _ _ _ (raw_array body vs fits entries) = suc (body_nesting body vs entries)
-  raw_nesting _ _ _ (raw_table body ps fits entries) = suc (pairs_nesting body ps entries)
+  raw_nesting _ _ _ (raw_table body ps es fits entries mean) = suc (pairs_nesting body ps entries)
 
   pub body_nesting : (body : List ℕ) (vs : Trees) → ArrayBody body vs → ℕ
   body_nesting _ _ no_values = 0

@@ -1,8 +1,9 @@
 -- What reading a container returns on its way: a length-prefixed field, and its body's entries.
 use Rattle.std.specs.Prelude.{ℕ, ◌<◌, ◌^◌, ◌≡◌, List, ◌++◌, length}
 use Rattle.std.specs.Int.{w32}
-use Rattle.amqp_value_core.specs.Values.{Trees, Entries, no_entries, insert_all}
+use Rattle.amqp_value_core.specs.Values.{Trees, Entries}
 use Rattle.amqp_value_core.specs.Grammar.{long_field}
+use Rattle.amqp_value_core.specs.Maps.{Mean}
 use Rattle.amqp_value_core.specs.Nesting.{BodyWithin, PairsWithin}
 use Rattle.amqp_value_core.specs.Outcomes.{Reading, more, malformed, frame_lack}
 
@@ -21,10 +22,9 @@ abbrev pub IsNoBody : ℕ → List ℕ → Reading → Type 0
 IsNoBody depth s malformed = (vs : Trees) → BodyWithin depth s vs → ⊥
 IsNoBody depth s _ = ⊥
 
--- the bytes are pairs one after another, and the entries are what they result in: of equal keys the
--- last pair's value stays
+-- the bytes are pairs one after another, and mean the entries
 abbrev pub IsTable : ℕ → List ℕ → Entries → Type 0
-IsTable depth s es = (ps : Entries) × PairsWithin depth s ps × (es ≡ insert_all no_entries ps)
+IsTable depth s es = (ps : Entries) × PairsWithin depth s ps × Mean ps es
 
 -- the bytes are no pairs one after another
 abbrev pub IsNoTable : ℕ → List ℕ → Reading → Type 0

@@ -6,7 +6,7 @@ use Rattle.std.proofs.lemmas.Bool.{le-ltb}
 use Rattle.std.proofs.lemmas.List.{length-take-le}
 use Rattle.amqp_value_core.specs.declared.types.amqp_type.AMQPType.{AMQPType}
 use Rattle.amqp_value_core.specs.declared.types.amqp_type.AMQPType.TheVariants as amqp
-use Rattle.amqp_value_core.specs.Values.{Tree, Trees, Entries, no_entries, insert_all, short, long, octets, array, table}
+use Rattle.amqp_value_core.specs.Values.{Tree, Trees, Entries, short, long, octets, array, table}
 use Rattle.amqp_value_core.specs.Layouts.{fixed}
 use Rattle.amqp_value_core.specs.Strings.{IsShort}
 use Rattle.amqp_value_core.specs.Grammar.{short_field, long_field, Raw, raw_short, raw_long, raw_octets, raw_array, raw_table}
@@ -90,8 +90,7 @@ module _ (d : ℕ) (s body rest : List ℕ) (f : IsLengthPrefixed s body rest) w
   -- a table is read if the body is pairs that nest one less
   pub table_found : (es : Entries) → 0 < d → IsTable (d - 1) body es → RawOutcomeWithin d amqp.FieldTable s (found (table es) rest)
   table_found es some p =
-      subst (λ (t : Entries). RawOutcomeWithin d amqp.FieldTable s (found (table t) rest)) (sym p.2)
-      (frame_found_within amqp.FieldTable s body rest refl refl f d (table (insert_all no_entries p.0)) (raw_table body p.0 f.fits p.1.0, omega (arith, p.1.1)))
+      frame_found_within amqp.FieldTable s body rest refl refl f d (table es) (raw_table body p.0 es f.fits p.1.0 p.2, omega (arith, p.1.1))
 
   -- if the body isn't one, no prefix is a table
   no_table : (o : Reading) → IsNoTable (d - 1) body o → PrefixBy (RawWithin d amqp.FieldTable) s o

@@ -24,7 +24,7 @@ flat _ _ _ (raw_short s is) no_array no_table = refl
 flat _ _ _ (raw_long s fits) no_array no_table = refl
 flat _ _ _ (raw_octets s fits) no_array no_table = refl
 flat _ _ _ (raw_array body vs fits all) no_array no_table = absurd (no_array refl)
-flat _ _ _ (raw_table body ps fits all) no_array no_table = absurd (no_table refl)
+flat _ _ _ (raw_table body ps es fits all mean) no_array no_table = absurd (no_table refl)
 
 plain_outcome : (d : ℕ) (type : AMQPType) (s : List ℕ) (o : Reading) → type ≢ amqp.FieldArray → type ≢ amqp.FieldTable → RawOutcome type s o → RawOutcomeWithin d type s o
 plain_outcome d type s o no_array no_table x =

@@ -8,7 +8,8 @@ use Rattle.amqp_value_core.specs.Grammar.{short_field, Wire, Raw, raw_short, Tab
 use Rattle.amqp_value_core.specs.Nesting.{pairs_nesting, PairsWithin, OutcomeWithin}
 use Rattle.amqp_value_core.specs.Outcomes.{Reading, found, more, unknown, malformed, lack, Heavy}
 use Rattle.amqp_value_core.specs.Payloads.{RawOutcome}
-use Rattle.amqp_value_core.proofs.GrammarLaws.{raw_prefix, one_key, one_reading, one_outcome_within, one_raw_outcome, raw_found, wire_found_within, prefix_within}
+use Rattle.amqp_value_core.specs.Maps.{Mean}
+use Rattle.amqp_value_core.proofs.GrammarLaws.{raw_prefix, one_key, one_reading, one_outcome_within, one_raw_outcome, raw_found, wire_found_within, prefix_within, put_mean}
 use Rattle.amq_protocol_types.specs.declared.parsing.errors.Err.TheVariants.{Incomplete, Error, Failure}
 use Rattle.amq_protocol_types.specs.declared.parsing.errors.Needed.TheVariants.{Unknown, Size}
 use Rattle.amq_protocol_types.specs.declared.parsing.errors.ErrorKind.TheVariants.{MapOpt, MapRes, Eof, OutOfMemory, TooLarge}
@@ -87,7 +88,9 @@ TableBodyRead-step d s es left k after v rest g x y =
 
 -- after the last pair
 pub TableBodyRead-end : (d : ℕ) (s : List ℕ) (es : Entries) (rest : List ℕ) → TableBodyRead d s es rest → length rest ≡ 0 → IsTable d s es
-TableBodyRead-end d s es rest g e = g.whole no_entries (subst (λ (t : List ℕ). PairsWithin d t no_entries) (sym (nil_from_length rest e)) (no_pairs, omega arith))
+TableBodyRead-end d s es rest g e =
+    let r = g.whole no_entries (subst (λ (t : List ℕ). PairsWithin d t no_entries) (sym (nil_from_length rest e)) (no_pairs, omega arith)) in
+    (r.0, r.1, subst (Mean r.0) (sym r.2) (put_mean r.0))
 
 -- if a key can't be read there are no pairs
 stuck_at_key : (d : ℕ) (s : List ℕ) (es : Entries) (rest : List ℕ) (o : Reading) → TableBodyRead d s es rest → 0 < length rest → RawOutcome amqp.ShortString rest o
