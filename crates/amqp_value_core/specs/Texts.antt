@@ -1,6 +1,6 @@
 -- The canonical encoding of a value: the one that is written for it.
 use Rattle.std.specs.Prelude.{ℕ, ◌^◌, ◌<◌, List, [], ◌∷◌, ◌++◌, length}
-use Rattle.amqp_value_core.specs.Values.{Tree, scalar, short, long, octets, array, table, Trees, no_trees, tree, Entries, no_entries, entry, type_of, Walk, walk}
+use Rattle.amqp_value_core.specs.Values.{Tree, scalar, short, long, octets, array, table, Trees, no_trees, tree, Entries, no_entries, entry, type_of}
 use Rattle.amqp_value_core.specs.Ids.{id_of}
 use Rattle.amqp_value_core.specs.Layouts.{spelled}
 use Rattle.amqp_value_core.specs.Grammar.{short_field, long_field}
@@ -37,17 +37,19 @@ text v = after_id v (payload v)
 abbrev pub size : Tree → ℕ
 size v = length (text v)
 
--- a length in four bytes, if the payload has one, fits its field
-abbrev pub FieldFits : Tree → Type 0
-FieldFits (long s) = length s < 2 ^ 32
-FieldFits (octets s) = length s < 2 ^ 32
-FieldFits (array vs) = length (body vs) < 2 ^ 32
-FieldFits (table es) = length (pairs es) < 2 ^ 32
-FieldFits _ = Unit {0}
+-- each length in four bytes fits its field: that of the value, and of each in it
+abbrev mutual
+  pub Fits : Tree → Type 0
+  Fits (long s) = length s < 2 ^ 32
+  Fits (octets s) = length s < 2 ^ 32
+  Fits (array vs) = (length (body vs) < 2 ^ 32) × AllFit vs
+  Fits (table es) = (length (pairs es) < 2 ^ 32) × EntriesFit es
+  Fits _ = Unit {0}
 
--- each length in four bytes does: that of the value and of each in it
-abbrev pub fields_fit : Walk (Type 0)
-fields_fit = record { own = FieldFits; holding = λ own all. own × all; none = Unit {0}; beside = λ first others. first × others }
+  pub AllFit : Trees → Type 0
+  AllFit no_trees = Unit {0}
+  AllFit (tree v vs) = Fits v × AllFit vs
 
-abbrev pub Fits : Tree → Type 0
-Fits v = walk fields_fit v
+  pub EntriesFit : Entries → Type 0
+  EntriesFit no_entries = Unit {0}
+  EntriesFit (entry k v es) = Fits v × EntriesFit es

@@ -73,63 +73,53 @@ abbrev pub insert_all : Entries → Entries → Entries
 insert_all es no_entries = es
 insert_all es (entry k v ps) = insert_all (insert k v es) ps
 
--- a way to traverse a value and all that is in it
-pub record Walk {ℓ} (A : Type ℓ) : Type ℓ where
-  -- what a value yields by itself
-  pub own : Tree → A
-  -- what a container yields: from its own, and what the values in it yield
-  pub holding : A → A → A
-  -- what no values yield, and what a value yields with those after it; keys yield nothing
-  pub none : A
-  pub beside : A → A → A
-
--- what a value yields, the values of an array, and those of a table
+-- how deep containers nest: 1 more than what nests deepest in them, so 1 if empty; all that isn't a
+-- container 0
 abbrev mutual
-  pub walk {ℓ} : {A : Type ℓ} → Walk A → Tree → A
-  walk way (array vs) = way.holding (way.own (array vs)) (walk_all way vs)
-  walk way (table es) = way.holding (way.own (table es)) (walk_entries way es)
-  walk way v = way.own v
+  pub depth : Tree → ℕ
+  depth (array vs) = 1 + greatest_depth vs
+  depth (table es) = 1 + entries_depth es
+  depth _ = 0
 
-  pub walk_all {ℓ} : {A : Type ℓ} → Walk A → Trees → A
-  walk_all way no_trees = way.none
-  walk_all way (tree v vs) = way.beside (walk way v) (walk_all way vs)
+  pub greatest_depth : Trees → ℕ
+  greatest_depth no_trees = 0
+  greatest_depth (tree v vs) = max (depth v) (greatest_depth vs)
 
-  pub walk_entries {ℓ} : {A : Type ℓ} → Walk A → Entries → A
-  walk_entries way no_entries = way.none
-  walk_entries way (entry k v es) = way.beside (walk way v) (walk_entries way es)
+  pub entries_depth : Entries → ℕ
+  entries_depth no_entries = 0
+  entries_depth (entry k v es) = max (depth v) (entries_depth es)
 
--- 1 for a container, 0 for anything else
-abbrev pub levels : Tree → ℕ
-levels (array vs) = 1
-levels (table es) = 1
-levels _ = 0
+-- how many values are in the tree, itself included; keys don't count
+abbrev mutual
+  pub count : Tree → ℕ
+  count (array vs) = 1 + count_all vs
+  count (table es) = 1 + entries_count es
+  count _ = 1
 
--- how deep containers nest: an empty one counts 1, all that isn't a container 0
-abbrev pub depths : Walk ℕ
-depths = record { own = levels; holding = ◌+◌; none = 0; beside = max }
+  pub count_all : Trees → ℕ
+  count_all no_trees = 0
+  count_all (tree v vs) = count v + count_all vs
 
-abbrev pub depth : Tree → ℕ
-depth v = walk depths v
+  pub entries_count : Entries → ℕ
+  entries_count no_entries = 0
+  entries_count (entry k v es) = count v + entries_count es
 
--- how many values are in the tree, itself included
-abbrev pub counts : Walk ℕ
-counts = record { own = λ v. 1; holding = ◌+◌; none = 0; beside = ◌+◌ }
+-- whether a value that is written can be read: no value in it is a short string, whose type tag
+-- isn't read; keys don't count
+abbrev mutual
+  pub readable : Tree → Bool
+  readable (short s) = false
+  readable (array vs) = all_readable vs
+  readable (table es) = entries_readable es
+  readable _ = true
 
-abbrev pub count : Tree → ℕ
-count v = walk counts v
+  pub all_readable : Trees → Bool
+  all_readable no_trees = true
+  all_readable (tree v vs) = readable v && all_readable vs
 
--- whether the type tag of a value's type is read: it is of all but a short string
-abbrev pub has_id : Tree → Bool
-has_id (short s) = false
-has_id _ = true
-
--- whether a value that is written can be read: each value in it has a type tag that is read, so
--- no value in it is a short string; keys don't count
-abbrev pub have_ids : Walk Bool
-have_ids = record { own = has_id; holding = ◌&&◌; none = true; beside = ◌&&◌ }
-
-abbrev pub readable : Tree → Bool
-readable v = walk have_ids v
+  pub entries_readable : Entries → Bool
+  entries_readable no_entries = true
+  entries_readable (entry k v es) = readable v && entries_readable es
 
 -- the key comes before each key of the entries, if their keys are ascending
 abbrev pub ComesBefore : List ℕ → Entries → Type 0
