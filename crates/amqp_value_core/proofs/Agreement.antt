@@ -12,7 +12,7 @@ use Rattle.amqp_value_core.specs.Payloads.{RawOutcome}
 use Rattle.amqp_value_core.specs.Decode.{outcome_by, meaning, outcome, raw_outcome}
 use Rattle.amqp_value_core.proofs.Found.{found_wire, found_raw}
 use Rattle.amqp_value_core.proofs.Limited.{one_outcome_within}
-use Rattle.amqp_value_core.proofs.Outcomes.{NeedsMoreOr-weaker, one_outcome, one_raw_outcome}
+use Rattle.amqp_value_core.proofs.Outcomes.{NeedsMoreOr-weaker, from_cases, one_outcome, one_raw_outcome}
 use Rattle.amqp_value_core.proofs.Nests.{nesting-le, raw_nesting-le}
 use Rattle.amqp_value_core.proofs.Sound.{PrefixOrError, WireEnds, raw_ends, wire_ends, means_spelled}
 
@@ -49,8 +49,8 @@ raw_outcome_only type s o bytes here =
 -- reading that finds only encodings, and each P at the start, results in this outcome
 outcome_by_ends : (depth : ℕ) (P : List ℕ → Tree → Type 0) (s : List ℕ) (o : Reading) → ((w : List ℕ) (v : Tree) → WireWithin depth w v → P w v)
     → ((w rest : List ℕ) (v : Tree) → P w v → s ≡ w ++ rest → o ≡ found v rest) → WireEnds depth s o → OutcomeBy P s o
-outcome_by_ends depth P [] o forget finds ends = ends
-outcome_by_ends depth P (c ∷ b) o forget finds ends = at_kind (kind c) ends where
+outcome_by_ends depth P [] o forget finds ends = from_cases P [] o ends
+outcome_by_ends depth P (c ∷ b) o forget finds ends = from_cases P (c ∷ b) o (at_kind (kind c) ends) where
   at_kind : (k : Option AMQPType) → MatchOption k (o ≡ unknown) (λ type. NeedsMoreOr (lack type b) (PrefixOrError (WireWithin depth) (c ∷ b) o) o)
       → MatchOption k (o ≡ unknown) (λ type. NeedsMoreOr (lack type b) (PrefixBy P (c ∷ b) o) o)
   at_kind None is = is

@@ -8,7 +8,7 @@ pub use Rattle.amqp_value_core.proofs.Spelling.{size_of_scalar, size_of_array, s
 -- outcomes: of a canonical encoding, with more bytes, and that there is one
 pub use Rattle.amqp_value_core.proofs.Reading.{reading_back}
 pub use Rattle.amqp_value_core.proofs.MoreBytes.{NeedsMoreOr-more, more_bytes, more_raw_bytes}
-pub use Rattle.amqp_value_core.proofs.Outcomes.{NeedsMoreOr-weaker, raw_prefix, one_outcome, one_raw_outcome}
+pub use Rattle.amqp_value_core.proofs.Outcomes.{NeedsMoreOr-weaker, raw_prefix, OutcomeByCases, from_cases, to_cases, one_outcome, one_raw_outcome}
 -- the outcome as a function: its cases by what is first
 pub use Rattle.amqp_value_core.proofs.Found.{and_others, and_pairs}
 -- and that no payload but a short string, an array or a table is malformed
@@ -40,6 +40,6 @@ pub use Rattle.amqp_value_core.proofs.Reading.{array_body_within, table_body_wit
 pub use Rattle.amqp_value_core.proofs.TextDepth.{text_within, text_again, depth_within}
 pub use Rattle.amqp_value_core.proofs.Agreement.{within_holds, within_is}
 -- how many bytes a header counts, and how many are missing
-pub use Rattle.amqp_value_core.proofs.Headers.{first_within, fields_lack_cut, fields_lack_known, frame_lack_cut, frame_lack_known, counted-append, extent-raw, length-wire}
+pub use Rattle.amqp_value_core.proofs.Headers.{first_within, fields_lack_cut, fields_lack_known, frame_lack_cut, frame_lack_known, counted-append, extent-raw, lack-raw, length-wire}
 pub use Rattle.amqp_value_core.proofs.Headers.{extent_of as header_extent_of, extent_of-whole as header_extent_of-whole, extent_of-append as header_extent_of-append}
 pub use Rattle.amqp_value_core.proofs.Nests.{body_nesting-le, pairs_nesting-le}

@@ -5,7 +5,7 @@ use Rattle.amqp_value_core.specs.declared.types.amqp_type.AMQPType.{AMQPType}
 use Rattle.amqp_value_core.specs.Values.{Tree}
 use Rattle.amqp_value_core.specs.Ids.{kind}
 use Rattle.amqp_value_core.specs.Grammar.{Wire, wire, Raw}
-use Rattle.amqp_value_core.specs.Outcomes.{Reading, found, more, unknown, malformed, lack, NeedsMoreOr, PrefixBy, RawOutcomeBy, OutcomeBy, Outcome}
+use Rattle.amqp_value_core.specs.Outcomes.{Reading, found, more, unknown, malformed, lack, NeedsMoreOr, PrefixBy, RawOutcomeBy, OutcomeBy, no_byte, no_tag, needs_more, at_start, not_at_start, Outcome}
 use Rattle.amqp_value_core.specs.Payloads.{RawOutcome}
 use Rattle.amqp_value_core.specs.Nesting.{nesting, WireWithin, RawWithin, OutcomeWithin, RawOutcomeWithin}
 use Rattle.amqp_value_core.specs.Readings.{StillWaits, with_more}
@@ -32,13 +32,11 @@ raw_outcome_same P Q type s o there back x = NeedsMoreOr-weaker (lack type s) (P
 
 outcome_same : (P Q : List ℕ → Tree → Type 0) (s : List ℕ) (o : Reading) → ((b rest : List ℕ) (v : Tree) → s ≡ b ++ rest → P b v → Q b v)
     → ((b rest : List ℕ) (v : Tree) → s ≡ b ++ rest → Q b v → P b v) → OutcomeBy P s o → OutcomeBy Q s o
-outcome_same P Q [] o there back x = x
-outcome_same P Q (c ∷ b) o there back x = by (kind c) x
-  where
-    by : (k : Option AMQPType) → MatchOption k (o ≡ unknown) (λ type. NeedsMoreOr (lack type b) (PrefixBy P (c ∷ b) o) o)
-        → MatchOption k (o ≡ unknown) (λ type. NeedsMoreOr (lack type b) (PrefixBy Q (c ∷ b) o) o)
-    by None e = e
-    by (Some type) y = NeedsMoreOr-weaker (lack type b) (PrefixBy P (c ∷ b) o) (PrefixBy Q (c ∷ b) o) o (prefix_same P Q (c ∷ b) o there back) y
+outcome_same P Q _ _ there back no_byte = no_byte
+outcome_same P Q _ _ there back (no_tag c b k) = no_tag c b k
+outcome_same P Q _ _ there back (needs_more c type b n k e) = needs_more c type b n k e
+outcome_same P Q _ _ there back (at_start w rest v p) = at_start w rest v (there w rest v refl p)
+outcome_same P Q _ _ there back (not_at_start c type b k e none) = not_at_start c type b k e (λ w rest v q is. none w rest v (back w rest v is q) is)
 
 -- ---- within a depth
 
@@ -47,7 +45,7 @@ one_within d b c x y v u p q e = one_reading b c x y v u p.0 q.0 e
 
 -- reading a value within a depth results in one outcome
 pub one_outcome_within : (d : ℕ) (s : List ℕ) (o p : Reading) → OutcomeWithin d s o → OutcomeWithin d s p → o ≡ p
-one_outcome_within d s o p x y = one_outcome_by (WireWithin d) (one_within d) s o p x y
+one_outcome_within d s o p x y = one_outcome_by (WireWithin d) (one_within d) (λ w v p. p.0) s o p x y
 
 -- what is found is at the start
 pub prefix_within : (d : ℕ) (s rest : List ℕ) (v : Tree) → OutcomeWithin d s (found v rest) → (w : List ℕ) × WireWithin d w v × (s ≡ w ++ rest)
@@ -70,7 +68,7 @@ raw_to_value_within d c type b o k x =
 -- and the other way round
 pub value_to_raw_within : (d c : ℕ) (type : AMQPType) (b : List ℕ) (o : Reading) → kind c ≡ Some type → OutcomeWithin d (c ∷ b) o → RawOutcomeWithin d type b o
 value_to_raw_within d c type b o k x =
-    value_to_raw_by (RawWithin d type) (WireWithin d) c type k (λ p v q. (wire c type p v k q.0, q.1)) b (λ w rest v q e. raw_of_wire d c type b w rest v k q.0 q.1 e) o x
+    value_to_raw_by (RawWithin d type) (WireWithin d) c type k (λ p v q. (wire c type p v k q.0, q.1)) b (λ w rest v q e. raw_of_wire d c type b w rest v k q.0 q.1 e) o (λ w v q. q.0) x
 
 -- a complete length-prefixed field results in what its prefix decides
 pub raw_whole_within : (d : ℕ) (type : AMQPType) (s : List ℕ) (o : Reading) → lack type s ≡ 0 → PrefixBy (RawWithin d type) s o → RawOutcomeWithin d type s o

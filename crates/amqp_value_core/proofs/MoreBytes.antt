@@ -5,12 +5,12 @@ use Rattle.amqp_value_core.specs.declared.types.amqp_type.AMQPType.{AMQPType}
 use Rattle.amqp_value_core.specs.Values.{Tree}
 use Rattle.amqp_value_core.specs.Ids.{kind}
 use Rattle.amqp_value_core.specs.Grammar.{Wire, Raw}
-use Rattle.amqp_value_core.specs.Outcomes.{Reading, found, more, unknown, malformed, lack, NeedsMoreOr, PrefixBy, RawOutcomeBy, OutcomeBy, Outcome}
+use Rattle.amqp_value_core.specs.Outcomes.{Reading, found, more, unknown, malformed, lack, NeedsMoreOr, PrefixBy, RawOutcomeBy, OutcomeBy, no_byte, no_tag, needs_more, at_start, not_at_start, Outcome}
 use Rattle.amqp_value_core.specs.Payloads.{RawOutcome}
 use Rattle.amqp_value_core.specs.Readings.{with_more, StillWaits}
 use Rattle.amqp_value_core.proofs.Prefixes.{prefix_inside}
 use Rattle.amqp_value_core.proofs.Headers.{extent, extent-whole, extent-append, extent-raw, lack-whole, lack-append}
-use Rattle.amqp_value_core.proofs.Outcomes.{raw_whole_by, value_to_raw, raw_to_value, unknown_outcome}
+use Rattle.amqp_value_core.proofs.Outcomes.{raw_whole_by, value_to_raw, raw_to_value}
 
 -- a payload at the start of a joined list is in its first part, if that is a complete
 -- length-prefixed field
@@ -50,15 +50,12 @@ module _ (P : List ℕ → Tree → Type 0) (type : AMQPType) (raw : (b : List �
 pub more_bytes_by : (P : List ℕ → Tree → Type 0) (s t : List ℕ) (o : Reading)
     → ((c : ℕ) (type : AMQPType) (b : List ℕ) → kind c ≡ Some type → OutcomeBy P (c ∷ b) o → OutcomeBy P (c ∷ (b ++ t)) (with_more o t))
     → OutcomeBy P s o → StillWaits o t → OutcomeBy P (s ++ t) (with_more o t)
-more_bytes_by P [] t o typed is waits =
-    let less : length t < 1 = subst (λ (r : Reading). StillWaits r t) is waits in
-    subst (λ (x : List ℕ). OutcomeBy P x (with_more o x)) (sym (nil_from_length t (omega arith)))
-    (ap (λ (r : Reading). with_more r []) is)
-more_bytes_by P (c ∷ b) t o typed x waits = by (kind c) refl
-  where
-    by : (k : Option AMQPType) → kind c ≡ k → OutcomeBy P (c ∷ (b ++ t)) (with_more o t)
-    by None k = (unknown_outcome P c (b ++ t) (with_more o t) k).1 (ap (λ (r : Reading). with_more r t) ((unknown_outcome P c b o k).0 x))
-    by (Some type) k = typed c type b k x
+more_bytes_by P _ t _ typed no_byte waits = subst (λ (x : List ℕ). OutcomeBy P x (more (1 - length x))) (sym (nil_from_length t (omega (arith, waits)))) no_byte
+more_bytes_by P _ t _ typed (no_tag c b k) waits = no_tag c (b ++ t) k
+more_bytes_by P _ t _ typed (needs_more c type b n k e) waits = typed c type b k (needs_more c type b n k e)
+more_bytes_by P _ t _ typed (at_start w rest v p) waits =
+    subst (λ (x : List ℕ). OutcomeBy P x (found v (rest ++ t))) (sym (append_assoc w rest t)) (at_start w (rest ++ t) v p)
+more_bytes_by P _ t _ typed (not_at_start c type b k e none) waits = typed c type b k (not_at_start c type b k e none)
 
 -- ---- without a limit
 

@@ -4,7 +4,7 @@ use Rattle.amqp_value_core.specs.declared.types.amqp_type.AMQPType.{AMQPType}
 use Rattle.amqp_value_core.specs.Values.{Tree}
 use Rattle.amqp_value_core.specs.Ids.{kind}
 use Rattle.amqp_value_core.specs.Grammar.{Wire, wire, Raw}
-use Rattle.amqp_value_core.specs.Outcomes.{Reading, found, more, unknown, malformed, lack, NeedsMoreOr, PrefixBy, RawOutcomeBy, OutcomeBy, Outcome, RawHeavy, Heavy}
+use Rattle.amqp_value_core.specs.Outcomes.{Reading, found, more, unknown, malformed, lack, NeedsMoreOr, PrefixBy, RawOutcomeBy, OutcomeBy, no_byte, no_tag, needs_more, at_start, not_at_start, Outcome, RawHeavy, Heavy}
 use Rattle.amqp_value_core.specs.Payloads.{RawPrefix, RawOutcome}
 use Rattle.amqp_value_core.proofs.Prefixes.{one_held}
 use Rattle.amqp_value_core.proofs.Headers.{lack-raw}
@@ -27,21 +27,51 @@ raw_prefix P zero s rest v f = f
 raw_prefix P (suc n) s rest v e = absurd cc
 
 pub prefix_found : (P : List ℕ → Tree → Type 0) (s rest : List ℕ) (v : Tree) → OutcomeBy P s (found v rest) → PrefixBy P s (found v rest)
-prefix_found P [] rest v x = absurd cc
-prefix_found P (c ∷ b) rest v x = by (kind c) x
-  where
-    by : (k : Option AMQPType) → MatchOption k (found v rest ≡ unknown) (λ type. NeedsMoreOr (lack type b) (PrefixBy P (c ∷ b) (found v rest)) (found v rest))
-        → PrefixBy P (c ∷ b) (found v rest)
-    by None e = absurd cc
-    by (Some type) y = raw_prefix P (lack type b) (c ∷ b) rest v y
+prefix_found P _ _ _ (at_start w rest v p) = (w, p, refl)
 
--- the outcome of reading c and b, if k is what c denotes
+-- the outcome of reading c and b by cases, if k is what c denotes
 abbrev OutcomeAt : (List ℕ → Tree → Type 0) → List ℕ → Reading → ℕ → Option AMQPType → Type 0
 OutcomeAt P b o c k = MatchOption k (o ≡ unknown) (λ type. NeedsMoreOr (lack type b) (PrefixBy P (c ∷ b) o) o)
 
--- if the first byte isn't a type tag, that is the outcome
-pub unknown_outcome : (P : List ℕ → Tree → Type 0) (c : ℕ) (b : List ℕ) (o : Reading) → kind c ≡ None → (OutcomeBy P (c ∷ b) o → o ≡ unknown) × (o ≡ unknown → OutcomeBy P (c ∷ b) o)
-unknown_outcome P c b o k = (λ x. subst (OutcomeAt P b o c) k x, λ x. subst (OutcomeAt P b o c) (sym k) x)
+-- the outcome by cases: by what the first byte denotes, and then by what is missing
+abbrev pub OutcomeByCases : (List ℕ → Tree → Type 0) → List ℕ → Reading → Type 0
+OutcomeByCases P [] o = o ≡ more 1
+OutcomeByCases P (c ∷ b) o = OutcomeAt P b o c (kind c)
+
+-- it is the outcome
+pub from_cases : (P : List ℕ → Tree → Type 0) (s : List ℕ) (o : Reading) → OutcomeByCases P s o → OutcomeBy P s o
+from_cases P [] o is = subst (OutcomeBy P []) (sym is) no_byte
+from_cases P (c ∷ b) o x = at_kind (kind c) refl x
+  where
+    whole : (type : AMQPType) (o : Reading) → kind c ≡ Some type → lack type b ≡ 0 → PrefixBy P (c ∷ b) o → OutcomeBy P (c ∷ b) o
+    whole type (found v rest) k e (w, p, is) = subst (λ (s : List ℕ). OutcomeBy P s (found v rest)) (sym is) (at_start w rest v p)
+    whole type malformed k e f = not_at_start c type b k e f
+    whole type (more n) k e f = absurd f
+    whole type unknown k e f = absurd f
+
+    at_lack : (type : AMQPType) (n : ℕ) → kind c ≡ Some type → lack type b ≡ n → NeedsMoreOr n (PrefixBy P (c ∷ b) o) o → OutcomeBy P (c ∷ b) o
+    at_lack type zero k e f = whole type o k e f
+    at_lack type (suc n) k e is = subst (OutcomeBy P (c ∷ b)) (sym is) (needs_more c type b n k e)
+
+    at_kind : (k : Option AMQPType) → kind c ≡ k → OutcomeAt P b o c k → OutcomeBy P (c ∷ b) o
+    at_kind None k is = subst (OutcomeBy P (c ∷ b)) (sym is) (no_tag c b k)
+    at_kind (Some type) k y = at_lack type (lack type b) k refl y
+
+-- with what c denotes and b lacks, that is decided
+at_cases : (P : List ℕ → Tree → Type 0) (c : ℕ) (type : AMQPType) (b : List ℕ) (o : Reading) (n : ℕ) → kind c ≡ Some type → lack type b ≡ n
+    → NeedsMoreOr n (PrefixBy P (c ∷ b) o) o → OutcomeByCases P (c ∷ b) o
+at_cases P c type b o n k e x = subst (OutcomeAt P b o c) (sym k) (subst (λ (m : ℕ). NeedsMoreOr m (PrefixBy P (c ∷ b) o) o) (sym e) x)
+
+start_cases : (P : List ℕ → Tree → Type 0) (w rest : List ℕ) (v : Tree) → P w v → Wire w v → OutcomeByCases P (w ++ rest) (found v rest)
+start_cases P _ rest _ p (wire c type b v k raw) = at_cases P c type (b ++ rest) (found v rest) 0 k (lack-raw type b rest v raw) (c ∷ b, p, refl)
+
+-- and the outcome is by cases, if P holds only of encodings
+pub to_cases : (P : List ℕ → Tree → Type 0) → ((w : List ℕ) (v : Tree) → P w v → Wire w v) → (s : List ℕ) (o : Reading) → OutcomeBy P s o → OutcomeByCases P s o
+to_cases P wires _ _ no_byte = refl
+to_cases P wires _ _ (no_tag c b k) = subst (OutcomeAt P b unknown c) (sym k) refl
+to_cases P wires _ _ (needs_more c type b n k e) = at_cases P c type b (more (suc n)) (suc n) k e refl
+to_cases P wires _ _ (at_start w rest v p) = start_cases P w rest v p (wires w v p)
+to_cases P wires _ _ (not_at_start c type b k e none) = at_cases P c type b malformed 0 k e none
 
 -- P holds of payloads of the type, and Q of these after c, which denotes it
 module _ (P Q : List ℕ → Tree → Type 0) (c : ℕ) (type : AMQPType) (k : kind c ≡ Some type) (tagged : (p : List ℕ) (v : Tree) → P p v → Q (c ∷ p) v) (b : List ℕ)
@@ -62,11 +92,12 @@ module _ (P Q : List ℕ → Tree → Type 0) (c : ℕ) (type : AMQPType) (k : k
 
   -- reading a type tag and then its payload is reading the value
   pub raw_to_value_by : RawOutcomeBy P type b o → OutcomeBy Q (c ∷ b) o
-  raw_to_value_by x = subst (OutcomeAt Q b o c) (sym k) (NeedsMoreOr-weaker (lack type b) (PrefixBy P b o) (PrefixBy Q (c ∷ b) o) o (prefix_from_raw o) x)
+  raw_to_value_by x = from_cases Q (c ∷ b) o (subst (OutcomeAt Q b o c) (sym k) (NeedsMoreOr-weaker (lack type b) (PrefixBy P b o) (PrefixBy Q (c ∷ b) o) o (prefix_from_raw o) x))
 
   -- and the other way round
-  pub value_to_raw_by : OutcomeBy Q (c ∷ b) o → RawOutcomeBy P type b o
-  value_to_raw_by x = NeedsMoreOr-weaker (lack type b) (PrefixBy Q (c ∷ b) o) (PrefixBy P b o) o (raw_from_prefix o) (subst (OutcomeAt Q b o c) k x)
+  pub value_to_raw_by : ((w : List ℕ) (v : Tree) → Q w v → Wire w v) → OutcomeBy Q (c ∷ b) o → RawOutcomeBy P type b o
+  value_to_raw_by wires x =
+      NeedsMoreOr-weaker (lack type b) (PrefixBy Q (c ∷ b) o) (PrefixBy P b o) o (raw_from_prefix o) (subst (OutcomeAt Q b o c) k (to_cases Q wires (c ∷ b) o x))
 
 -- a list has one prefix of which P holds, with one meaning
 abbrev pub HasOnePrefix : (List ℕ → Tree → Type 0) → Type 0
@@ -89,13 +120,17 @@ one_unless : (P : List ℕ → Tree → Type 0) → HasOnePrefix P → (n : ℕ)
 one_unless P one zero s o p f g = one_prefix_outcome P one s o p f g
 one_unless P one (suc n) s o p f g = f ∙ sym g
 
-pub one_outcome_by : (P : List ℕ → Tree → Type 0) → HasOnePrefix P → (s : List ℕ) (o p : Reading) → OutcomeBy P s o → OutcomeBy P s p → o ≡ p
-one_outcome_by P one [] o p x y = x ∙ sym y
-one_outcome_by P one (c ∷ b) o p x y = by (kind c) x y
+one_at : (P : List ℕ → Tree → Type 0) → HasOnePrefix P → (c : ℕ) (b : List ℕ) (o p : Reading) (k : Option AMQPType) → OutcomeAt P b o c k → OutcomeAt P b p c k → o ≡ p
+one_at P one c b o p None f g = f ∙ sym g
+one_at P one c b o p (Some type) f g = one_unless P one (lack type b) (c ∷ b) o p f g
+
+pub one_outcome_by : (P : List ℕ → Tree → Type 0) → HasOnePrefix P → ((w : List ℕ) (v : Tree) → P w v → Wire w v)
+    → (s : List ℕ) (o p : Reading) → OutcomeBy P s o → OutcomeBy P s p → o ≡ p
+one_outcome_by P one wires s o p x y = cases s (to_cases P wires s o x) (to_cases P wires s p y)
   where
-    by : (k : Option AMQPType) → OutcomeAt P b o c k → OutcomeAt P b p c k → o ≡ p
-    by None f g = f ∙ sym g
-    by (Some type) f g = one_unless P one (lack type b) (c ∷ b) o p f g
+    cases : (s : List ℕ) → OutcomeByCases P s o → OutcomeByCases P s p → o ≡ p
+    cases [] x y = x ∙ sym y
+    cases (c ∷ b) x y = one_at P one c b o p (kind c) x y
 
 -- ---- a value and its payload
 
@@ -114,7 +149,7 @@ raw_to_value c type b o k x = raw_to_value_by (Raw type) Wire c type k (λ p v q
 
 -- and the other way round
 pub value_to_raw : (c : ℕ) (type : AMQPType) (b : List ℕ) (o : Reading) → kind c ≡ Some type → Outcome (c ∷ b) o → RawOutcome type b o
-value_to_raw c type b o k x = value_to_raw_by (Raw type) Wire c type k (λ p v q. wire c type p v k q) b (λ w rest v p e. raw_of_wire c type b w rest v k p e) o x
+value_to_raw c type b o k x = value_to_raw_by (Raw type) Wire c type k (λ p v q. wire c type p v k q) b (λ w rest v p e. raw_of_wire c type b w rest v k p e) o (λ w v p. p) x
 
 -- a value allocates if its payload does
 pub raw_to_heavy : (c : ℕ) (type : AMQPType) (b : List ℕ) → kind c ≡ Some type → RawHeavy type b → Heavy (c ∷ b)
@@ -142,4 +177,4 @@ one_raw_outcome type s o p x y = one_unless (Raw type) (one_raw_reading type) (l
 
 -- reading a value results in one outcome
 pub one_outcome : (s : List ℕ) (o p : Reading) → Outcome s o → Outcome s p → o ≡ p
-one_outcome s o p x y = one_outcome_by Wire one_reading s o p x y
+one_outcome s o p x y = one_outcome_by Wire one_reading (λ w v p. p) s o p x y

@@ -13,7 +13,7 @@ use Rattle.amqp_value_core.specs.Texts.{text, body, pairs, Fits}
 use Rattle.amqp_value_core.specs.Members.{all_readable, entries_readable, AllFit, EntriesFit}
 use Rattle.amqp_value_core.specs.InMemory.{IsValue, AreValues, AreEntries}
 use Rattle.amqp_value_core.specs.Readings.{unread, read_back}
-use Rattle.amqp_value_core.specs.Outcomes.{counted, found, malformed, lack, Outcome}
+use Rattle.amqp_value_core.specs.Outcomes.{counted, found, malformed, lack, no_tag, Outcome}
 use Rattle.amqp_value_core.specs.Payloads.{RawPrefix}
 use Rattle.amqp_value_core.proofs.Prefixes.{same_prefixes}
 use Rattle.amqp_value_core.proofs.Headers.{counted-long_field, lack_of-long_field}
@@ -130,7 +130,7 @@ malformed_frame type s rest k whole none =
 -- the canonical encoding of a value that is not readable is rejected
 unreadable : (v : Tree) (rest : List ℕ) → IsValue v → Fits v → readable v ≡ false → Outcome (text v ++ rest) (unread v)
 unreadable (scalar s) rest is fits r = absurd cc
-unreadable (short s) rest is fits r = refl
+unreadable (short s) rest is fits r = no_tag (id_of amqp.ShortString) (short_field s ++ rest) refl
 unreadable (long s) rest is fits r = absurd cc
 unreadable (octets s) rest is fits r = absurd cc
 unreadable (array vs) rest is fits r =

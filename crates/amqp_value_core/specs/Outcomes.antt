@@ -62,12 +62,19 @@ PrefixBy P s _ = ⊥
 abbrev pub RawOutcomeBy : (List ℕ → Tree → Type 0) → AMQPType → List ℕ → Reading → Type 0
 RawOutcomeBy P type s o = NeedsMoreOr (lack type s) (PrefixBy P s o) o
 
--- reading a value from s results in o, by the first of these that holds: there is no byte, and one
--- is needed; the first byte isn't a type tag; more bytes of the payload are needed; P holds of a
--- prefix and a value; it holds of no prefix
-abbrev pub OutcomeBy : (List ℕ → Tree → Type 0) → List ℕ → Reading → Type 0
-OutcomeBy P [] o = o ≡ more 1
-OutcomeBy P (c ∷ b) o = MatchOption (kind c) (o ≡ unknown) (λ type. NeedsMoreOr (lack type b) (PrefixBy P (c ∷ b) o) o)
+-- what reading a value from some bytes results in, if P holds of encodings and their values
+pub data OutcomeBy (P : List ℕ → Tree → Type 0) : List ℕ → Reading → Type 0 where
+  -- there is no byte, and one is needed
+  no_byte : OutcomeBy P [] (more 1)
+  -- the first byte isn't a type tag
+  no_tag : (c : ℕ) → (b : List ℕ) → kind c ≡ None → OutcomeBy P (c ∷ b) unknown
+  -- more bytes of the payload are needed
+  needs_more : (c : ℕ) → (type : AMQPType) → (b : List ℕ) → (n : ℕ) → kind c ≡ Some type → lack type b ≡ suc n → OutcomeBy P (c ∷ b) (more (suc n))
+  -- an encoding is at the start
+  at_start : (w : List ℕ) → (rest : List ℕ) → (v : Tree) → P w v → OutcomeBy P (w ++ rest) (found v rest)
+  -- none is, and the bytes of the payload are all there
+  not_at_start : (c : ℕ) → (type : AMQPType) → (b : List ℕ) → kind c ≡ Some type → lack type b ≡ 0
+      → ((w rest : List ℕ) (v : Tree) → P w v → c ∷ b ≡ w ++ rest → ⊥) → OutcomeBy P (c ∷ b) malformed
 
 -- reading a value from s results in o
 abbrev pub Outcome : List ℕ → Reading → Type 0

@@ -1,5 +1,5 @@
 -- What more bytes change of reading within limits.
-use Rattle.std.proofs.Common.{◌≡◌, ◌<◌, ◌≤◌, ◌+◌, ◌-◌, ℕ, suc, List, [], ◌∷◌, ◌++◌, Option, Some, None, refl, ap, arith}
+use Rattle.std.proofs.Common.{◌≡◌, ◌<◌, ◌≤◌, ℕ, suc, List, [], ◌∷◌, ◌++◌, Option, Some, None, refl, ap, arith}
 use Rattle.amqp_value_core.specs.declared.types.amqp_type.AMQPType.{AMQPType}
 use Rattle.amqp_value_core.specs.Ids.{kind}
 use Rattle.amqp_value_core.specs.Layouts.{fixed}
@@ -44,7 +44,7 @@ extent-whole (c ∷ b) t e = by (kind c) e
 within_append : (l : Limits) (s t : List ℕ) (o : Reading) → Within l s o → StillWaits o t → Within l (s ++ t) (with_more o t)
 within_append l s t (more n) (few, x) fewer =
     (omega (arith, few, extent-append s t (omega (arith, wanted_more (WireWithin l.depth) s n x, fewer))), more_bytes_within l.depth s t (more n) x fewer)
-within_append l s t o (few, x) waits = (omega (arith, few, extent-whole s t (nothing_wanted (WireWithin l.depth) s o x (λ n e. cc))), more_bytes_within l.depth s t o x waits)
+within_append l s t o (few, x) waits = (omega (arith, few, extent-whole s t (nothing_wanted l.depth s o x (λ n e. cc))), more_bytes_within l.depth s t o x waits)
 
 -- and what is too large stays so
 too_large_append : (l : Limits) (s t : List ℕ) → l.frame < extent s → l.frame < extent (s ++ t)

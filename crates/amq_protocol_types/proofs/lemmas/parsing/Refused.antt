@@ -1,15 +1,18 @@
 -- Rejections: what is right of a part is right of all.
-use Rattle.std.proofs.Common.{◌≡◌, ℕ, zero, suc, List, sym}
+use Rattle.std.proofs.Common.{◌≡◌, ◌<◌, ◌≤◌, ◌∙◌, ℕ, zero, suc, List, [], ◌∷◌, length, Option, ap, sym, subst, arith}
 use Rattle.amqp_value_core.specs.declared.types.amqp_type.AMQPType.{AMQPType}
-use Rattle.amqp_value_core.specs.Outcomes.{Reading, more, unknown, malformed, lack, NeedsMoreOr, RawHeavy}
+use Rattle.amqp_value_core.specs.Outcomes.{Reading, more, unknown, malformed, lack, NeedsMoreOr, no_byte, no_tag, needs_more, Outcome, RawHeavy, Heavy}
+use Rattle.amqp_value_core.specs.Nesting.{OutcomeWithin}
 use Rattle.amqp_value_core.specs.Payloads.{RawPrefix, RawOutcome}
 use Rattle.amq_protocol_types.specs.declared.parsing.errors.Err.TheVariants.{Incomplete, Error, Failure}
+use Rattle.amq_protocol_types.specs.declared.parsing.errors.Needed.{Needed}
 use Rattle.amq_protocol_types.specs.declared.parsing.errors.Needed.TheVariants.{Unknown, Size}
 use Rattle.amq_protocol_types.specs.declared.parsing.errors.ErrorKind.{ErrorKind}
 use Rattle.amq_protocol_types.specs.declared.parsing.errors.ErrorKind.TheVariants.{MapOpt, MapRes, Eof, OutOfMemory, TooLarge}
 use Rattle.amq_protocol_types.specs.parsing.Refusals.{Refusal}
 use Rattle.amq_protocol_types.specs.parsing.ParseResults.{RightKind, IsRefusal}
-use Rattle.amq_protocol_types.specs.parsing.PayloadResults.{OnlyLacks, bad_kind, RawRefuses}
+use Rattle.amq_protocol_types.specs.parsing.PayloadResults.{OnlyLacks, bad_kind, RawRefuses, IsNoType}
+use Rattle.amq_protocol_types.specs.parsing.Headers.{extent_at, extent, wanted_at, wanted, IsWholeValue}
 
 -- a kind stays right if what is read stays right
 RightKind-weaker : (Is Now : Reading → Type 0) (k : ErrorKind) → ((o : Reading) → Is o → Now o) → RightKind Is k → RightKind Now k
@@ -46,6 +49,39 @@ raw_refused type s heavy (Error MapRes) kind f x = absurd x
 raw_refused type s heavy (Error OutOfMemory) kind f x = absurd x
 raw_refused type s heavy (Error TooLarge) kind f x = absurd x
 raw_refused type s heavy (Failure k) kind f x = (x.0, f x.1)
+
+-- if no type is read, that is what reading a value results in
+no_type_outcome : (d : ℕ) (s : List ℕ) (o : Reading) → IsNoType s o → OutcomeWithin d s o
+no_type_outcome d [] o e = subst (OutcomeWithin d []) (sym e) no_byte
+no_type_outcome d (c ∷ b) o (e, k) = subst (OutcomeWithin d (c ∷ b)) (sym e) (no_tag c b k)
+
+pub no_type_refused : (d : ℕ) (s : List ℕ) (e : Refusal) → IsRefusal (IsNoType s) ⊥ e → IsRefusal (OutcomeWithin d s) (Heavy s) e
+no_type_refused d s e x = IsRefusal-weaker (IsNoType s) (OutcomeWithin d s) ⊥ (Heavy s) e (no_type_outcome d s) (λ none. absurd none) x
+
+-- of some bytes, that the first isn't a type tag
+pub no_type_unknown : (frame : ℕ) (s : List ℕ) (e : Refusal) → 0 < length s → IsRefusal (IsNoType s) ⊥ e → Outcome s unknown × (extent s ≤ frame)
+no_type_unknown frame [] e some x = absurd (omega arith)
+no_type_unknown frame (c ∷ b) (Error MapOpt) some x = (no_tag c b x.1, omega (arith, ap (λ (o : Option AMQPType). extent_at o b) x.1))
+no_type_unknown frame (c ∷ b) (Error Eof) some x = absurd (let e : malformed ≡ unknown = x.0 in cc)
+no_type_unknown frame (c ∷ b) (Error MapRes) some x = absurd x
+no_type_unknown frame (c ∷ b) (Error OutOfMemory) some x = absurd x
+no_type_unknown frame (c ∷ b) (Error TooLarge) some x = absurd x
+no_type_unknown frame (c ∷ b) (Incomplete Unknown) some x = absurd x
+no_type_unknown frame (c ∷ b) (Incomplete (Size n)) some x = absurd (let e : more n ≡ unknown = x.0 in cc)
+no_type_unknown frame (c ∷ b) (Failure k) some x = absurd x.1
+
+-- whatever the depth
+pub unknown_within : (d : ℕ) (s : List ℕ) → Outcome s unknown → OutcomeWithin d s unknown
+unknown_within d _ (no_tag c b k) = no_tag c b k
+
+-- a value that is all there asks for no more bytes
+pub whole_asks_none : (d : ℕ) (s : List ℕ) (n : Needed) → IsWholeValue s → IsRefusal (OutcomeWithin d s) (Heavy s) (Incomplete n) → ⊥
+whole_asks_none d s Unknown whole x = x
+whole_asks_none d s (Size n) whole x = by s n whole.0 x
+  where
+    by : (s : List ℕ) (n : ℕ) → wanted s ≡ 0 → OutcomeWithin d s (more n) → ⊥
+    by _ _ none no_byte = cc
+    by _ _ none (needs_more c type b n k e) = let some : suc n ≡ 0 = sym (ap (λ (o : Option AMQPType). wanted_at o b) k ∙ e) ∙ none in cc
 
 -- an error that comes only if bytes are missing is an error
 pub OnlyLacks-refuses : (Is : Reading → Type 0) (heavy : Type 0) (e : Refusal) → OnlyLacks Is heavy e → IsRefusal Is heavy e

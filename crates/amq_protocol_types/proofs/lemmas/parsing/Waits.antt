@@ -1,5 +1,5 @@
 -- What is missing of a value that hasn't all come, as more of it comes.
-use Rattle.std.proofs.Common.{◌≡◌, ◌<◌, ◌≤◌, ◌+◌, ◌-◌, ℕ, zero, suc, List, [], ◌∷◌, ◌++◌, length, take, Option, Some, None, MatchOption, refl, ap, ap₂, ◌∙◌, subst, arith, inl, inr, length-append}
+use Rattle.std.proofs.Common.{◌≡◌, ◌<◌, ◌≤◌, ◌+◌, ◌-◌, ℕ, zero, suc, List, [], ◌∷◌, ◌++◌, length, take, Option, Some, None, refl, sym, ap, ap₂, ◌∙◌, subst, arith, inl, inr, length-append}
 use Rattle.std.specs.Option.{IfSome}
 use Rattle.std.specs.Int.{Width, byte_len}
 use Rattle.std.proofs.lemmas.Bool.{cases_lt}
@@ -9,39 +9,40 @@ use Rattle.amqp_value_core.specs.Values.{Tree}
 use Rattle.amqp_value_core.specs.Ids.{kind}
 use Rattle.amqp_value_core.specs.Layouts.{Layout, fixed}
 use Rattle.amqp_value_core.specs.Grammar.{Wire}
-use Rattle.amqp_value_core.specs.Nesting.{OutcomeWithin}
-use Rattle.amqp_value_core.specs.Outcomes.{found, more, unknown, length_field, lack_of, lack, NeedsMoreOr, PrefixBy, OutcomeBy}
-use Rattle.amqp_value_core.proofs.GrammarLaws.{NeedsMoreOr-more, more_bytes, wire_found, prefix_within, first_within, fields_lack_cut, fields_lack_known, frame_lack_cut, frame_lack_known, counted-append}
+use Rattle.amqp_value_core.specs.Nesting.{WireWithin, OutcomeWithin}
+use Rattle.amq_protocol_types.specs.declared.parsing.limits.Limits.{Limits}
+use Rattle.amq_protocol_types.specs.parsing.Refusals.{lacks}
+use Rattle.amq_protocol_types.specs.parsing.Limits.{RefusesWithin}
+use Rattle.amqp_value_core.specs.Outcomes.{found, more, length_field, lack_of, lack, OutcomeBy, no_byte, needs_more}
+use Rattle.amqp_value_core.proofs.GrammarLaws.{more_bytes, prefix_within, first_within, fields_lack_cut, fields_lack_known, frame_lack_cut, frame_lack_known, counted-append}
 use Rattle.amq_protocol_types.specs.parsing.Headers.{extent_of, extent_at, extent, wanted_at, wanted, IsWaiting}
 use Rattle.amq_protocol_types.proofs.lemmas.parsing.Extents.{extent_cut, extent_known}
-use Rattle.amq_protocol_types.proofs.lemmas.parsing.Whole.{found_whole}
+use Rattle.amq_protocol_types.proofs.lemmas.parsing.Whole.{wire_whole}
 use lib.Seq.{take-add}
 
 -- ---- what is missing, and the outcome
 
 -- if bytes are missing, that many are asked for
 pub more_wanted : (P : List ℕ → Tree → Type 0) (s : List ℕ) → 0 < wanted s → OutcomeBy P s (more (wanted s))
-more_wanted P [] h = refl
-more_wanted P (c ∷ b) h = by (kind c) h
+more_wanted P [] h = no_byte
+more_wanted P (c ∷ b) h = by (kind c) refl h
   where
-    by : (k : Option AMQPType) → 0 < wanted_at k b
-        → MatchOption k (more (wanted_at k b) ≡ unknown) (λ type. NeedsMoreOr (lack type b) (PrefixBy P (c ∷ b) (more (wanted_at k b))) (more (wanted_at k b)))
-    by None lt = absurd (omega arith)
-    by (Some type) lt = NeedsMoreOr-more (lack type b) _ lt
+    at : (type : AMQPType) (n : ℕ) → kind c ≡ Some type → lack type b ≡ n → 0 < n → OutcomeBy P (c ∷ b) (more n)
+    at type zero k e lt = absurd (omega arith)
+    at type (suc n) k e lt = needs_more c type b n k e
+
+    by : (k : Option AMQPType) → kind c ≡ k → 0 < wanted_at k b → OutcomeBy P (c ∷ b) (more (wanted_at k b))
+    by None k lt = absurd (omega arith)
+    by (Some type) k lt = at type (lack type b) k refl lt
 
 -- what is asked for is missing
 pub wanted_more : (P : List ℕ → Tree → Type 0) (s : List ℕ) (n : ℕ) → OutcomeBy P s (more n) → wanted s ≡ n
-wanted_more P [] n x = cc
-wanted_more P (c ∷ b) n x = by (kind c) x
-  where
-    at : (m : ℕ) → NeedsMoreOr m (PrefixBy P (c ∷ b) (more n)) (more n) → m ≡ n
-    at zero none = absurd none
-    at (suc m) is = cc
+wanted_more P _ _ no_byte = refl
+wanted_more P _ _ (needs_more c type b n k e) = ap (λ (o : Option AMQPType). wanted_at o b) k ∙ e
 
-    by : (k : Option AMQPType) → MatchOption k (more n ≡ unknown) (λ type. NeedsMoreOr (lack type b) (PrefixBy P (c ∷ b) (more n)) (more n))
-        → wanted_at k b ≡ n
-    by None is = absurd cc
-    by (Some type) y = at (lack type b) y
+-- so an error that asks for what is missing is right
+pub lacks_within : (l : Limits) (s : List ℕ) (n : ℕ) → (extent s ≤ l.frame) × (0 < n) × (n ≡ wanted s) → RefusesWithin l s (lacks n)
+lacks_within l s n h = (h.0, subst (λ (m : ℕ). OutcomeWithin l.depth s (more m)) (sym h.2) (more_wanted (WireWithin l.depth) s (omega (arith, h.1, h.2))))
 
 -- after fewer bytes than are missing, the others are missing
 pub wanted-append : (s m : List ℕ) → length m < wanted s → wanted (s ++ m) ≡ wanted s - length m
@@ -102,7 +103,7 @@ nothing_after frame d s v rest waits x =
       | inl less ↦
           let prefix : take (length w) s ≡ w = ap (take (length w)) f.2 ∙ take_at w rest (length w) refl in
           let lacks : 0 < wanted w = subst (λ (t : List ℕ). 0 < wanted t) prefix (waits (length w) less).0 in
-          let none : wanted (w ++ []) ≡ 0 = (found_whole Wire (w ++ []) [] v (wire_found w [] v f.1.0)).0 in
+          let none : wanted (w ++ []) ≡ 0 = (wire_whole w [] v f.1.0).0 in
           absurd (omega (arith, ap wanted (append-nil w)))
       | inr whole ↦ nil_from_length rest (omega arith)
     ]

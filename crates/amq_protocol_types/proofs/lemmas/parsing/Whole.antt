@@ -1,39 +1,31 @@
 -- When the bytes of the value at the start are all there.
-use Rattle.std.proofs.Common.{◌≡◌, ◌<◌, ◌≤◌, ℕ, zero, suc, List, [], ◌∷◌, Option, Some, None, refl, arith}
+use Rattle.std.proofs.Common.{◌≡◌, ◌<◌, ◌≤◌, ◌∙◌, ℕ, suc, List, [], ◌∷◌, ◌++◌, Option, Some, None, ap, refl, sym, subst, arith}
 use Rattle.std.specs.Prelude.{MatchOption}
 use Rattle.amqp_value_core.specs.declared.types.amqp_type.AMQPType.{AMQPType}
 use Rattle.amqp_value_core.specs.Ids.{kind}
 use Rattle.amqp_value_core.specs.Values.{Tree}
-use Rattle.amqp_value_core.specs.Outcomes.{Reading, found, more, unknown, lack, NeedsMoreOr, PrefixBy, OutcomeBy, RawHeavy, Heavy}
-use Rattle.amqp_value_core.specs.Nesting.{WireWithin}
+use Rattle.amqp_value_core.specs.Outcomes.{Reading, found, more, no_byte, no_tag, needs_more, at_start, not_at_start, RawHeavy, Heavy}
+use Rattle.amqp_value_core.specs.Nesting.{OutcomeWithin}
+use Rattle.amqp_value_core.specs.Grammar.{Wire, wire}
+use Rattle.amqp_value_core.proofs.GrammarLaws.{lack-raw, prefix_within}
 use Rattle.amq_protocol_types.specs.declared.parsing.errors.Err.TheVariants.{Failure}
 use Rattle.amq_protocol_types.specs.declared.parsing.errors.ErrorKind.{ErrorKind}
 use Rattle.amq_protocol_types.specs.declared.parsing.limits.Limits.{Limits}
 use Rattle.amq_protocol_types.specs.parsing.Headers.{extent_at, extent, wanted_at, wanted, IsWholeValue}
 use Rattle.amq_protocol_types.specs.parsing.Limits.{Within, RefusesWithin}
 
+-- all are there if an encoding is at the start
+pub wire_whole : (w rest : List ℕ) (v : Tree) → Wire w v → IsWholeValue (w ++ rest)
+wire_whole _ rest _ (wire c type b v k p) =
+    subst (λ (o : Option AMQPType). (wanted_at o (b ++ rest) ≡ 0) × (0 < extent_at o (b ++ rest))) (sym k) (lack-raw type b rest v p, omega arith)
+
 -- if an outcome asks for no more bytes, none are missing
-nothing_lacks : (P : Type 0) (n : ℕ) (o : Reading) → NeedsMoreOr n P o → ((m : ℕ) → o ≡ more m → ⊥) → n ≡ 0
-nothing_lacks P zero o x no_more = refl
-nothing_lacks P (suc n) o e no_more = absurd (no_more (suc n) e)
-
-pub nothing_wanted : (P : List ℕ → Tree → Type 0) (s : List ℕ) (o : Reading) → OutcomeBy P s o → ((m : ℕ) → o ≡ more m → ⊥) → wanted s ≡ 0
-nothing_wanted P [] o x no_more = absurd (no_more 1 x)
-nothing_wanted P (c ∷ b) o x no_more = by (kind c) x
-  where
-    by : (k : Option AMQPType) → MatchOption k (o ≡ unknown) (λ type. NeedsMoreOr (lack type b) (PrefixBy P (c ∷ b) o) o) → wanted_at k b ≡ 0
-    by None e = refl
-    by (Some type) y = nothing_lacks (PrefixBy P (c ∷ b) o) (lack type b) o y no_more
-
--- all are there if a value is read
-pub found_whole : (P : List ℕ → Tree → Type 0) (s rest : List ℕ) (v : Tree) → OutcomeBy P s (found v rest) → IsWholeValue s
-found_whole P [] rest v x = absurd cc
-found_whole P (c ∷ b) rest v x = by (kind c) x
-  where
-    by : (k : Option AMQPType) → MatchOption k (found v rest ≡ unknown) (λ type. NeedsMoreOr (lack type b) (PrefixBy P (c ∷ b) (found v rest)) (found v rest))
-        → (wanted_at k b ≡ 0) × (0 < extent_at k b)
-    by None e = absurd cc
-    by (Some type) y = (nothing_lacks _ (lack type b) (found v rest) y (λ m e. cc), omega arith)
+pub nothing_wanted : (d : ℕ) (s : List ℕ) (o : Reading) → OutcomeWithin d s o → ((m : ℕ) → o ≡ more m → ⊥) → wanted s ≡ 0
+nothing_wanted d _ _ no_byte no_more = absurd (no_more 1 refl)
+nothing_wanted d _ _ (no_tag c b k) no_more = ap (λ (o : Option AMQPType). wanted_at o b) k
+nothing_wanted d _ _ (needs_more c type b n k e) no_more = absurd (no_more (suc n) refl)
+nothing_wanted d _ _ (at_start w rest v p) no_more = (wire_whole w rest v p.0).0
+nothing_wanted d _ _ (not_at_start c type b k e none) no_more = ap (λ (o : Option AMQPType). wanted_at o b) k ∙ e
 
 -- and if reading allocates
 heavy_whole : (s : List ℕ) → Heavy s → IsWholeValue s
@@ -46,7 +38,9 @@ heavy_whole (c ∷ b) h = by (kind c) h
 
 -- so they are whenever reading within limits allocates, or returns a value
 pub found_all : (l : Limits) (s rest : List ℕ) (v : Tree) → Within l s (found v rest) → (extent s ≤ l.frame) × IsWholeValue s
-found_all l s rest v x = (x.0, found_whole (WireWithin l.depth) s rest v x.1)
+found_all l s rest v x =
+    let p = prefix_within l.depth s rest v x.1 in
+    (x.0, subst IsWholeValue (sym p.2) (wire_whole p.0 rest v p.1.0))
 
 pub failed_all : (l : Limits) (s : List ℕ) (kind : ErrorKind) → RefusesWithin l s (Failure kind) → (extent s ≤ l.frame) × IsWholeValue s
 failed_all l s kind x = (x.0, heavy_whole s x.1.1)

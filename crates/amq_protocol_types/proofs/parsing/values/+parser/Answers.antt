@@ -14,6 +14,7 @@ use Rattle.amqp_value_core.specs.Payloads.{RawOutcome}
 use Rattle.amq_protocol_types.specs.parsing.Gathering.{kept}
 use Rattle.amq_protocol_types.proofs.lemmas.parsing.Bodies.{ArrayBodyRead-start, ArrayBodyRead-step, ArrayBodyRead-end, ArrayBodyRead-refused, rest_shorter}
 use Rattle.amq_protocol_types.proofs.lemmas.parsing.TableBodies.{TableBodyRead-start, TableBodyRead-step, TableBodyRead-end, TableBodyRead-bad_key, TableBodyRead-bad_value, key_shorter}
+use Rattle.amq_protocol_types.proofs.lemmas.parsing.Refused.{no_type_refused}
 use Rattle.amq_protocol_types.proofs.lemmas.parsing.Frames.{array_found, array_refused, array_too_deep, table_found, table_refused, table_too_deep}
 use Rattle.amqp_value_core.specs.Nesting.{RawOutcomeWithin}
 use Rattle.amq_protocol_types.proofs.lemmas.parsing.Plain.{plain_found, plain_arm, unsigned_refuses}
@@ -76,6 +77,11 @@ parse_table_body-returns-then-input_len-eq0 g t c =
     let s = g.I.ParsableInput.bytes c.args.body in
     let none : table_view c.new_in.result ≡ no_entries = ap entries c.new_in.ensures in
     rw none (TableBodyRead-end c.args.depth s no_entries s (TableBodyRead-start c.args.depth s) (omega arith))
+
+pub value_within-returns-in_err-i : goal.value_within-returns-in_err-i
+value_within-returns-in_err-i g t c =
+    let p = err_from_is_err_and c.from_residual.result c.from_residual.ensures.1 in
+    rw (p.1, p.2) (no_type_refused c.args.depth (g.I.ParsableInput.bytes c.args.i) c.in_err-i.field-0.0 c.in_err-i.ensures.id)
 
 pub array_within-returns-in_err-array : goal.array_within-returns-in_err-array
 array_within-returns-in_err-array g t c =
