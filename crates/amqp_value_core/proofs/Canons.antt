@@ -1,5 +1,5 @@
 -- Canonical encodings: each is an encoding, and if it is bytes it is `text` of its value.
-use Rattle.std.proofs.Common.{◌≡◌, ◌≢◌, ◌<◌, ◌^◌, ℕ, zero, suc, Bool, true, false, cond, nat_eq, List, [], ◌∷◌, ◌++◌, length, take, drop, Option, Some, IsTrue, refl, sym, ap, ap₂, ◌∙◌, subst, arith}
+use Rattle.std.proofs.Common.{◌≡◌, ◌≢◌, ℕ, zero, suc, Bool, true, false, cond, nat_eq, List, [], ◌∷◌, ◌++◌, length, take, drop, Option, Some, IsTrue, refl, sym, ap, ap₂, ◌∙◌, subst, arith}
 use Rattle.std.specs.Map.{lookup}
 use Rattle.std.specs.List.{AllByRecursion}
 use Rattle.std.specs.Option.{IfSome}
@@ -9,60 +9,50 @@ use Rattle.std.proofs.lemmas.List.{nil_from_length}
 use Rattle.std.proofs.lemmas.Nat.{be_bytes_2, be_bytes_4, be_bytes_8}
 use Rattle.amqp_value_core.specs.declared.types.amqp_type.AMQPType.{AMQPType}
 use Rattle.amqp_value_core.specs.declared.types.amqp_type.AMQPType.TheVariants as amqp
-use Rattle.amqp_value_core.specs.Values.{boolean, Tree, array, table, Trees, tree, Entries, entry, ComesBefore, scalar_type, readable, type_of}
+use Rattle.amqp_value_core.specs.Values.{boolean, Tree, Trees, Entries, scalar_type, readable, type_of}
 use Rattle.amqp_value_core.specs.Texts.{payload, text, body, pairs, Fits}
 use Rattle.amqp_value_core.specs.Ids.{letters, kind, id_of}
 use Rattle.amqp_value_core.specs.Names.{read_as}
 use Rattle.amqp_value_core.specs.Layouts.{Layout, fixed, truth, spelled}
-use Rattle.amqp_value_core.specs.Strings.{IsShort}
-use Rattle.amqp_value_core.specs.Grammar.{short_field, long_field, Wire, wire, Raw, raw_fixed, raw_short, raw_long, raw_octets, raw_array, raw_table, ArrayBody, no_values, value, TableBody, no_pairs, pair}
+use Rattle.amqp_value_core.specs.Grammar.{short_field, long_field, Wire, wire, Raw, raw_fixed, raw_long, raw_octets, raw_array, raw_table, ArrayBody, no_values, value, TableBody, no_pairs, pair}
 use Rattle.amqp_value_core.specs.Inputs.{IsBytes}
 use Rattle.amqp_value_core.specs.Maps.{IsRising}
-use Rattle.amqp_value_core.specs.Canonical.{IsStrict, IsCanon, IsCanonRaw, IsCanonBody, IsCanonPairs, Canon}
-use Rattle.amqp_value_core.specs.Payloads.{CanonRaw}
-use Rattle.amqp_value_core.specs.Members.{CanonBody, CanonPairs}
+use Rattle.amqp_value_core.specs.Canonical.{IsStrict, Canon, canon, CanonRaw, canon_fixed, canon_long, canon_octets, canon_array, canon_table, CanonBody, canon_no_values, canon_value, CanonPairs, canon_no_pairs, canon_pair}
 use Rattle.amqp_value_core.proofs.Bytes.{bytes_before, bytes_after, byte_at}
-use Rattle.amqp_value_core.proofs.Tables.{rising_pairs, rising_mean, mean_put}
+use Rattle.amqp_value_core.proofs.Tables.{rising_mean}
 use Rattle.amqp_value_core.proofs.Ids.{kind_read}
 use Rattle.amqp_value_core.proofs.Shortest.{what_is_read}
 
 -- ---- they are encodings
 
--- a canonical encoding is an encoding
-pub canon_is_wire : (w : List ℕ) (v : Tree) → Canon w v → Wire w v
-canon_is_wire w v (p, is) = p
+-- the keys of canonical pairs are ascending
+pub canon_rises : (body : List ℕ) (es : Entries) → CanonPairs body es → IsRising es
+canon_rises _ _ canon_no_pairs = tt
+canon_rises _ _ (canon_pair k w rest v es key first before others) = (before, canon_rises rest es others)
+
+mutual
+  -- a canonical encoding is an encoding
+  pub canon_is_wire : (w : List ℕ) (v : Tree) → Canon w v → Wire w v
+  canon_is_wire _ _ (canon c type b v k not_U not_L p) = wire c type b v k (canon_is_raw type b v p)
+
+  canon_is_raw : (type : AMQPType) (b : List ℕ) (v : Tree) → CanonRaw type b v → Raw type b v
+  canon_is_raw _ _ _ (canon_fixed type f b row len strict) = raw_fixed type f b row len
+  canon_is_raw _ _ _ (canon_long s fits) = raw_long s fits
+  canon_is_raw _ _ _ (canon_octets s fits) = raw_octets s fits
+  canon_is_raw _ _ _ (canon_array body vs fits all) = raw_array body vs fits (canon_is_body body vs all)
+  canon_is_raw _ _ _ (canon_table body es fits all) = raw_table body es es fits (canon_is_pairs body es all) (rising_mean es (canon_rises body es all))
+
+  canon_is_body : (body : List ℕ) (vs : Trees) → CanonBody body vs → ArrayBody body vs
+  canon_is_body _ _ canon_no_values = no_values
+  canon_is_body _ _ (canon_value w rest v vs first others) = value w rest v vs (canon_is_wire w v first) (canon_is_body rest vs others)
+
+  canon_is_pairs : (body : List ℕ) (es : Entries) → CanonPairs body es → TableBody body es
+  canon_is_pairs _ _ canon_no_pairs = no_pairs
+  canon_is_pairs _ _ (canon_pair k w rest v es key first before others) = pair k w rest v es key (canon_is_wire w v first) (canon_is_pairs rest es others)
 
 -- its value fits its fields, and is readable
 pub canon_fits : (w : List ℕ) (v : Tree) → Canon w v → Fits v × IsTrue (readable v)
-canon_fits w v (p, is) = what_is_read w v p
-
--- the keys of canonical pairs are ascending
-pub canon_rises : (body : List ℕ) (ps : Entries) (p : TableBody body ps) → IsCanonPairs body ps p → IsRising ps
-canon_rises _ _ no_pairs is = tt
-canon_rises _ _ (pair k w rest v ps key first others) is = (is.0, canon_rises rest ps others is.2)
-
--- ---- from their parts
-
--- a type tag and a canonical payload
-pub canon : (c : ℕ) (type : AMQPType) (b : List ℕ) (v : Tree) → kind c ≡ Some type → c ≢ 85 → c ≢ 76 → CanonRaw type b v → Canon (c ∷ b) v
-canon c type b v k not_U not_L (p, is) = (wire c type b v k p, (not_U, not_L, is))
-
--- the payload of an array, and of a table, whose pairs are its entries since their keys are
--- ascending
-pub canon_array : (body : List ℕ) (vs : Trees) → length body < 2 ^ 32 → CanonBody body vs → CanonRaw amqp.FieldArray (long_field body) (array vs)
-canon_array body vs fits (p, is) = (raw_array body vs fits p, is)
-
-pub canon_table : (body : List ℕ) (es : Entries) → length body < 2 ^ 32 → CanonPairs body es → CanonRaw amqp.FieldTable (long_field body) (table es)
-canon_table body es fits (p, is) = (raw_table body es es fits p (rising_mean es (canon_rises body es p is)), is)
-
--- a value and those after it
-pub canon_value : (w rest : List ℕ) (v : Tree) (vs : Trees) → Canon w v → CanonBody rest vs → CanonBody (w ++ rest) (tree v vs)
-canon_value w rest v vs (p, is) (ps, are) = (value w rest v vs p ps, (is, are))
-
--- a pair and those after it
-pub canon_pair : (k w rest : List ℕ) (v : Tree) (es : Entries) → IsShort k → Canon w v → ComesBefore k es → CanonPairs rest es
-    → CanonPairs (short_field k ++ (w ++ rest)) (entry k v es)
-canon_pair k w rest v es key (p, is) before (ps, are) = (pair k w rest v es key p ps, (before, is, are))
+canon_fits w v p = what_is_read w v (canon_is_wire w v p)
 
 -- ---- type tags
 
@@ -186,42 +176,36 @@ rows_undone _ read = tt
 
 mutual
   -- a canonical encoding of bytes is `text` of its value
-  wire_is_text : (w : List ℕ) (v : Tree) (p : Wire w v) → IsBytes w → IsCanon w v p → w ≡ text v
-  wire_is_text _ _ (wire c type b v k p) bytes is =
-      let same = raw_is_payload type b v p (kind_read c type k) bytes.1 is.2 in
-      ap₂ ◌∷◌ (kind_first c type k is.0 is.1 ∙ ap id_of same.0) same.1
+  pub canon_is_text : (w : List ℕ) (v : Tree) → IsBytes w → Canon w v → w ≡ text v
+  canon_is_text _ _ bytes (canon c type b v k not_U not_L p) =
+      let same = raw_is_payload type b v (kind_read c type k) bytes.1 p in
+      ap₂ ◌∷◌ (kind_first c type k not_U not_L ∙ ap id_of same.0) same.1
 
   -- its payload is that of its value, and has its type
-  raw_is_payload : (type : AMQPType) (b : List ℕ) (v : Tree) (p : Raw type b v) → read_as type ≡ Some type → IsBytes b → IsCanonRaw type b v p
-      → (type ≡ type_of v) × (b ≡ payload v)
-  raw_is_payload _ _ _ (raw_fixed type f b row len) read bytes strict =
+  raw_is_payload : (type : AMQPType) (b : List ℕ) (v : Tree) → read_as type ≡ Some type → IsBytes b → CanonRaw type b v → (type ≡ type_of v) × (b ≡ payload v)
+  raw_is_payload _ _ _ read bytes (canon_fixed type f b row len strict) =
       let is = subst (IsUndone type) row (rows_undone type read) b len strict bytes in
       (is.0, sym is.1)
-  raw_is_payload _ _ _ (raw_short s is) read bytes all = (refl, refl)
-  raw_is_payload _ _ _ (raw_long s fits) read bytes all = (refl, refl)
-  raw_is_payload _ _ _ (raw_octets s fits) read bytes all = (refl, refl)
-  raw_is_payload _ _ _ (raw_array b vs fits p) read bytes all =
-      (refl, ap long_field (body_is_texts b vs p (bytes_after (to_be_bytes w32 (length b)) b bytes) all))
-  raw_is_payload _ _ _ (raw_table b ps es fits p mean) read bytes all =
-      let texts = pairs_are_keyed b ps p (bytes_after (to_be_bytes w32 (length b)) b bytes) all in
-      (refl, ap long_field (texts ∙ ap pairs (sym (mean_put ps es mean ∙ rising_pairs ps (canon_rises b ps p all)))))
+  raw_is_payload _ _ _ read bytes (canon_long s fits) = (refl, refl)
+  raw_is_payload _ _ _ read bytes (canon_octets s fits) = (refl, refl)
+  raw_is_payload _ _ _ read bytes (canon_array b vs fits all) =
+      (refl, ap long_field (body_is_texts b vs (bytes_after (to_be_bytes w32 (length b)) b bytes) all))
+  raw_is_payload _ _ _ read bytes (canon_table b es fits all) =
+      (refl, ap long_field (pairs_are_keyed b es (bytes_after (to_be_bytes w32 (length b)) b bytes) all))
 
   -- canonical encodings one after another are `text` of the values, joined
-  body_is_texts : (b : List ℕ) (vs : Trees) (p : ArrayBody b vs) → IsBytes b → IsCanonBody b vs p → b ≡ body vs
-  body_is_texts _ _ no_values bytes all = refl
-  body_is_texts _ _ (value w more v vs first others) bytes all =
-      ap₂ ◌++◌ (wire_is_text w v first (bytes_before w more bytes) all.0) (body_is_texts more vs others (bytes_after w more bytes) all.1)
+  body_is_texts : (b : List ℕ) (vs : Trees) → IsBytes b → CanonBody b vs → b ≡ body vs
+  body_is_texts _ _ bytes canon_no_values = refl
+  body_is_texts _ _ bytes (canon_value w more v vs first others) =
+      ap₂ ◌++◌ (canon_is_text w v (bytes_before w more bytes) first) (body_is_texts more vs (bytes_after w more bytes) others)
 
   -- with keys before them too
-  pairs_are_keyed : (b : List ℕ) (ps : Entries) (p : TableBody b ps) → IsBytes b → IsCanonPairs b ps p → b ≡ pairs ps
-  pairs_are_keyed _ _ no_pairs bytes all = refl
-  pairs_are_keyed _ _ (pair k w more v ps key first others) bytes all =
+  pairs_are_keyed : (b : List ℕ) (es : Entries) → IsBytes b → CanonPairs b es → b ≡ pairs es
+  pairs_are_keyed _ _ bytes canon_no_pairs = refl
+  pairs_are_keyed _ _ bytes (canon_pair k w more v es key first before others) =
       let after = bytes_after (short_field k) (w ++ more) bytes in
       ap (λ (x : List ℕ). short_field k ++ x)
-      (ap₂ ◌++◌ (wire_is_text w v first (bytes_before w more after) all.1) (pairs_are_keyed more ps others (bytes_after w more after) all.2))
-
-pub canon_is_text : (w : List ℕ) (v : Tree) → IsBytes w → Canon w v → w ≡ text v
-canon_is_text w v bytes (p, is) = wire_is_text w v p bytes is
+      (ap₂ ◌++◌ (canon_is_text w v (bytes_before w more after) first) (pairs_are_keyed more es (bytes_after w more after) others))
 
 -- all of this
 pub canonical_wire : (w : List ℕ) (v : Tree) → Canon w v → IsBytes w → Wire w v × Fits v × IsTrue (readable v) × (w ≡ text v)

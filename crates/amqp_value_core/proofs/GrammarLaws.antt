@@ -20,7 +20,8 @@ pub use Rattle.amqp_value_core.proofs.Tables.{put_found, put_other, key_has_valu
 pub use Rattle.amqp_value_core.proofs.Bounds.{bounds, raw_bounds}
 pub use Rattle.amqp_value_core.proofs.Shortest.{what_is_read, what_raw_reads, read_is_value, raw_value, shortest, same_text_same_value}
 -- canonical encodings by their bytes: each is an encoding and, of bytes, `text`
-pub use Rattle.amqp_value_core.proofs.Canons.{canon_is_wire, canon_fits, canon_is_text, canonical_wire, canon, canon_array, canon_table, canon_value, canon_pair, canon_rises}
+pub use Rattle.amqp_value_core.proofs.Canons.{canon_is_wire, canon_fits, canon_is_text, canonical_wire, canon_rises}
+pub use Rattle.amqp_value_core.specs.Canonical.{canon, canon_array, canon_table, canon_value, canon_pair}
 pub use Rattle.amqp_value_core.proofs.TextCanon.{text_is_canon, is_canonical}
 -- the words of the headline
 pub use Rattle.amqp_value_core.proofs.Headlines.{found_prefix, bounded_wire, bounded_found, is_shortest, injective}

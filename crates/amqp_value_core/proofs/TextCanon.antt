@@ -7,15 +7,14 @@ use Rattle.amqp_value_core.specs.declared.types.amqp_type.AMQPType.TheVariants a
 use Rattle.amqp_value_core.specs.Values.{Scalar, boolean, number, decimal, void, Tree, scalar, short, long, octets, array, table, Trees, no_trees, tree, Entries, no_entries, entry, scalar_type, readable}
 use Rattle.amqp_value_core.specs.Ids.{id_of}
 use Rattle.amqp_value_core.specs.Layouts.{width_of, spelled}
-use Rattle.amqp_value_core.specs.Grammar.{long_field, raw_fixed, raw_long, raw_octets, no_values, no_pairs}
+use Rattle.amqp_value_core.specs.Grammar.{long_field}
 use Rattle.amqp_value_core.specs.Texts.{text, body, pairs, Fits}
-use Rattle.amqp_value_core.specs.Members.{all_readable, entries_readable, AllFit, EntriesFit, CanonBody, CanonPairs}
+use Rattle.amqp_value_core.specs.Members.{all_readable, entries_readable, AllFit, EntriesFit}
 use Rattle.amqp_value_core.specs.InMemory.{IsNumber, IsScalar, IsValue, AreValues, AreEntries}
-use Rattle.amqp_value_core.specs.Canonical.{IsStrict, Canon}
-use Rattle.amqp_value_core.specs.Payloads.{CanonRaw}
+use Rattle.amqp_value_core.specs.Canonical.{IsStrict, Canon, canon, CanonRaw, canon_fixed, canon_long, canon_octets, canon_array, canon_table, CanonBody, canon_no_values, canon_value, CanonPairs, canon_no_pairs, canon_pair}
 use Rattle.amqp_value_core.specs.Headline.{IsCanonical}
 use Rattle.amqp_value_core.proofs.Spelling.{scalar_spelled}
-use Rattle.amqp_value_core.proofs.Canons.{canon, canon_array, canon_table, canon_value, canon_pair, canon_is_text, canon_fits}
+use Rattle.amqp_value_core.proofs.Canons.{canon_is_text, canon_fits}
 
 -- no type tag that is written is an alternate tag
 not_U : (type : AMQPType) → id_of type ≢ 85
@@ -44,7 +43,7 @@ spelled_canon : (x : Scalar) → IsScalar x → CanonRaw (scalar_type x) (spelle
 spelled_canon x is =
     let s = scalar_spelled x is in
     subst (λ (y : Scalar). CanonRaw (scalar_type x) (spelled x) (scalar y)) s.means
-    (raw_fixed (scalar_type x) s.layout (spelled x) s.row s.width, spelled_strict x is)
+    (canon_fixed (scalar_type x) s.layout (spelled x) s.row s.width (spelled_strict x is))
 
 mutual
   -- `text` of a value is a canonical encoding of it
@@ -53,9 +52,9 @@ mutual
       canon (id_of (scalar_type x)) (scalar_type x) (spelled x) (scalar x) (scalar_spelled x is).id (not_U (scalar_type x)) (not_L (scalar_type x)) (spelled_canon x is)
   text_is_canon (short s) is fits r = absurd cc
   text_is_canon (long s) is fits r =
-      canon (id_of amqp.LongString) amqp.LongString (long_field s) (long s) refl (not_U amqp.LongString) (not_L amqp.LongString) (raw_long s fits, tt)
+      canon (id_of amqp.LongString) amqp.LongString (long_field s) (long s) refl (not_U amqp.LongString) (not_L amqp.LongString) (canon_long s fits)
   text_is_canon (octets s) is fits r =
-      canon (id_of amqp.ByteArray) amqp.ByteArray (long_field s) (octets s) refl (not_U amqp.ByteArray) (not_L amqp.ByteArray) (raw_octets s fits, tt)
+      canon (id_of amqp.ByteArray) amqp.ByteArray (long_field s) (octets s) refl (not_U amqp.ByteArray) (not_L amqp.ByteArray) (canon_octets s fits)
   text_is_canon (array vs) is fits r =
       canon (id_of amqp.FieldArray) amqp.FieldArray (long_field (body vs)) (array vs) refl (not_U amqp.FieldArray) (not_L amqp.FieldArray)
       (canon_array (body vs) vs fits.0 (texts_are_canon vs is fits.1 r))
@@ -65,14 +64,14 @@ mutual
 
   -- `text` of values, joined, is canonical encodings one after another
   texts_are_canon : (vs : Trees) → AreValues vs → AllFit vs → IsTrue (all_readable vs) → CanonBody (body vs) vs
-  texts_are_canon no_trees is fits r = (no_values, tt)
+  texts_are_canon no_trees is fits r = canon_no_values
   texts_are_canon (tree v vs) is fits r =
       let both = and_parts (readable v) (all_readable vs) r in
       canon_value (text v) (body vs) v vs (text_is_canon v is.0 fits.0 both.0) (texts_are_canon vs is.1 fits.1 both.1)
 
   -- with keys before them they are canonical pairs
   keyed_are_canon : (es : Entries) → AreEntries es → EntriesFit es → IsTrue (entries_readable es) → CanonPairs (pairs es) es
-  keyed_are_canon no_entries are fits r = (no_pairs, tt)
+  keyed_are_canon no_entries are fits r = canon_no_pairs
   keyed_are_canon (entry k v es) are fits r =
       let both = and_parts (readable v) (entries_readable es) r in
       canon_pair k (text v) (pairs es) v es are.0 (text_is_canon v are.1 fits.0 both.0) are.2 (keyed_are_canon es are.3 fits.1 both.1)

@@ -1,36 +1,40 @@
--- Canonical encodings: those that are known by their bytes alone as the ones that are written. No
--- alternate tag, a boolean's byte is 0 or 1, and each key of a table is above
--- the one before it.
-use Rattle.std.specs.Prelude.{ℕ, ◌<◌, ◌≢◌, List, ◌∷◌}
+-- Canonical encodings: those that are known by their bytes alone as the ones that are written. They
+-- have the rules of *Grammar*, but no alternate tag, 0 or 1 for a boolean's byte, and each key of a
+-- table above the one before it, so that its pairs are its entries.
+use Rattle.std.specs.Prelude.{ℕ, ◌^◌, ◌<◌, ◌≡◌, ◌≢◌, Some, List, [], ◌∷◌, ◌++◌, length}
 use Rattle.amqp_value_core.specs.declared.types.amqp_type.AMQPType.{AMQPType}
 use Rattle.amqp_value_core.specs.declared.types.amqp_type.AMQPType.TheVariants as amqp
-use Rattle.amqp_value_core.specs.Values.{Tree, Trees, Entries, ComesBefore}
-use Rattle.amqp_value_core.specs.Grammar.{Wire, Raw, ArrayBody, TableBody, wire, raw_fixed, raw_array, raw_table, no_values, value, no_pairs, pair}
+use Rattle.amqp_value_core.specs.Values.{Tree, scalar, long, octets, array, table, Trees, no_trees, tree, Entries, no_entries, entry, ComesBefore}
+use Rattle.amqp_value_core.specs.Ids.{kind}
+use Rattle.amqp_value_core.specs.Layouts.{Layout, fixed}
+use Rattle.amqp_value_core.specs.Strings.{IsShort}
+use Rattle.amqp_value_core.specs.Grammar.{short_field, long_field}
 
 -- the byte of a boolean is 0 or 1
 abbrev pub IsStrict : AMQPType → List ℕ → Type 0
 IsStrict amqp.Boolean (c ∷ b) = c < 2
 IsStrict _ b = Unit {0}
 
--- an encoding is canonical: by each type tag, by each boolean, and by each key with the one after it
-abbrev mutual
-  pub IsCanon : (w : List ℕ) (v : Tree) → Wire w v → Type 0
-  IsCanon _ _ (wire c type b v is raw) = (c ≢ 85) × (c ≢ 76) × IsCanonRaw type b v raw
+mutual
+  -- w is the canonical encoding of v
+  pub data Canon : List ℕ → Tree → Type 0 where
+    canon : (c : ℕ) → (type : AMQPType) → (b : List ℕ) → (v : Tree) → kind c ≡ Some type → c ≢ 85 → c ≢ 76 → CanonRaw type b v → Canon (c ∷ b) v
 
-  pub IsCanonRaw : (type : AMQPType) (b : List ℕ) (v : Tree) → Raw type b v → Type 0
-  IsCanonRaw _ _ _ (raw_fixed type f b is wide) = IsStrict type b
-  IsCanonRaw _ _ _ (raw_array body vs fits all) = IsCanonBody body vs all
-  IsCanonRaw _ _ _ (raw_table body ps es fits all mean) = IsCanonPairs body ps all
-  IsCanonRaw _ _ _ _ = Unit {0}
+  -- b is the payload in it
+  pub data CanonRaw : AMQPType → List ℕ → Tree → Type 0 where
+    canon_fixed : (type : AMQPType) → (f : Layout) → (b : List ℕ) → fixed type ≡ Some f → length b ≡ f.width → IsStrict type b → CanonRaw type b (scalar (f.denotes b))
+    canon_long : (s : List ℕ) → length s < 2 ^ 32 → CanonRaw amqp.LongString (long_field s) (long s)
+    canon_octets : (s : List ℕ) → length s < 2 ^ 32 → CanonRaw amqp.ByteArray (long_field s) (octets s)
+    canon_array : (body : List ℕ) → (vs : Trees) → length body < 2 ^ 32 → CanonBody body vs → CanonRaw amqp.FieldArray (long_field body) (array vs)
+    canon_table : (body : List ℕ) → (es : Entries) → length body < 2 ^ 32 → CanonPairs body es → CanonRaw amqp.FieldTable (long_field body) (table es)
 
-  pub IsCanonBody : (body : List ℕ) (vs : Trees) → ArrayBody body vs → Type 0
-  IsCanonBody _ _ no_values = Unit {0}
-  IsCanonBody _ _ (value w rest v vs first others) = IsCanon w v first × IsCanonBody rest vs others
+  -- the bytes are canonical encodings of these values, one after another
+  pub data CanonBody : List ℕ → Trees → Type 0 where
+    canon_no_values : CanonBody [] no_trees
+    canon_value : (w : List ℕ) → (rest : List ℕ) → (v : Tree) → (vs : Trees) → Canon w v → CanonBody rest vs → CanonBody (w ++ rest) (tree v vs)
 
-  pub IsCanonPairs : (body : List ℕ) (ps : Entries) → TableBody body ps → Type 0
-  IsCanonPairs _ _ no_pairs = Unit {0}
-  IsCanonPairs _ _ (pair k w rest v ps key first others) = ComesBefore k ps × IsCanon w v first × IsCanonPairs rest ps others
-
--- w is the canonical encoding of v
-abbrev pub Canon : List ℕ → Tree → Type 0
-Canon w v = (p : Wire w v) × IsCanon w v p
+  -- the bytes are these pairs one after another, each key above the one before it
+  pub data CanonPairs : List ℕ → Entries → Type 0 where
+    canon_no_pairs : CanonPairs [] no_entries
+    canon_pair : (k : List ℕ) → (w : List ℕ) → (rest : List ℕ) → (v : Tree) → (es : Entries) → IsShort k → Canon w v → ComesBefore k es → CanonPairs rest es
+        → CanonPairs (short_field k ++ (w ++ rest)) (entry k v es)

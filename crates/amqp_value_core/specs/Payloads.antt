@@ -1,10 +1,10 @@
 -- A value's type and its payload apart. An encoding is a type tag of the type, and a payload.
 use Rattle.std.specs.Prelude.{ℕ, List}
 use Rattle.amqp_value_core.specs.declared.types.amqp_type.AMQPType.{AMQPType}
-use Rattle.amqp_value_core.specs.Values.{Tree}
 use Rattle.amqp_value_core.specs.Grammar.{Raw}
-use Rattle.amqp_value_core.specs.Canonical.{IsCanonRaw}
 use Rattle.amqp_value_core.specs.Outcomes.{Reading, PrefixBy, RawOutcomeBy}
+
+pub use Rattle.amqp_value_core.specs.Canonical.{CanonRaw}
 
 -- a prefix of s is a payload of the type, or no prefix is
 abbrev pub RawPrefix : AMQPType → List ℕ → Reading → Type 0
@@ -13,7 +13,3 @@ RawPrefix type s o = PrefixBy (Raw type) s o
 -- reading a payload of the type from s results in o
 abbrev pub RawOutcome : AMQPType → List ℕ → Reading → Type 0
 RawOutcome type s o = RawOutcomeBy (Raw type) type s o
-
--- b is the payload in a canonical encoding of v
-abbrev pub CanonRaw : AMQPType → List ℕ → Tree → Type 0
-CanonRaw type b v = (p : Raw type b v) × IsCanonRaw type b v p
