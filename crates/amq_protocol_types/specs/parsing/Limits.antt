@@ -5,17 +5,17 @@ use Rattle.amqp_value_core.specs.Grammar.{Wire}
 use Rattle.amqp_value_core.specs.Headline.{IsWritableIn}
 use Rattle.amqp_value_core.specs.Nesting.{WireWithin, OutcomeWithin}
 use Rattle.amqp_value_core.specs.Inputs.{IsBytes}
-use Rattle.amqp_value_core.specs.Outcomes.{Reading, found, unknown, Outcome, Heavy}
+use Rattle.amqp_value_core.specs.Outcomes.{Reading, found, more, unknown, malformed, Outcome, Heavy}
 use Rattle.amqp_value_core.specs.Readings.{StillWaits, with_more}
 use Rattle.amqp_value_core.specs.Texts.{text, size, Fits}
 use Rattle.amqp_value_core.specs.InMemory.{IsValue}
-use Rattle.amq_protocol_types.specs.declared.parsing.errors.Err.TheVariants.{Error}
-use Rattle.amq_protocol_types.specs.declared.parsing.errors.ErrorKind.TheVariants.{TooLarge}
+use Rattle.amq_protocol_types.specs.declared.parsing.errors.Err.TheVariants.{Incomplete, Error, Failure}
+use Rattle.amq_protocol_types.specs.declared.parsing.errors.Needed.TheVariants.{Size}
+use Rattle.amq_protocol_types.specs.declared.parsing.errors.ErrorKind.TheVariants.{MapOpt, Eof, OutOfMemory, TooLarge}
 use Rattle.amq_protocol_types.specs.declared.parsing.header.Header.{Header}
 use Rattle.amq_protocol_types.specs.declared.parsing.header.Header.TheVariants as header
 use Rattle.amq_protocol_types.specs.declared.parsing.limits.Limits.{Limits}
 use Rattle.amq_protocol_types.specs.parsing.Refusals.{Refusal}
-use Rattle.amq_protocol_types.specs.parsing.ParseResults.{IsRefusal}
 use Rattle.amq_protocol_types.specs.parsing.Headers.{extent, wanted, IsWholeValue}
 
 -- reading s within limits results in o: the value has no more bytes than the limit `frame` allows,
@@ -23,10 +23,15 @@ use Rattle.amq_protocol_types.specs.parsing.Headers.{extent, wanted, IsWholeValu
 abbrev pub Within : Limits → List ℕ → Reading → Type 0
 Within l s o = (extent s ≤ l.frame) × OutcomeWithin l.depth s o
 
--- an error of reading s within limits is right
+-- an error of reading s within limits is right: those of reading without a limit, and that the value
+-- is too large
 abbrev pub RefusesWithin : Limits → List ℕ → Refusal → Type 0
 RefusesWithin l s (Error TooLarge) = l.frame < extent s
-RefusesWithin l s e = (extent s ≤ l.frame) × IsRefusal (OutcomeWithin l.depth s) (Heavy s) e
+RefusesWithin l s (Incomplete (Size n)) = Within l s (more n)
+RefusesWithin l s (Error MapOpt) = Within l s unknown
+RefusesWithin l s (Error Eof) = Within l s malformed
+RefusesWithin l s (Failure kind) = (extent s ≤ l.frame) × ((kind ≡ OutOfMemory) × Heavy s)
+RefusesWithin l s _ = ⊥
 
 -- reading s within limits results in exactly one outcome, and in none if the value is too large
 abbrev pub HasOneOutcomeWithin : Limits → List ℕ → Type 0

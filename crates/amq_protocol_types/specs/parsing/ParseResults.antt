@@ -1,6 +1,6 @@
 -- What the parsers return.
 use Rattle.std.specs.Prelude.{ℕ, ◌≡◌, List, ◌++◌}
-use Rattle.amqp_value_core.specs.Outcomes.{Reading, more, unknown, malformed, Outcome}
+use Rattle.amqp_value_core.specs.Outcomes.{Reading, more, unknown, malformed, Outcome, Heavy}
 use Rattle.amqp_value_core.specs.Readings.{StillWaits, with_more}
 use Rattle.amq_protocol_types.specs.declared.parsing.errors.Err.TheVariants.{Incomplete, Error, Failure}
 use Rattle.amq_protocol_types.specs.declared.parsing.errors.Needed.TheVariants.{Unknown, Size}
@@ -8,11 +8,14 @@ use Rattle.amq_protocol_types.specs.declared.parsing.errors.ErrorKind.{ErrorKind
 use Rattle.amq_protocol_types.specs.declared.parsing.errors.ErrorKind.TheVariants.{MapOpt, Eof, OutOfMemory}
 use Rattle.amq_protocol_types.specs.parsing.Refusals.{Refusal}
 
--- an error of the kind is right: the input reads as the kind states
-abbrev pub RightKind : (Reading → Type 0) → ErrorKind → Type 0
-RightKind Is MapOpt = Is unknown
-RightKind Is Eof = Is malformed
-RightKind Is _ = ⊥
+-- an error of reading a value from s is right: that many more bytes are needed, the first byte isn't a
+-- type tag, no prefix is an encoding, or an allocation failed
+abbrev pub Refuses : List ℕ → Refusal → Type 0
+Refuses s (Incomplete (Size n)) = Outcome s (more n)
+Refuses s (Error MapOpt) = Outcome s unknown
+Refuses s (Error Eof) = Outcome s malformed
+Refuses s (Failure kind) = (kind ≡ OutOfMemory) × Heavy s
+Refuses s _ = ⊥
 
 -- an error is right, if `IsError` states which kinds of `Error` are, `Is` what reading the input
 -- results in, and memory may run out only if `heavy` holds
@@ -22,9 +25,14 @@ RefusesAs IsError Is heavy (Incomplete (Size n)) = Is (more n)
 RefusesAs IsError Is heavy (Error kind) = IsError kind
 RefusesAs IsError Is heavy (Failure kind) = (kind ≡ OutOfMemory) × heavy
 
--- an error of reading a value is right
+-- an error is right as it is of reading a value, if `Is` states what reading the input results in, and
+-- `heavy` whether that allocates
 abbrev pub IsRefusal : (Reading → Type 0) → Type 0 → Refusal → Type 0
-IsRefusal Is heavy e = RefusesAs (RightKind Is) Is heavy e
+IsRefusal Is heavy (Incomplete (Size n)) = Is (more n)
+IsRefusal Is heavy (Error MapOpt) = Is unknown
+IsRefusal Is heavy (Error Eof) = Is malformed
+IsRefusal Is heavy (Failure kind) = (kind ≡ OutOfMemory) × heavy
+IsRefusal Is heavy _ = ⊥
 
 -- reading s results in exactly one outcome: the value, the rest and the error are determined
 abbrev pub HasOneOutcome : List ℕ → Type 0

@@ -8,7 +8,7 @@ ghost use Rattle.amqp_value_core.specs.Payloads.{RawOutcome};
 ghost use Rattle.amqp_value_core.specs.View.{view};
 ghost use Rattle.amqp_value_core.specs.Containers.{array_view, table_view};
 ghost use Rattle.amqp_value_core.specs.Headline.{IsWritableIn};
-ghost use Rattle.amq_protocol_types.specs.parsing.ParseResults.{IsRefusal, HasOneOutcome, KeepsOutcome};
+ghost use Rattle.amq_protocol_types.specs.parsing.ParseResults.{Refuses, IsRefusal, HasOneOutcome, KeepsOutcome};
 ghost use Rattle.amq_protocol_types.specs.parsing.PayloadResults.{RawRefuses};
 ghost use Rattle.amq_protocol_types.specs.parsing.Bodies.{IsNoBody, IsTable, IsNoTable};
 
@@ -41,7 +41,7 @@ use std::alloc::Global;
 pub fn parse_value<I: ParsableInput>(alloc: Global, i: I) -> ParserResult<I, AMQPValue>
     ensures outcome { MatchResult result
         (λ x. Outcome (I.bytes i) (found (view x.1) (I.bytes x.0)))
-        (IsRefusal (Outcome (I.bytes i)) (Heavy (I.bytes i))) }
+        (Refuses (I.bytes i)) }
     ensures one { HasOneOutcome (I.bytes i) }
     ensures more_bytes { KeepsOutcome (I.bytes i) }
     ensures bounded { IfOk result (λ x.

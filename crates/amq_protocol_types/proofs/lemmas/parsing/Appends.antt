@@ -54,8 +54,8 @@ pub refused_append : (l : Limits) (s t : List ℕ) (k : ErrorKind) → RefusesWi
 refused_append l s t TooLarge x = too_large_append l s t x
 refused_append l s t MapOpt x = within_append l s t unknown x tt
 refused_append l s t Eof x = within_append l s t malformed x tt
-refused_append l s t MapRes (few, x) = absurd x
-refused_append l s t OutOfMemory (few, x) = absurd x
+refused_append l s t MapRes x = absurd x
+refused_append l s t OutOfMemory x = absurd x
 
 keeps_outcome_within : (l : Limits) (s : List ℕ) → KeepsOutcomeWithin l s
 keeps_outcome_within l s = (λ o t x waits. within_append l s t o x waits, λ t large. too_large_append l s t large)

@@ -7,27 +7,22 @@ use Rattle.amqp_value_core.specs.Payloads.{RawPrefix, RawOutcome}
 use Rattle.amq_protocol_types.specs.declared.parsing.errors.Err.TheVariants.{Incomplete, Error, Failure}
 use Rattle.amq_protocol_types.specs.declared.parsing.errors.Needed.{Needed}
 use Rattle.amq_protocol_types.specs.declared.parsing.errors.Needed.TheVariants.{Unknown, Size}
-use Rattle.amq_protocol_types.specs.declared.parsing.errors.ErrorKind.{ErrorKind}
 use Rattle.amq_protocol_types.specs.declared.parsing.errors.ErrorKind.TheVariants.{MapOpt, MapRes, Eof, OutOfMemory, TooLarge}
 use Rattle.amq_protocol_types.specs.parsing.Refusals.{Refusal}
-use Rattle.amq_protocol_types.specs.parsing.ParseResults.{RightKind, IsRefusal}
+use Rattle.amq_protocol_types.specs.parsing.ParseResults.{IsRefusal}
 use Rattle.amq_protocol_types.specs.parsing.PayloadResults.{OnlyLacks, bad_kind, RawRefuses, IsNoType}
 use Rattle.amq_protocol_types.specs.parsing.Headers.{extent_at, extent, wanted_at, wanted, IsWholeValue}
-
--- a kind stays right if what is read stays right
-RightKind-weaker : (Is Now : Reading → Type 0) (k : ErrorKind) → ((o : Reading) → Is o → Now o) → RightKind Is k → RightKind Now k
-RightKind-weaker Is Now MapOpt f x = f unknown x
-RightKind-weaker Is Now Eof f x = f malformed x
-RightKind-weaker Is Now MapRes f x = x
-RightKind-weaker Is Now OutOfMemory f x = x
-RightKind-weaker Is Now TooLarge f x = x
 
 -- an error stays right if what is read and when it allocates stay right
 pub IsRefusal-weaker : (Is Now : Reading → Type 0) (heavy now : Type 0) (e : Refusal) → ((o : Reading) → Is o → Now o) → (heavy → now)
     → IsRefusal Is heavy e → IsRefusal Now now e
 IsRefusal-weaker Is Now heavy now (Incomplete Unknown) f h x = x
 IsRefusal-weaker Is Now heavy now (Incomplete (Size n)) f h x = f (more n) x
-IsRefusal-weaker Is Now heavy now (Error k) f h x = RightKind-weaker Is Now k f x
+IsRefusal-weaker Is Now heavy now (Error MapOpt) f h x = f unknown x
+IsRefusal-weaker Is Now heavy now (Error Eof) f h x = f malformed x
+IsRefusal-weaker Is Now heavy now (Error MapRes) f h x = x
+IsRefusal-weaker Is Now heavy now (Error OutOfMemory) f h x = x
+IsRefusal-weaker Is Now heavy now (Error TooLarge) f h x = x
 IsRefusal-weaker Is Now heavy now (Failure k) f h x = (x.0, h x.1)
 
 -- a payload is never of an unknown type

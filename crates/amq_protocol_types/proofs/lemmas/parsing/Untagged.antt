@@ -8,6 +8,7 @@ use Rattle.amqp_value_core.specs.Nesting.{OutcomeWithin, RawOutcomeWithin}
 use Rattle.amqp_value_core.specs.Outcomes.{found, RawHeavy, Heavy}
 use Rattle.amqp_value_core.proofs.GrammarLaws.{raw_to_value_within, value_to_raw_within, raw_to_heavy}
 use Rattle.amq_protocol_types.specs.declared.parsing.errors.Err.TheVariants.{Incomplete, Error, Failure}
+use Rattle.amq_protocol_types.specs.declared.parsing.errors.Needed.TheVariants.{Unknown, Size}
 use Rattle.amq_protocol_types.specs.declared.parsing.errors.ErrorKind.TheVariants.{MapOpt, MapRes, Eof, OutOfMemory, TooLarge}
 use Rattle.amq_protocol_types.specs.declared.parsing.limits.Limits.{Limits}
 use Rattle.amq_protocol_types.specs.parsing.Refusals.{Refusal}
@@ -20,7 +21,8 @@ use Rattle.amq_protocol_types.proofs.lemmas.parsing.Refused.{IsRefusal-weaker}
 
 -- an error of reading a value that isn't too large is right within limits
 limited_refusal : (l : Limits) (s : List ℕ) (e : Refusal) → extent s ≤ l.frame → IsRefusal (OutcomeWithin l.depth s) (Heavy s) e → RefusesWithin l s e
-limited_refusal l s (Incomplete n) few x = (few, x)
+limited_refusal l s (Incomplete Unknown) few x = absurd x
+limited_refusal l s (Incomplete (Size n)) few x = (few, x)
 limited_refusal l s (Error MapOpt) few x = (few, x)
 limited_refusal l s (Error MapRes) few x = absurd x
 limited_refusal l s (Error Eof) few x = (few, x)
