@@ -33,8 +33,8 @@ refusal_appends {s = s} {t = t} same = record { more = []; appended = nothing_ap
 
 -- what was written is appended, and a rejected write leaves a buffer's bytes
 pub write_appends : {b : Bool} {A : Type 0} {xs : List ℕ} {s t : OutputState} {r : Result (Unit {0}) GenError} → b ≡ true → Writes b A xs s r t → OnlyAppends s r t
-write_appends {xs = xs} {r = Ok _} e p = record { more = xs; appended = p.appended; tail = p.tail }
-write_appends {r = Err _} e p = refusal_appends (p.kept (subst IsTrue (sym e) refl))
+write_appends {xs = xs} {r = Ok _} e p = record { more = xs; appended = p.wrote.appended; tail = p.wrote.tail }
+write_appends {r = Err _} e p = refusal_appends (p.stays (subst IsTrue (sym e) refl)).written
 
 -- what appends and then appends again only appends
 pub then_appends : {s t u : OutputState} {r : Result (Unit {0}) GenError} → OnlyAppends s (Ok tt) t → OnlyAppends t r u → OnlyAppends s r u
@@ -54,7 +54,7 @@ then_appends {s = s} {t = t} {u = u} {r = r} p q = record {
 pub taken_back : {s t u w : OutputState} {r : Result (Unit {0}) GenError} (at : ℕ) → at ≡ s.position → IsConsistentOutput s → Writes true ⊤ (replicate 4 0) s (Ok tt) t → OnlyAppends t r u → TruncatesTo at u w → w.written ≡ s.written
 taken_back {s = s} {t = t} {u = u} {w = w} at place whole p o back =
     reported_back s.written u.written w.written s.position (replicate 4 0 ++ o.more) whole.counted whole.written
-    (Appends-trans s.written t.written u.written (replicate 4 0) o.more p.appended o.appended)
+    (Appends-trans s.written t.written u.written (replicate 4 0) o.more p.wrote.appended o.appended)
     (back.written ∙ ap (λ n. option_map (take n) u.written) place)
 
 -- a call appended after four reserved bytes, which were then filled with the number of what it
@@ -75,7 +75,7 @@ module _ {W : Type 0} (seen : W → OutputState) (may : WriteContext W → Resul
 
   -- the four bytes and those after them
   both : Appends s.written u.written (replicate 4 0 ++ o.more)
-  both = Appends-trans s.written (state_of seen before).written u.written (replicate 4 0) o.more reserved.zeros.appended o.appended
+  both = Appends-trans s.written (state_of seen before).written u.written (replicate 4 0) o.more reserved.zeros.wrote.appended o.appended
 
   -- how many they are
   size : u.position - at - 4 ≡ length o.more
@@ -85,7 +85,7 @@ module _ {W : Type 0} (seen : W → OutputState) (may : WriteContext W → Resul
   rest : u.tail ≡ drop (length (long_field o.more)) s.tail
   rest =
       let sum : 4 + length o.more ≡ length (long_field o.more) = omega arith in
-      o.tail ∙ ap (drop (length o.more)) reserved.zeros.tail ∙ drop-drop (length o.more) 4 s.tail ∙ ap (λ n. drop n s.tail) sum
+      o.tail ∙ ap (drop (length o.more)) reserved.zeros.wrote.tail ∙ drop-drop (length o.more) 4 s.tail ∙ ap (λ n. drop n s.tail) sum
 
   module _ (e : w ≡ filled u at (to_be_bytes w32 (u.position - at - 4))) where
     -- the number is that of what was appended

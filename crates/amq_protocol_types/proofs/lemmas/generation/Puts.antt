@@ -1,5 +1,5 @@
 -- Lemmas on bytes that are put one after another, to any output.
-use Rattle.std.proofs.Common.{◌≡◌, ℕ, ◌+◌, ◌-◌, ◌≤◌, inl, Bool, IsTrue, Option, Some, None, IfSome, Ok, Err, List, [], ◌∷◌, ◌++◌, length, refl, sym, ap, ◌∙◌, subst, arith, length-append}
+use Rattle.std.proofs.Common.{◌≡◌, ℕ, ◌+◌, ◌-◌, ◌≤◌, inl, Bool, IsTrue, Option, Some, None, IfSome, Result, Ok, Err, List, [], ◌∷◌, ◌++◌, length, refl, sym, ap, ◌∙◌, subst, arith, length-append}
 use Rattle.std.specs.Option.{option_map}
 use Rattle.std.proofs.lemmas.Bool.{false≢true}
 use Rattle.amq_protocol_types.specs.declared.generation.error.GenError.{GenError}
@@ -34,23 +34,19 @@ pub capacity_refused : {b : Bool} {n : ℕ} {s t : OutputState} {e : GenError} (
 capacity_refused {b = b} {n = n} {s = s} {t = t} {e = e} all count m =
     let P : ℕ → Type 0 = λ k. PromisesCapacity b k s (Err e) t in
     let r = subst P count m in
+    let failed : GenError → Result (Unit {0}) GenError = λ d. Err d in
     record {
-      appended = tt;
-      moved = tt;
-      tail = tt;
-      stayed = λ _. r.position;
-      kept = λ _. r.written;
-      capacity_kept = λ _. r.capacity;
-      fits = tt;
-      capacity = tt;
-      capacity_left = tt;
+      wrote = tt;
+      stays = λ _. record { position = r.position; written = r.written; capacity = r.capacity };
       succeeds = λ _. r.succeeds;
-      too_small = r.too_small;
-      too_long = λ is _. r.too_long is;
-      failed = r.failed;
-      offset = r.offset;
-      memory = r.memory;
-      no_other = λ fixed. inl (r.no_other fixed);
+      fails = record {
+        too_small = λ is. r.too_small (ap failed is);
+        too_long = λ is _. r.too_long (ap failed is);
+        failed = r.failed;
+        offset = λ is. r.offset (ap failed is);
+        memory = λ is. r.memory (ap failed is);
+        no_other = λ fixed. inl (r.no_other fixed);
+      };
       faults = r.faults;
     }
 
@@ -70,22 +66,17 @@ refused_later {b = b} {n = n} {done = xs} {ys = ys} {s = s} {t = t} {u = u} {e =
     let kept : length ys ≤ t.promise = omega (arith, so_far.promise is) in
     false≢true (new.promised kept) in
     record {
-      appended = tt;
-      moved = tt;
-      tail = tt;
-      stayed = λ is. absurd (no_buffer is);
-      kept = λ is. absurd (no_buffer is);
-      capacity_kept = λ is. absurd (no_buffer is);
-      fits = tt;
-      capacity = tt;
-      capacity_left = tt;
-      succeeds = λ _. rest_fits _ s.capacity t.capacity _ _ _ long p.capacity_left (q.succeeds tt);
-      too_small = λ is. both_too_many s.capacity t.capacity _ _ _ long p.capacity p.capacity_left (q.too_small is);
-      too_long = λ is. q.too_long is;
-      failed = λ kind is. failed_since s t u u p.faults refl (q.failed kind is);
-      offset = λ is. omega (arith, q.offset is, p.moved);
-      memory = λ is. q.memory is;
-      no_other = λ fixed. q.no_other (still_fixed s.capacity t.capacity _ p.capacity_left fixed);
+      wrote = tt;
+      stays = λ is. absurd (no_buffer is);
+      succeeds = λ _. rest_fits _ s.capacity t.capacity _ _ _ long p.wrote.capacity_left (q.succeeds tt);
+      fails = record {
+        too_small = λ is. both_too_many s.capacity t.capacity _ _ _ long p.wrote.capacity p.wrote.capacity_left (q.fails.too_small is);
+        too_long = λ is. q.fails.too_long is;
+        failed = λ kind is. failed_since s t u u p.faults refl (q.fails.failed kind is);
+        offset = λ is. omega (arith, q.fails.offset is, p.wrote.moved);
+        memory = λ is. q.fails.memory is;
+        no_other = λ fixed. q.fails.no_other (still_fixed s.capacity t.capacity _ p.wrote.capacity_left fixed);
+      };
       faults = omega (arith, p.faults, q.faults);
     }
 

@@ -6,7 +6,7 @@ use Rattle.amq_protocol_types.proofs.Taken.{values_next}
 use Rattle.amq_protocol_types.proofs.lemmas.generation.Arrays.{value_refused, array_closed, array_value}
 use Rattle.amq_protocol_types.proofs.lemmas.generation.Tables.{none_put, one_more_put, key_taken_back, entry_refused, table_closed, table_value}
 use Rattle.amq_protocol_types.proofs.lemmas.generation.Texts.{text_of, longer_by_id, body_next, fit_next}
-use Rattle.amq_protocol_types.proofs.lemmas.generation.Steps.{both_put, refused, by_buffer}
+use Rattle.amq_protocol_types.proofs.lemmas.generation.Steps.{lengths_of, both_put, refused, by_buffer}
 use Rattle.amq_protocol_types.proofs.lemmas.generation.WhatWasRead.{writes_payload_read}
 use Rattle.amq_protocol_types.proofs.lemmas.generation.ReadBack.{array_read_back, table_read_back}
 use Rattle.amqp_value_core.specs.Containers.{array_items, array_view, table_view}
@@ -108,8 +108,8 @@ gen_field_array-returns-clause-value g t c =
 
 pub gen_field_array-returns-clause-read_back : goal.gen_field_array-returns-clause-read_back
 gen_field_array-returns-clause-read_back g t c =
-    array_read_back (array_view c.args.a.now) c.fill_length.result (gen_field_array-returns-clause-value g t c) (gen_field_array-returns-clause-written g t c).fits
+    array_read_back (array_view c.args.a.now) c.fill_length.result (gen_field_array-returns-clause-value g t c) (lengths_of c.fill_length.result (gen_field_array-returns-clause-written g t c))
 
 pub gen_field_table-returns-clause-read_back : goal.gen_field_table-returns-clause-read_back
 gen_field_table-returns-clause-read_back g t c =
-    table_read_back (table_view c.args.t.now) c.fill_length.result (gen_field_table-returns-clause-value g t c) (gen_field_table-returns-clause-written g t c).fits
+    table_read_back (table_view c.args.t.now) c.fill_length.result (gen_field_table-returns-clause-value g t c) (lengths_of c.fill_length.result (gen_field_table-returns-clause-written g t c))

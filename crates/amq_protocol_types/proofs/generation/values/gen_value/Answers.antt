@@ -2,6 +2,7 @@ use Rattle.amqp_value_core.specs.View.{view}
 use Rattle.amqp_value_core.proofs.GrammarLaws.{is_shortest, injective}
 use Rattle.amq_protocol_types.proofs.lemmas.generation.ReadBack.{written}
 use Rattle.amq_protocol_types.proofs.lemmas.generation.WhatWasRead.{writes_what_was_read}
+use Rattle.amq_protocol_types.proofs.lemmas.generation.Steps.{lengths_of}
 use Rattle.amq_protocol_types.proofs.generation.values.gen_value.Goals as goal
 
 pub returns-clause-fits_input_size : goal.returns-clause-fits_input_size
@@ -15,4 +16,4 @@ returns-clause-encoding g c = record {
 
 pub returns-clause-ok : goal.returns-clause-ok
 returns-clause-ok g c =
-    written (view c.args.v.now) c.write_value.result c.write_value.ensures.value c.write_value.ensures.written.fits
+    written (view c.args.v.now) c.write_value.result c.write_value.ensures.value (lengths_of c.write_value.result c.write_value.ensures.written)

@@ -7,7 +7,7 @@ pub back_to-requires : goal.back_to-requires
 back_to-requires g c =
     let whole = g.met.W.BackToTheBuffer.whole in
     let o = c.requires.appends _ _ _ (record { shown = _; shows = refl; left = _; met = c.in-Err.ensures; leaves = refl }) in
-    omega (arith, c.in_ok-at.ensures.place, c.in_ok-at.ensures.written.moved, after (whole _) (whole _) o)
+    omega (arith, c.in_ok-at.ensures.place, c.in_ok-at.ensures.written.wrote.moved, after (whole _) (whole _) o)
 
 pub returns-in-Err-clause-err : goal.returns-in-Err-clause-err
 returns-in-Err-clause-err g c =
@@ -33,7 +33,7 @@ pub fill_length-requires : goal.fill_length-requires
 fill_length-requires g c =
     let whole = g.met.W.BackToTheBuffer.whole in
     let o = c.requires.appends _ _ _ (record { shown = _; shows = refl; left = _; met = c.in_default.ensures; leaves = refl }) in
-    omega (arith, c.in_ok-at.ensures.place, c.in_ok-at.ensures.written.moved, after (whole _) (whole _) o)
+    omega (arith, c.in_ok-at.ensures.place, c.in_ok-at.ensures.written.wrote.moved, after (whole _) (whole _) o)
 
 pub returns-clause-ok : goal.returns-clause-ok
 returns-clause-ok g c =
