@@ -1,7 +1,7 @@
 -- The laws of reading within limits, for the proofs of other crates to cite.
 
 -- what asks for more bytes: which, and how many its header counts at most
-pub use Rattle.amq_protocol_types.proofs.lemmas.parsing.Waits.{more_wanted, wanted_more, wanted_within, kept_within}
+pub use Rattle.amq_protocol_types.proofs.lemmas.parsing.Waits.{more_wanted, wanted_more, lacks_within, wanted_within, kept_within}
 -- a value within a depth has at most as many bytes as its header counts
 pub use Rattle.amq_protocol_types.proofs.lemmas.parsing.Again.{wire_extent}
 -- when the bytes of a value are all there
@@ -9,7 +9,7 @@ pub use Rattle.amq_protocol_types.proofs.lemmas.parsing.Whole.{found_all, failed
 -- what is ASCII is UTF-8
 pub use Rattle.amq_protocol_types.proofs.lemmas.parsing.Copies.{ascii_is_utf8}
 -- what an error of one reading means for another
-pub use Rattle.amq_protocol_types.proofs.lemmas.parsing.Refused.{IsRefusal-weaker}
+pub use Rattle.amq_protocol_types.proofs.lemmas.parsing.Refused.{IsRefusal-weaker, no_type_outcome, unknown_within}
 -- payloads: of types of fixed width, and of a container once its body is read
 pub use Rattle.amq_protocol_types.proofs.lemmas.parsing.Payloads.{unsigned_outcome, void_found}
 pub use Rattle.amq_protocol_types.proofs.lemmas.parsing.Frames.{long_found, octets_found, array_found, array_refused, array_too_deep, table_found, table_refused, table_too_deep}

@@ -14,7 +14,7 @@ use Rattle.amqp_value_core.specs.Layouts.{Layout, fixed}
 use Rattle.amqp_value_core.specs.Grammar.{short_field, long_field, wire, raw_fixed, raw_long, raw_octets, raw_array, raw_table, no_values, value, no_pairs, pair}
 use Rattle.amqp_value_core.specs.Nesting.{OutcomeWithin, WireWithin, RawWithin}
 use Rattle.amqp_value_core.specs.Outcomes.{found, lack, lack_of, frame_lack, length_field}
-use Rattle.amqp_value_core.proofs.GrammarLaws.{wire_found_within}
+use Rattle.amqp_value_core.proofs.GrammarLaws.{put_mean, wire_found_within}
 use Rattle.amq_protocol_types.specs.parsing.Headers.{extent}
 use Rattle.amq_protocol_types.specs.parsing.Limits.{Within, IsHeader as IsHeaderOf}
 use Rattle.amq_protocol_types.specs.declared.parsing.limits.Limits.{Limits}
@@ -179,7 +179,7 @@ of_array = record {
 
 pub of_table : IsBodyOf amqp.FieldTable ArePairsWithin NoPairs
 of_table = record {
-  raw = λ d body fits (ps, p). (table (insert_all no_entries ps), (raw_table body ps fits p.0, omega (arith, p.1)));
+  raw = λ d body fits (ps, p). (table (insert_all no_entries ps), (raw_table body ps (insert_all no_entries ps) fits p.0 (put_mean ps), omega (arith, p.1)));
   fail = in_table;
 }
 

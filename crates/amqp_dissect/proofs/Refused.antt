@@ -9,7 +9,7 @@ use Rattle.amqp_value_core.specs.declared.types.amqp_type.AMQPType.TheVariants a
 use Rattle.amqp_value_core.specs.Values.{no_entries, short}
 use Rattle.amqp_value_core.specs.Grammar.{short_field, long_field, raw_short}
 use Rattle.amqp_value_core.specs.Nesting.{OutcomeWithin}
-use Rattle.amqp_value_core.specs.Outcomes.{more, malformed, lack, frame_lack, counted, Heavy}
+use Rattle.amqp_value_core.specs.Outcomes.{no_byte, no_tag, more, malformed, lack, frame_lack, counted, Heavy}
 use Rattle.amqp_value_core.specs.Payloads.{RawPrefix, RawOutcome}
 use Rattle.amqp_value_core.proofs.GrammarLaws.{NeedsMoreOr-more, raw_to_value_within, raw_found, raw_whole, wire_found_within, short_bytes}
 use Rattle.amq_protocol_types.specs.declared.parsing.errors.Err.TheVariants.{Incomplete, Error}
@@ -62,8 +62,8 @@ no_text_key k s none =
 
 mutual
   pub value_refused : (d : ℕ) (s : List ℕ) (o : ℕ) (p : Problem) → IsNoValue d s o p → IsRefusal (OutcomeWithin d s) ⊥ (refusal_of o p)
-  value_refused _ _ _ _ (no_type_tag d) = refl
-  value_refused _ _ _ _ (unknown_type_tag d c b none) = rw none refl
+  value_refused _ _ _ _ (no_type_tag d) = no_byte
+  value_refused _ _ _ _ (unknown_type_tag d c b none) = no_tag c b none
   value_refused _ _ _ _ (cut d c type b n k some is) =
       raw_to_value_within d c type b (more n) k (rw is (NeedsMoreOr-more n _ some))
   value_refused _ _ _ _ (too_deep c type body rest k is fits) = deep_container c type body rest k is fits

@@ -45,7 +45,7 @@ module _ (l : Limits) (s : List ℕ) (i : SliceInput) (rest : List ℕ) (f : IsL
 -- what is rejected isn't found
 not_found : (l : Limits) (s : List ℕ) (e : Refusal) (v : Tree) (rest : List ℕ) → RefusesUntagged l amqp.FieldTable s e → NeedsNoMemory e
     → Within l (tagged amqp.FieldTable s) (found v rest) → ⊥
-not_found l s (Incomplete Unknown) v rest x m y = absurd x.1
+not_found l s (Incomplete Unknown) v rest x m y = absurd x
 not_found l s (Incomplete (Size n)) v rest x m y =
     let same = one_outcome_within l.depth (tagged amqp.FieldTable s) (more n) (found v rest) x.1 y.1 in
     absurd cc
@@ -55,14 +55,14 @@ not_found l s (Error MapOpt) v rest x m y =
 not_found l s (Error Eof) v rest x m y =
     let same = one_outcome_within l.depth (tagged amqp.FieldTable s) malformed (found v rest) x.1 y.1 in
     absurd cc
-not_found l s (Error MapRes) v rest x m y = absurd x.1
-not_found l s (Error OutOfMemory) v rest x m y = absurd x.1
+not_found l s (Error MapRes) v rest x m y = absurd x
+not_found l s (Error OutOfMemory) v rest x m y = absurd x
 not_found l s (Error TooLarge) v rest x m y = absurd (omega (arith, x, y.0))
 not_found l s (Failure k) v rest x m y = absurd m
 
 pub refused_not_canonical : (l : Limits) (s : List ℕ) (e : Refusal) → RefusesUntagged l amqp.FieldTable s e → NeedsNoMemory e
     → (n : ℕ) → IsCanonicalLen l (tagged amqp.FieldTable s) n → ⊥
-refused_not_canonical l s e x m n (w, rest, v, is, size, canon, within) = not_found l s e v rest x m within
+refused_not_canonical l s e x m n (w, rest, v, is, size, known, within) = not_found l s e v rest x m within
 
 -- a length is returned if a test holds
 pub some_len : (P : ℕ → Type 0) (n : ℕ) (b : Bool) (r : Option ℕ) → r ≡ then_some b n → (b ≡ true → P n) → IfSome r P

@@ -21,13 +21,13 @@ use Rattle.amqp_value_core.proofs.Ids.{row_holds, kind_read}
 use Rattle.amqp_value_core.specs.Values.{Tree, short, array, table, Trees, no_trees, tree, Entries, no_entries, entry, ComesBefore, depth}
 use Rattle.amqp_value_core.specs.Members.{greatest_depth, entries_depth, CanonBody, CanonPairs}
 use Rattle.amqp_value_core.specs.Layouts.{Layout, fixed}
-use Rattle.amqp_value_core.specs.Grammar.{short_field, long_field, Wire, wire, Raw, raw_fixed, raw_short, raw_long, raw_octets, raw_array, raw_table, no_values as no_value_there, value, no_pairs as no_pair_there, pair}
+use Rattle.amqp_value_core.specs.Grammar.{short_field, long_field, Wire, Raw, raw_fixed, raw_short, raw_long, raw_octets, raw_array, raw_table}
 use Rattle.amqp_value_core.specs.Nesting.{WireWithin, OutcomeWithin}
 use Rattle.amqp_value_core.specs.Outcomes.{found, more, unknown, lack, Outcome}
-use Rattle.amqp_value_core.specs.Payloads.{RawOutcome, CanonRaw}
-use Rattle.amqp_value_core.specs.Canonical.{IsStrict, Canon}
+use Rattle.amqp_value_core.specs.Payloads.{RawOutcome}
+use Rattle.amqp_value_core.specs.Canonical.{IsStrict, Canon, canon, CanonRaw, canon_fixed, canon_long, canon_octets, canon_array, canon_table, canon_no_values, canon_value, canon_no_pairs, canon_pair}
 use Rattle.amqp_value_core.proofs.Bytes.{bytes_before}
-use Rattle.amqp_value_core.proofs.GrammarLaws.{raw_prefix, one_large, one_reading, one_raw_reading, one_raw_outcome, raw_found, wire_found, wire_found_within, prefix_within, depth_within, text_within, text_is_canon, what_is_read, read_is_value, canon_is_wire, canon_fits, canon_is_text, canon, canon_array, canon_table, canon_value, canon_pair, canon_rises, rising_pairs, short_bytes, one_outcome}
+use Rattle.amqp_value_core.proofs.GrammarLaws.{raw_prefix, one_large, one_reading, one_raw_reading, one_raw_outcome, raw_found, wire_found, wire_found_within, prefix_within, depth_within, text_within, text_is_canon, what_is_read, read_is_value, canon_is_wire, canon_fits, canon_is_text, short_bytes, one_outcome}
 use Rattle.amqp_value_core.specs.Inputs.{IsBytes, slice_bytes}
 use Rattle.amqp_value_core.specs.declared.input.SliceInput.{SliceInput}
 use Rattle.amq_protocol_types.specs.declared.parsing.limits.Limits.{Limits}
@@ -86,19 +86,18 @@ strict_append (c ∷ b) rest one x = x
 
 -- in the canonical payload of a boolean it is
 strict_payload : (type : AMQPType) (b : List ℕ) (v : Tree) → CanonRaw type b v → type ≡ amqp.Boolean → (rest : List ℕ) → IsStrict amqp.Boolean (b ++ rest)
-strict_payload _ _ _ (raw_fixed type f b row len, strict) e rest =
+strict_payload _ _ _ (canon_fixed type f b row len strict) e rest =
     let wide : f.width ≡ 1 = subst (λ (o : Option Layout). IfSome o (λ g. g.width ≡ 1)) (ap fixed (sym e) ∙ row) refl in
     strict_append b rest (len ∙ wide) (subst (λ (t : AMQPType). IsStrict t b) e strict)
-strict_payload _ _ _ (raw_short s is, all) e rest = absurd cc
-strict_payload _ _ _ (raw_long s fits, all) e rest = absurd cc
-strict_payload _ _ _ (raw_octets s fits, all) e rest = absurd cc
-strict_payload _ _ _ (raw_array body vs fits p, all) e rest = absurd cc
-strict_payload _ _ _ (raw_table body es fits p, all) e rest = absurd cc
+strict_payload _ _ _ (canon_long s fits) e rest = absurd cc
+strict_payload _ _ _ (canon_octets s fits) e rest = absurd cc
+strict_payload _ _ _ (canon_array body vs fits all) e rest = absurd cc
+strict_payload _ _ _ (canon_table body es fits all) e rest = absurd cc
 
 -- a canonical encoding begins with no alternate tag
 canon_spelling : (w rest : List ℕ) (v : Tree) → Canon w v → IsFirstSpelling (w ++ rest)
-canon_spelling _ rest _ (wire c type b v k p, is) =
-    (is.0, is.1, λ e. strict_payload type b v (p, is.2) (same_Some type amqp.Boolean (sym k ∙ ap kind e)) rest)
+canon_spelling _ rest _ (canon c type b v k not_U not_L p) =
+    (not_U, not_L, λ e. strict_payload type b v p (same_Some type amqp.Boolean (sym k ∙ ap kind e)) rest)
 
 pub spelling_at_start : (d : ℕ) (s rest : List ℕ) → CanonPrefix d s rest → IsFirstSpelling s
 spelling_at_start d s rest (w, v, x, deep, e) = subst IsFirstSpelling (sym e) (canon_spelling w rest v x)
@@ -107,12 +106,12 @@ spelling_at_start d s rest (w, v, x, deep, e) = subst IsFirstSpelling (sym e) (c
 
 -- a payload of a type of no container is canonical if a boolean's byte is 0 or 1
 plain_payload : (type : AMQPType) (b : List ℕ) (v : Tree) → Raw type b v → IsPlainType type → (type ≡ amqp.ShortString → ⊥) → IsStrict type b → CanonRaw type b v × (depth v ≡ 0)
-plain_payload _ _ _ (raw_fixed type f b row len) plain none strict = ((raw_fixed type f b row len, strict), refl)
+plain_payload _ _ _ (raw_fixed type f b row len) plain none strict = (canon_fixed type f b row len strict, refl)
 plain_payload _ _ _ (raw_short s is) plain none strict = absurd (none refl)
-plain_payload _ _ _ (raw_long s fits) plain none strict = ((raw_long s fits, tt), refl)
-plain_payload _ _ _ (raw_octets s fits) plain none strict = ((raw_octets s fits, tt), refl)
+plain_payload _ _ _ (raw_long s fits) plain none strict = (canon_long s fits, refl)
+plain_payload _ _ _ (raw_octets s fits) plain none strict = (canon_octets s fits, refl)
 plain_payload _ _ _ (raw_array body vs fits all) plain none strict = absurd plain
-plain_payload _ _ _ (raw_table body ps fits all) plain none strict = absurd plain
+plain_payload _ _ _ (raw_table body ps es fits all mean) plain none strict = absurd plain
 
 -- so a value with no alternate tag that is no container is canonical
 pub plain_at_start : (d : ℕ) (s : List ℕ) (r : ValueRef) (rest : List ℕ) → IsHead s (head.Plain r) rest → IsFirstSpelling s → CanonPrefix d s rest
@@ -134,13 +133,12 @@ record CanonArray (body : List ℕ) (v : Tree) : Type 0 where
 
 canon_array_body : (type : AMQPType) (b : List ℕ) (v : Tree) → CanonRaw type b v → type ≡ amqp.FieldArray → (body rest left : List ℕ) → length body < 2 ^ 32
     → b ++ left ≡ long_field body ++ rest → CanonArray body v
-canon_array_body _ _ _ (raw_fixed type f b row len, strict) t body rest left few e = absurd (let none = ap fixed (sym t) ∙ row in cc)
-canon_array_body _ _ _ (raw_short s is, x) t body rest left few e = absurd cc
-canon_array_body _ _ _ (raw_long s fits, x) t body rest left few e = absurd cc
-canon_array_body _ _ _ (raw_octets s fits, x) t body rest left few e = absurd cc
-canon_array_body _ _ _ (raw_array a vs fits p, x) t body rest left few e =
-    record { values = vs; all = subst (λ (b : List ℕ). CanonBody b vs) (one_large a body left rest fits few e).0 (p, x); is = refl }
-canon_array_body _ _ _ (raw_table a es fits p, x) t body rest left few e = absurd cc
+canon_array_body _ _ _ (canon_fixed type f b row len strict) t body rest left few e = absurd (let none = ap fixed (sym t) ∙ row in cc)
+canon_array_body _ _ _ (canon_long s fits) t body rest left few e = absurd cc
+canon_array_body _ _ _ (canon_octets s fits) t body rest left few e = absurd cc
+canon_array_body _ _ _ (canon_array a vs fits all) t body rest left few e =
+    record { values = vs; all = subst (λ (b : List ℕ). CanonBody b vs) (one_large a body left rest fits few e).0 all; is = refl }
+canon_array_body _ _ _ (canon_table a es fits all) t body rest left few e = absurd cc
 
 -- and of a canonical table
 record CanonTable (body : List ℕ) (v : Tree) : Type 0 where
@@ -150,13 +148,12 @@ record CanonTable (body : List ℕ) (v : Tree) : Type 0 where
 
 canon_table_body : (type : AMQPType) (b : List ℕ) (v : Tree) → CanonRaw type b v → type ≡ amqp.FieldTable → (body rest left : List ℕ) → length body < 2 ^ 32
     → b ++ left ≡ long_field body ++ rest → CanonTable body v
-canon_table_body _ _ _ (raw_fixed type f b row len, strict) t body rest left few e = absurd (let none = ap fixed (sym t) ∙ row in cc)
-canon_table_body _ _ _ (raw_short s is, x) t body rest left few e = absurd cc
-canon_table_body _ _ _ (raw_long s fits, x) t body rest left few e = absurd cc
-canon_table_body _ _ _ (raw_octets s fits, x) t body rest left few e = absurd cc
-canon_table_body _ _ _ (raw_array a vs fits p, x) t body rest left few e = absurd cc
-canon_table_body _ _ _ (raw_table a es fits p, x) t body rest left few e =
-    record { entries = es; all = subst (λ (b : List ℕ). CanonPairs b es) (one_large a body left rest fits few e).0 (p, x); is = ap table (rising_pairs es (canon_rises a es p x)) }
+canon_table_body _ _ _ (canon_fixed type f b row len strict) t body rest left few e = absurd (let none = ap fixed (sym t) ∙ row in cc)
+canon_table_body _ _ _ (canon_long s fits) t body rest left few e = absurd cc
+canon_table_body _ _ _ (canon_octets s fits) t body rest left few e = absurd cc
+canon_table_body _ _ _ (canon_array a vs fits all) t body rest left few e = absurd cc
+canon_table_body _ _ _ (canon_table a es fits all) t body rest left few e =
+    record { entries = es; all = subst (λ (b : List ℕ). CanonPairs b es) (one_large a body left rest fits few e).0 all; is = refl }
 
 -- the type tag that is first, and the canonical payload after it
 record CanonTyped (type : AMQPType) (mid left : List ℕ) (v : Tree) : Type 0 where
@@ -165,11 +162,11 @@ record CanonTyped (type : AMQPType) (mid left : List ℕ) (v : Tree) : Type 0 wh
   pub prefix : mid ≡ payload ++ left
 
 canon_typed : (s mid : List ℕ) (type : AMQPType) (w left : List ℕ) (v : Tree) → IsType s type mid → Canon w v → s ≡ w ++ left → CanonTyped type mid left v
-canon_typed s mid type _ left _ (c, here, k) (wire d type2 b v k2 p, is) e =
+canon_typed s mid type _ left _ (c, here, k) (canon d type2 b v k2 not_U not_L p) e =
     let both : c ∷ mid ≡ d ∷ (b ++ left) = sym here ∙ e in
     let head : c ≡ d = cc in
     let same : type2 ≡ type = same_Some type2 type (sym k2 ∙ (ap kind (sym head) ∙ k)) in
-    record { payload = b; is_canon = subst (λ (t : AMQPType). CanonRaw t b v) same (p, is.2); prefix = cc }
+    record { payload = b; is_canon = subst (λ (t : AMQPType). CanonRaw t b v) same p; prefix = cc }
 
 module _ (d : ℕ) (s : List ℕ) (i : SliceInput) (rest : List ℕ) where
   -- an array with no alternate tag is canonical if its body is
@@ -220,16 +217,16 @@ no_rest d s i false r is f none = f refl
 
 -- and takes at least one byte
 pub rest_shorter : (d : ℕ) (s rest : List ℕ) → CanonPrefix d s rest → length rest < length s
-rest_shorter d s rest (_, _, (wire c type b v k p, is), deep, e) = omega (arith, ap length e, length-append b rest)
+rest_shorter d s rest (_, _, (canon c type b v k not_U not_L p), deep, e) = omega (arith, ap length e, length-append b rest)
 
 -- if no byte is left there is no value
 pub no_values : (d : ℕ) (s : List ℕ) → length s ≡ 0 → CanonValues d s
-no_values d s none = subst (CanonValues d) (sym (nil_from_length s none)) (no_trees, (no_value_there, tt), omega arith)
+no_values d s none = subst (CanonValues d) (sym (nil_from_length s none)) (no_trees, canon_no_values, omega arith)
 
 -- otherwise the first of them is at the start
 pub first_value : (d : ℕ) (s : List ℕ) → 0 < length s → CanonValues d s → (left : List ℕ) × CanonPrefix d s left × CanonValues d left
-first_value d _ some (_, (no_value_there, all), deep) = absurd (omega arith)
-first_value d _ some (_, (value w left v vs first others, is), deep) = (left, (w, v, (first, is.0), omega arith, refl), (vs, (others, is.1), omega arith))
+first_value d _ some (_, canon_no_values, deep) = absurd (omega arith)
+first_value d _ some (_, (canon_value w left v vs first others), deep) = (left, (w, v, first, omega arith, refl), (vs, others, omega arith))
 
 -- what is after one canonical encoding is after each
 one_rest : (d : ℕ) (s x y : List ℕ) → CanonPrefix d s x → CanonPrefix d s y → x ≡ y
@@ -265,7 +262,7 @@ told_less x y b is = by (slice_cmp nat_cmp x y) (is ∙ ap (is_some_and is_lt) (
 
 -- if no byte is left there is no pair
 pub no_pairs : (d : ℕ) (j : Option (Bor (List ℕ))) (s : List ℕ) → length s ≡ 0 → CanonEntries d j s
-no_pairs d j s none = subst (CanonEntries d j) (sym (nil_from_length s none)) (no_entries, (no_pair_there, tt), by j, omega arith)
+no_pairs d j s none = subst (CanonEntries d j) (sym (nil_from_length s none)) (no_entries, canon_no_pairs, by j, omega arith)
   where
     by : (j : Option (Bor (List ℕ))) → AreAbove j no_entries
     by None = tt
@@ -283,8 +280,8 @@ record CanonicalFirstPair (d : ℕ) (j : Option (Bor (List ℕ))) (s : List ℕ)
   pub others : (k : Bor (List ℕ)) → k.now ≡ key → CanonEntries d (Some k) left
 
 first_pair : (d : ℕ) (j : Option (Bor (List ℕ))) (s : List ℕ) → 0 < length s → CanonEntries d j s → CanonicalFirstPair d j s
-first_pair d j _ some (_, (no_pair_there, all), above, deep) = absurd (omega arith)
-first_pair d j _ some (_, (pair k w left v es key first pairs, is), above, deep) =
+first_pair d j _ some (_, canon_no_pairs, above, deep) = absurd (omega arith)
+first_pair d j _ some (_, (canon_pair k w left v es key first before pairs), above, deep) =
     record {
       key = k;
       after_key = w ++ left;
@@ -292,8 +289,8 @@ first_pair d j _ some (_, (pair k w left v es key first pairs, is), above, deep)
       framed = refl;
       short_key = key;
       above = by j above;
-      prefix = (w, v, (first, is.1), omega arith, refl);
-      others = λ j e. (es, (pairs, is.2), rw e is.0, omega arith);
+      prefix = (w, v, first, omega arith, refl);
+      others = λ j e. (es, pairs, rw e before, omega arith);
     }
   where
     by : (j : Option (Bor (List ℕ))) → AreAbove j (entry k v es) → IsAbove j k

@@ -13,7 +13,7 @@ use Rattle.amqp_value_core.specs.Grammar.{short_field, long_field, Wire, raw_sho
 use Rattle.amqp_value_core.specs.Nesting.{nesting, RawWithin, BodyWithin, OutcomeWithin, RawOutcomeWithin}
 use Rattle.amqp_value_core.specs.Outcomes.{Reading, found, more, unknown, malformed, lack, frame_lack, counted, NeedsMoreOr, PrefixBy, Outcome}
 use Rattle.amqp_value_core.specs.Payloads.{RawPrefix, RawOutcome}
-use Rattle.amqp_value_core.proofs.GrammarLaws.{one_outcome_within, one_raw_reading, value_to_raw, raw_to_value_within, raw_whole, raw_found, wire_found, wire_found_within, array_body, table_body, short_bytes}
+use Rattle.amqp_value_core.proofs.GrammarLaws.{put_mean, one_outcome_within, one_raw_reading, value_to_raw, raw_to_value_within, raw_whole, raw_found, wire_found, wire_found_within, array_body, table_body, short_bytes}
 use Rattle.amqp_value_core.specs.Inputs.{slice_bytes}
 use Rattle.amqp_value_core.specs.declared.input.SliceInput.{SliceInput}
 use Rattle.amq_protocol_types.specs.declared.parsing.errors.Err.TheVariants.{Incomplete, Error, Failure}
@@ -24,7 +24,7 @@ use Rattle.amq_protocol_types.specs.parsing.PayloadResults.{IsType, IsNoType, On
 use Rattle.amq_protocol_types.specs.parsing.Bodies.{IsLengthPrefixed, IsTable, IsNoBody, IsNoTable}
 use Rattle.amq_protocol_types.specs.parsing.ParseResults.{IsRefusal}
 use Rattle.amq_protocol_types.specs.parsing.Headers.{extent}
-use Rattle.amq_protocol_types.proofs.ParsingLaws.{IsRefusal-weaker, wire_extent, long_found, octets_found, void_found, unsigned_outcome, IsPlainPayload, plain_found, array_found, array_refused, array_too_deep, table_found, table_refused, table_too_deep}
+use Rattle.amq_protocol_types.proofs.ParsingLaws.{no_type_outcome, IsRefusal-weaker, wire_extent, long_found, octets_found, void_found, unsigned_outcome, IsPlainPayload, plain_found, array_found, array_refused, array_too_deep, table_found, table_refused, table_too_deep}
 use Rattle.amqp_in_place.specs.declared.head.Head.{Head}
 use Rattle.amqp_in_place.specs.declared.head.Head.TheVariants as head
 use Rattle.amqp_in_place.specs.declared.refs.ValueRef.{ValueRef}
@@ -89,8 +89,7 @@ pub ruleset payload_heads = (long_found, octets_found, void_found, unsigned_outc
 
 -- if no type is read, no value is
 none_there : (s : List ℕ) (o : Reading) → IsNoType s o → AtAnyDepth s o
-none_there [] o x = λ d. x
-none_there (c ∷ b) o x = λ d. rw x.1 x.0
+none_there s o x = λ d. no_type_outcome d s o x
 
 pub no_head : (s : List ℕ) (e : Refusal) → IsRefusal (IsNoType s) ⊥ e → HeadRefuses (AtAnyDepth s) e
 no_head s (Incomplete Unknown) x = x
@@ -180,8 +179,8 @@ only s (head.FieldTable i) rest w left v (type, mid, p, q) x e =
     let raw : RawPrefix amqp.FieldTable mid (found v left) = subst (λ (t : AMQPType). RawPrefix t mid (found v left)) q.0 (payload_at_start s mid type p w left v x e) in
     let b = table_body (slice_bytes i) rest raw.0 left v f.fits raw.1 (sym f.framed ∙ raw.2) in
     let es = insert_all no_entries b.0 in
-    let same = one_raw_reading amqp.FieldTable raw.0 (long_field (slice_bytes i)) left rest v (table es) raw.1 (raw_table (slice_bytes i) b.0 f.fits b.1) (sym raw.2 ∙ f.framed) in
-    ((es, (b.0, b.1, refl), same.1), same.2)
+    let same = one_raw_reading amqp.FieldTable raw.0 (long_field (slice_bytes i)) left rest v (table es) raw.1 (raw_table (slice_bytes i) b.0 es f.fits b.1 (put_mean b.0)) (sym raw.2 ∙ f.framed) in
+    ((es, (b.0, b.1, put_mean b.0), same.1), same.2)
 
 -- ---- keys
 

@@ -5,7 +5,7 @@ use Rattle.std.specs.Borrow.{Bor}
 use Rattle.amqp_value_core.specs.Values.{Tree, Trees, no_trees, tree, Entries, no_entries, entry}
 use Rattle.amqp_value_core.specs.Maps.{same_bytes, last_at, value_at, has_key}
 use Rattle.amqp_value_core.specs.Grammar.{ArrayBody, no_values, value, TableBody, no_pairs, pair}
-use Rattle.amqp_value_core.proofs.GrammarLaws.{option_or-assoc, option_or-none, length-wire, last_stays, key_has_value}
+use Rattle.amqp_value_core.proofs.GrammarLaws.{option_or-assoc, option_or-none, length-wire, key_has_value}
 use Rattle.amqp_value_core.specs.Inputs.{slice_bytes}
 use Rattle.amqp_value_core.specs.declared.input.SliceInput.{SliceInput}
 use Rattle.amqp_in_place.specs.Bodies.{HasEntries}
@@ -128,7 +128,7 @@ module _ (Is : Tree → List ℕ → List ℕ → Type 0) (Body : List ℕ → E
 -- of equal keys the last pair's value is the entry's
 pub last_is_value : (key s : List ℕ) (at : Option (Bor (List ℕ))) → ((ps : Entries) → TableBody s ps → BeginsAt (last_at key ps) at) → (es : Entries) → HasEntries s es
     → BeginsAt (value_at key es) at
-last_is_value key s at last es (ps, p, is) = subst (λ (o : Option Tree). BeginsAt o at) (sym (ap (value_at key) is ∙ last_stays key ps)) (last ps p)
+last_is_value key s at last es (ps, p, mean) = subst (λ (o : Option Tree). BeginsAt o at) (sym (mean.last key)) (last ps p)
 
 -- what is read from the value's first byte on is the value
 module _ (At : Tree → List ℕ → List ℕ → Type 0) (Is : ValueRef → Tree → Type 0) where

@@ -1,21 +1,17 @@
 -- Measuring encodings in place.
 use Rattle.std.proofs.Common.{◌≡◌, ◌<◌, ◌≤◌, ◌+◌, ◌-◌, ◌^◌, ℕ, suc, max, List, [], ◌∷◌, ◌++◌, length, drop, Some, None, refl, sym, ap, ap₂, ◌∙◌, subst, arith, length-append}
 use Rattle.std.specs.Borrow.{Bor}
-use Rattle.std.specs.Ordering.{nat_cmp, match_ordering}
-use Rattle.std.specs.Cmp.Lexicographic.{slice_cmp}
-use Rattle.std.specs.declared.cmp.Ordering.{Ordering}
-use Rattle.std.specs.declared.cmp.Ordering.TheVariants.{Less, Equal, Greater}
 use Rattle.std.proofs.lemmas.Option.{same_Some}
 use Rattle.amqp_value_core.specs.Ids.{kind}
 use Rattle.amqp_value_core.specs.Strings.{IsShort}
 use Rattle.amqp_value_core.specs.declared.types.amqp_type.AMQPType.{AMQPType}
 use Rattle.amqp_value_core.specs.declared.types.amqp_type.AMQPType.TheVariants as amqp
-use Rattle.amqp_value_core.specs.Values.{Tree, short, long, octets, array, table, Trees, no_trees, tree, Entries, no_entries, entry, insert, insert_all, count, depth}
+use Rattle.amqp_value_core.specs.Values.{Tree, short, long, octets, array, table, Trees, no_trees, tree, Entries, no_entries, entry, insert_all, count, depth}
 use Rattle.amqp_value_core.specs.Members.{count_all, entries_count}
 use Rattle.amqp_value_core.specs.Layouts.{Layout, fixed}
 use Rattle.amqp_value_core.specs.Grammar.{short_field, long_field, Wire, wire, Raw, raw_fixed, raw_short, raw_long, raw_octets, raw_array, raw_table, ArrayBody, no_values, value, TableBody, no_pairs, pair}
 use Rattle.amqp_value_core.specs.Nesting.{nesting, raw_nesting, body_nesting, pairs_nesting}
-use Rattle.amqp_value_core.proofs.GrammarLaws.{no_empty_wire, same_large, one_reading, one_raw_reading, depth_within, body_nesting-le, pairs_nesting-le}
+use Rattle.amqp_value_core.proofs.GrammarLaws.{put_mean, mean_within, no_empty_wire, same_large, one_reading, one_raw_reading, depth_within, body_nesting-le, pairs_nesting-le}
 use Rattle.amqp_value_core.specs.Inputs.{slice_bytes}
 use Rattle.amqp_value_core.specs.declared.input.SliceInput.{SliceInput}
 use Rattle.amqp_in_place.specs.declared.refs.ArrayRef.{ArrayRef}
@@ -43,7 +39,7 @@ mutual
   raw_written-le _ _ _ (raw_long s fits) = omega arith
   raw_written-le _ _ _ (raw_octets s fits) = omega arith
   raw_written-le _ _ _ (raw_array body vs fits entries) = omega (arith, body_written-le body vs entries)
-  raw_written-le _ _ _ (raw_table body ps fits entries) = omega (arith, pairs_written-le body ps entries)
+  raw_written-le _ _ _ (raw_table body ps es fits entries mean) = omega (arith, pairs_written-le body ps entries)
 
   pub body_written-le : (body : List ℕ) (vs : Trees) (p : ArrayBody body vs) → body_written body vs p ≤ length body
   body_written-le _ _ no_values = omega arith
@@ -70,7 +66,7 @@ plain_held _ _ _ (raw_short s is) plain = (refl, refl)
 plain_held _ _ _ (raw_long s fits) plain = (refl, refl)
 plain_held _ _ _ (raw_octets s fits) plain = (refl, refl)
 plain_held _ _ _ (raw_array body vs fits all) plain = absurd plain
-plain_held _ _ _ (raw_table body ps fits all) plain = absurd plain
+plain_held _ _ _ (raw_table body ps es fits all mean) plain = absurd plain
 
 -- in that of an array what is in its body, and the array
 record ArrayHeld (b : List ℕ) (n l : ℕ) : Type 0 where
@@ -87,7 +83,7 @@ array_held _ _ _ (raw_short s is) t = absurd cc
 array_held _ _ _ (raw_long s fits) t = absurd cc
 array_held _ _ _ (raw_octets s fits) t = absurd cc
 array_held _ _ _ (raw_array body vs fits all) t = record { body = body; trees = vs; all = all; is = refl; values = refl; levels = refl }
-array_held _ _ _ (raw_table body ps fits all) t = absurd cc
+array_held _ _ _ (raw_table body ps es fits all mean) t = absurd cc
 
 -- and so of a table
 record TableHeld (b : List ℕ) (n l : ℕ) : Type 0 where
@@ -104,7 +100,7 @@ table_held _ _ _ (raw_short s is) t = absurd cc
 table_held _ _ _ (raw_long s fits) t = absurd cc
 table_held _ _ _ (raw_octets s fits) t = absurd cc
 table_held _ _ _ (raw_array body vs fits all) t = absurd cc
-table_held _ _ _ (raw_table body ps fits all) t = record { body = body; pairs = ps; all = all; is = refl; values = refl; levels = refl }
+table_held _ _ _ (raw_table body ps es fits all mean) t = record { body = body; pairs = ps; all = all; is = refl; values = refl; levels = refl }
 
 -- ---- one measure for an encoding
 
@@ -127,7 +123,7 @@ mutual
       let h = array_held type2 c z q (sym t) in
       let inside = same_values body h.body vs h.trees all h.all (same_large body h.body (e ∙ h.is)) in
       (ap suc inside.0 ∙ sym h.values, ap suc inside.1 ∙ sym h.levels)
-  same_raw _ type2 _ c _ z (raw_table body ps fits all) q t e =
+  same_raw _ type2 _ c _ z (raw_table body ps es fits all mean) q t e =
       let h = table_held type2 c z q (sym t) in
       let inside = same_pairs body h.body ps h.pairs all h.all (same_large body h.body (e ∙ h.is)) in
       (ap suc inside.0 ∙ sym h.values, ap suc inside.1 ∙ sym h.levels)
@@ -157,20 +153,6 @@ mutual
 
 -- ---- the tree has no more values than are written
 
-put_count : (k : List ℕ) (v : Tree) (es : Entries) → entries_count (insert k v es) ≤ count v + entries_count es
-put_count k v no_entries = omega arith
-put_count k v (entry j u es) = by (slice_cmp nat_cmp k j) (put_count k v es)
-  where
-    by : (o : Ordering) → entries_count (insert k v es) ≤ count v + entries_count es
-        → entries_count (match_ordering o (entry k v (entry j u es)) (entry j v es) (entry j u (insert k v es))) ≤ count v + entries_count (entry j u es)
-    by Less inner = omega arith
-    by Equal inner = omega arith
-    by Greater inner = omega (arith, inner)
-
-onto_count : (ps es : Entries) → entries_count (insert_all es ps) ≤ entries_count ps + entries_count es
-onto_count no_entries es = omega arith
-onto_count (entry k v ps) es = omega (arith, put_count k v es, onto_count ps (insert k v es))
-
 mutual
   count-le : (w : List ℕ) (v : Tree) (p : Wire w v) → count v ≤ written w v p
   count-le _ _ (wire c type b v k p) = raw_count-le type b v p
@@ -181,7 +163,7 @@ mutual
   raw_count-le _ _ _ (raw_long s fits) = omega arith
   raw_count-le _ _ _ (raw_octets s fits) = omega arith
   raw_count-le _ _ _ (raw_array body vs fits all) = omega (arith, body_count-le body vs all)
-  raw_count-le _ _ _ (raw_table body ps fits all) = omega (arith, onto_count ps no_entries, pairs_count-le body ps all)
+  raw_count-le _ _ _ (raw_table body ps es fits all mean) = omega (arith, (mean_within ps es mean).count, pairs_count-le body ps all)
 
   body_count-le : (body : List ℕ) (vs : Trees) (p : ArrayBody body vs) → count_all vs ≤ body_written body vs p
   body_count-le _ _ no_values = omega arith
@@ -201,7 +183,7 @@ IsMeasuredLeaf _ = Unit {0}
 
 leaf_held : (type : AMQPType) (b : List ℕ) (v : Tree) (p : Raw type b v) → IsMeasuredLeaf v → (raw_written type b v p ≡ 1) × (raw_nesting type b v p ≡ 0)
 leaf_held _ _ _ (raw_array body vs fits all) leaf = absurd leaf
-leaf_held _ _ _ (raw_table body ps fits all) leaf = absurd leaf
+leaf_held _ _ _ (raw_table body ps es fits all mean) leaf = absurd leaf
 leaf_held _ _ _ (raw_fixed type f b row len) leaf = (refl, refl)
 leaf_held _ _ _ (raw_short s is) leaf = (refl, refl)
 leaf_held _ _ _ (raw_long s fits) leaf = (refl, refl)
@@ -257,7 +239,7 @@ array_holds s body rest n l (c, k, few, e) h =
 pub table_holds : (s body rest : List ℕ) (n l : ℕ) → IsFramed amqp.FieldTable s body rest → HoldsPairs body n l → HoldsFirst s rest (1 + n) (1 + l)
 table_holds s body rest n l (c, k, few, e) h =
     prefix_as s rest (suc (pairs_written body h.pairs h.are)) (1 + n) (suc (pairs_nesting body h.pairs h.are)) (1 + l) (omega (arith, h.values)) (omega (arith, h.levels))
-    (typed_holds c amqp.FieldTable (long_field body) (table (insert_all no_entries h.pairs)) k (raw_table body h.pairs few h.are) s rest e)
+    (typed_holds c amqp.FieldTable (long_field body) (table (insert_all no_entries h.pairs)) k (raw_table body h.pairs (insert_all no_entries h.pairs) few h.are (put_mean h.pairs)) s rest e)
 
 -- it has at least as many bytes as values are written in it
 pub bytes_at_start : (s rest : List ℕ) (n l : ℕ) → HoldsFirst s rest n l → n + length rest ≤ length s

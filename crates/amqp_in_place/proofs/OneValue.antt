@@ -1,7 +1,7 @@
 -- What is referred to is one value.
 use Rattle.std.proofs.Common.{◌∙◌, refl, sym, ap}
-use Rattle.amqp_value_core.specs.Values.{array, table, no_entries, insert_all}
-use Rattle.amqp_value_core.proofs.GrammarLaws.{one_body_meaning, one_pairs_meaning}
+use Rattle.amqp_value_core.specs.Values.{array, table}
+use Rattle.amqp_value_core.proofs.GrammarLaws.{one_mean, one_body_meaning, one_pairs_meaning}
 use Rattle.amqp_in_place.specs.declared.refs.TableRef.{TableRef}
 use Rattle.amqp_in_place.specs.declared.refs.ValueRef.{ValueRef}
 use Rattle.amqp_in_place.specs.declared.refs.ValueRef.TheVariants as at
@@ -10,7 +10,7 @@ use Rattle.amqp_in_place.specs.Refs.{array_body, table_body, IsOneValue, IsOneTa
 pub one_table : (t : TableRef) → IsOneTable t
 one_table t es fs x y =
     let same = one_pairs_meaning (table_body t) (table_body t) x.0 y.0 x.1 y.1 refl in
-    x.2 ∙ (ap (insert_all no_entries) same ∙ sym y.2)
+    one_mean x.0 y.0 es fs same x.2 y.2
 
 pub one_value : (r : ValueRef) → IsOneValue r
 one_value (at.FieldArray a) u v x y =

@@ -5,10 +5,10 @@ use Rattle.std.specs.Borrow.{Bor}
 use Rattle.std.specs.Int.{w32, to_be_bytes}
 use Rattle.amqp_value_core.specs.declared.types.amqp_type.AMQPType.{AMQPType}
 use Rattle.amqp_value_core.specs.declared.types.amqp_type.AMQPType.TheVariants as amqp
-use Rattle.amqp_value_core.specs.Values.{Tree, Entries, no_entries, insert_all}
-use Rattle.amqp_value_core.specs.Maps.{value_at, last_at, IsRising}
+use Rattle.amqp_value_core.specs.Values.{Tree, Entries}
+use Rattle.amqp_value_core.specs.Maps.{value_at, last_at}
 use Rattle.amqp_value_core.specs.Grammar.{long_field}
-use Rattle.amqp_value_core.proofs.GrammarLaws.{last_stays, pairs_rise, rising_pairs}
+use Rattle.amqp_value_core.proofs.GrammarLaws.{rising_mean}
 use Rattle.amqp_in_place.specs.declared.refs.TableRef.{TableRef}
 use Rattle.amqp_in_place.specs.declared.refs.ValueRef.{ValueRef}
 use Rattle.amqp_in_place.specs.declared.refs.ValueRef.TheVariants as at
@@ -28,8 +28,7 @@ use Rattle.amqp_in_place.specs.Paths.{pair_at, at_step, at_path, StepsTo, LeadsT
 pub last_found : (of : EqualKeys) (k : Bor (List ℕ)) (b : TableRef) (result : Option ValueRef) → of ≡ equal.Last
     → ((es : Entries) → HasEntries (table_body b) es → FoundIs (value_at k.now es) result) → (v : Tree) → Denotes (at.FieldTable b) v → FoundIs (at_step of (step.Key k) v) result
 last_found of k b result is found v (es, p, e) =
-    let rises : insert_all no_entries es ≡ es = rising_pairs es (subst (λ (qs : Entries). IsRising qs) (sym p.2) (pairs_rise p.0)) in
-    let same : value_at k.now es ≡ last_at k.now es = sym (ap (value_at k.now) rises) ∙ last_stays k.now es in
+    let same : value_at k.now es ≡ last_at k.now es = (rising_mean es p.2.rising).last k.now in
     let here : FoundIs (pair_at equal.Last k.now es) result = subst (λ (o : Option Tree). FoundIs o result) same (found es p) in
     subst (λ (u : Tree). FoundIs (at_step of (step.Key k) u) result) (sym e) (subst (λ (o : EqualKeys). FoundIs (pair_at o k.now es) result) (sym is) here)
 

@@ -32,7 +32,7 @@ long_bytes _ _ _ b (raw_short s is) e = absurd cc
 long_bytes _ _ _ b (raw_long s fits) e = let same : s ≡ b = cc in (refl, ap long_field same, subst (λ (t : List ℕ). length t < 2 ^ 32) same fits)
 long_bytes _ _ _ b (raw_octets s fits) e = absurd cc
 long_bytes _ _ _ b (raw_array s vs fits p) e = absurd cc
-long_bytes _ _ _ b (raw_table s ps fits p) e = absurd cc
+long_bytes _ _ _ b (raw_table s ps es fits p mean) e = absurd cc
 
 octets_bytes : (type : AMQPType) (w : List ℕ) (v : Tree) (b : List ℕ) → Raw type w v → v ≡ octets b → IsLongField type amqp.ByteArray w b
 octets_bytes _ _ _ b (raw_fixed type f w row len) e = absurd cc
@@ -40,7 +40,7 @@ octets_bytes _ _ _ b (raw_short s is) e = absurd cc
 octets_bytes _ _ _ b (raw_long s fits) e = absurd cc
 octets_bytes _ _ _ b (raw_octets s fits) e = let same : s ≡ b = cc in (refl, ap long_field same, subst (λ (t : List ℕ). length t < 2 ^ 32) same fits)
 octets_bytes _ _ _ b (raw_array s vs fits p) e = absurd cc
-octets_bytes _ _ _ b (raw_table s ps fits p) e = absurd cc
+octets_bytes _ _ _ b (raw_table s ps es fits p mean) e = absurd cc
 
 -- what a payload is that is found
 payload_of : (type : AMQPType) (s rest : List ℕ) (v : Tree) → RawOutcome type s (found v rest) → (w : List ℕ) × Raw type w v × (s ≡ w ++ rest)

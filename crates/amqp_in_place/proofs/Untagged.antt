@@ -1,10 +1,10 @@
 -- Tables without their type tag.
-use Rattle.std.proofs.Common.{◌≡◌, ◌<◌, ◌≤◌, ◌-◌, ℕ, zero, suc, List, refl, arith}
+use Rattle.std.proofs.Common.{◌≡◌, ◌<◌, ◌≤◌, ◌-◌, ℕ, zero, suc, List, refl, arith, subst, sym}
 use Rattle.std.specs.Int.{w32}
 use Rattle.amqp_value_core.specs.declared.types.amqp_type.AMQPType.TheVariants as amqp
 use Rattle.amqp_value_core.specs.Values.{Entries, table}
-use Rattle.amqp_value_core.specs.Nesting.{WireWithin, OutcomeWithin}
-use Rattle.amqp_value_core.specs.Outcomes.{Reading, found, more, malformed, frame_lack, NeedsMoreOr, PrefixBy}
+use Rattle.amqp_value_core.specs.Nesting.{OutcomeWithin}
+use Rattle.amqp_value_core.specs.Outcomes.{Reading, found, more, malformed, frame_lack, needs_more}
 use Rattle.amqp_value_core.specs.Inputs.{slice_bytes}
 use Rattle.amqp_value_core.specs.declared.input.SliceInput.{SliceInput}
 use Rattle.amq_protocol_types.specs.declared.parsing.errors.Err.TheVariants.{Incomplete, Error, Failure}
@@ -27,11 +27,11 @@ table_head s i rest f = (amqp.FieldTable, s, (70, refl, refl), (refl, f))
 
 -- bytes that are missing of the length or the body are missing of the table
 lacking : (d : ℕ) (s : List ℕ) (o : Reading) → IsCutLengthPrefixed s o → OutcomeWithin d (tagged amqp.FieldTable s) o
-lacking d s o x = by (frame_lack w32 s) x.0 x.1
+lacking d s o x = subst (OutcomeWithin d (tagged amqp.FieldTable s)) (sym x.1) (by (frame_lack w32 s) refl x.0)
   where
-    by : (n : ℕ) → 0 < n → o ≡ more n → NeedsMoreOr n (PrefixBy (WireWithin d) (tagged amqp.FieldTable s) o) o
-    by zero some e = absurd (omega (arith, some))
-    by (suc n) some e = e
+    by : (n : ℕ) → frame_lack w32 s ≡ n → 0 < n → OutcomeWithin d (tagged amqp.FieldTable s) (more n)
+    by zero e some = absurd (omega (arith, some))
+    by (suc n) e some = needs_more 70 amqp.FieldTable s n refl e
 
 -- the error of the length-prefixed field is the table's, and needs no memory
 pub cut_table : (l : Limits) (s : List ℕ) (e : Refusal) → extent (tagged amqp.FieldTable s) ≤ l.frame → IsRefusal (IsCutLengthPrefixed s) ⊥ e

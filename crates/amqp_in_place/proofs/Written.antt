@@ -32,7 +32,7 @@ leaf_written _ _ _ (raw_short s is) x = refl
 leaf_written _ _ _ (raw_long s fits) x = refl
 leaf_written _ _ _ (raw_octets s fits) x = refl
 leaf_written _ _ _ (raw_array body vs fits all) x = absurd x
-leaf_written _ _ _ (raw_table body ps fits all) x = absurd x
+leaf_written _ _ _ (raw_table body ps es fits all mean) x = absurd x
 
 -- so is a value that isn't one
 plain_is : (r : ValueRef) (v : Tree) → IsPlainRef r → Denotes r v → IsWrittenAs r v
@@ -51,7 +51,7 @@ array_written _ _ mid body left rest _ (raw_array s vs fits all) a is x e refers
     let same : s ≡ array_body a = (one_large s body left rest fits x.fits (sym e ∙ x.framed)).0 ∙ sym refers in
     let ts = values_written s vs all in
     (ts, subst (λ (t : List ℕ). WrittenValues t ts) same (vs, all, refl), refl)
-array_written _ _ mid body left rest _ (raw_table s ps fits all) a is x e refers = absurd cc
+array_written _ _ mid body left rest _ (raw_table s ps es fits all mean) a is x e refers = absurd cc
 
 table_written : (type : AMQPType) (b mid body left rest : List ℕ) (v : Tree) (p : Raw type b v) (t : TableRef) → type ≡ amqp.FieldTable → IsLengthPrefixed mid body rest → mid ≡ b ++ left
     → table_body t ≡ body → IsWrittenAs (at.FieldTable t) (raw_written type b v p)
@@ -60,7 +60,7 @@ table_written _ _ mid body left rest _ (raw_short s short) t is x e refers = abs
 table_written _ _ mid body left rest _ (raw_long s fits) t is x e refers = absurd cc
 table_written _ _ mid body left rest _ (raw_octets s fits) t is x e refers = absurd cc
 table_written _ _ mid body left rest _ (raw_array s vs fits all) t is x e refers = absurd cc
-table_written _ _ mid body left rest _ (raw_table s ps fits all) t is x e refers =
+table_written _ _ mid body left rest _ (raw_table s ps es fits all mean) t is x e refers =
     let same : s ≡ table_body t = (one_large s body left rest fits x.fits (sym e ∙ x.framed)).0 ∙ sym refers in
     let ts = pairs_written s ps all in
     (ts, subst (λ (u : List ℕ). WrittenPairs u ts) same (ps, all, refl), refl)

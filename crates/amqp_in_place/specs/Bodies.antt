@@ -1,7 +1,8 @@
 -- The bodies of containers.
-use Rattle.std.specs.Prelude.{ℕ, ◌≡◌, List}
-use Rattle.amqp_value_core.specs.Values.{Trees, Entries, no_entries, insert_all}
+use Rattle.std.specs.Prelude.{ℕ, List}
+use Rattle.amqp_value_core.specs.Values.{Trees, Entries}
 use Rattle.amqp_value_core.specs.Grammar.{ArrayBody, TableBody}
+use Rattle.amqp_value_core.specs.Maps.{Mean}
 
 -- the bytes are values one after another
 abbrev pub HasValues : List ℕ → Type 0
@@ -11,6 +12,6 @@ HasValues s = (vs : Trees) × ArrayBody s vs
 abbrev pub HasPairs : List ℕ → Type 0
 HasPairs s = (ps : Entries) × TableBody s ps
 
--- the bytes are pairs that result in these entries: of equal keys the last pair's value stays
+-- the bytes are pairs that mean these entries
 abbrev pub HasEntries : List ℕ → Entries → Type 0
-HasEntries s es = (ps : Entries) × TableBody s ps × (es ≡ insert_all no_entries ps)
+HasEntries s es = (ps : Entries) × TableBody s ps × Mean ps es

@@ -19,7 +19,7 @@ abbrev mutual
   raw_written _ _ _ (raw_long s fits) = 1
   raw_written _ _ _ (raw_octets s fits) = 1
   raw_written _ _ _ (raw_array body vs fits entries) = suc (body_written body vs entries)
-  raw_written _ _ _ (raw_table body ps fits entries) = suc (pairs_written body ps entries)
+  raw_written _ _ _ (raw_table body ps es fits entries mean) = suc (pairs_written body ps entries)
 
   pub body_written : (body : List ℕ) (vs : Trees) → ArrayBody body vs → ℕ
   body_written _ _ no_values = 0

@@ -18,7 +18,7 @@ abbrev mutual
   raw_written _ _ _ (raw_long s fits) = long s
   raw_written _ _ _ (raw_octets s fits) = octets s
   raw_written _ _ _ (raw_array body vs fits all) = array (values_written body vs all)
-  raw_written _ _ _ (raw_table body ps fits all) = table (pairs_written body ps all)
+  raw_written _ _ _ (raw_table body ps es fits all mean) = table (pairs_written body ps all)
 
   pub values_written : (body : List ℕ) (vs : Trees) → ArrayBody body vs → Trees
   values_written _ _ no_values = no_trees

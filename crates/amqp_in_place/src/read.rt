@@ -33,7 +33,7 @@ use simdutf8::basic::Utf8Error;
 ///
 /// All of the value is validated, keys' UTF-8 too. Nothing is copied or allocated. By measurements
 /// it uses stack for at most `limits.depth` levels; docs/PROMISES.md has what one takes.
-#[tactic(auto, using(crate::proofs::OneValue::one_value, crate::proofs::Reading::left_after))]
+#[tactic(auto, using(crate::proofs::OneValue::one_value, crate::proofs::Reading::left_after, amq_protocol_types::proofs::ParsingLaws::unknown_within, amq_protocol_types::proofs::ParsingLaws::lacks_within))]
 pub fn read_in_place(bytes: &[u8], limits: Limits) -> Result<(ValueRef<'_>, &[u8]), ParserError>
     ensures within { MatchResult result
         (λ x. (v : Tree) × Denotes x.0 v × Within limits bytes.now (found v x.1.now))

@@ -9,7 +9,7 @@ use Rattle.amqp_value_core.specs.Nesting.{WireWithin, RawWithin, OutcomeWithin}
 use Rattle.amqp_value_core.specs.Inputs.{IsBytes}
 use Rattle.amqp_value_core.specs.Outcomes.{Reading, found, more, unknown, malformed, NeedsMoreOr, lack, PrefixBy, OutcomeBy, Outcome}
 use Rattle.amqp_value_core.specs.Payloads.{RawOutcome}
-use Rattle.amqp_value_core.specs.Decode.{outcome_by, meaning, outcome, raw_outcome}
+use Rattle.amqp_value_core.specs.Decode.{outcome_by, meaning, compute_outcome, compute_raw_outcome}
 use Rattle.amqp_value_core.proofs.Found.{found_wire, found_raw}
 use Rattle.amqp_value_core.proofs.Limited.{one_outcome_within}
 use Rattle.amqp_value_core.proofs.Outcomes.{NeedsMoreOr-weaker, from_cases, one_outcome, one_raw_outcome}
@@ -17,14 +17,14 @@ use Rattle.amqp_value_core.proofs.Nests.{nesting-le, raw_nesting-le}
 use Rattle.amqp_value_core.proofs.Sound.{PrefixOrError, WireEnds, raw_ends, wire_ends, means_spelled}
 
 -- an encoding at the start is the outcome
-outcome_at : (s w rest : List ℕ) (v : Tree) → Wire w v → s ≡ w ++ rest → outcome s ≡ found v rest
+outcome_at : (s w rest : List ℕ) (v : Tree) → Wire w v → s ≡ w ++ rest → compute_outcome s ≡ found v rest
 outcome_at s w rest v p is =
-    subst (λ x. outcome x ≡ found v rest) (sym is) (found_wire (length (w ++ rest)) w rest v p (omega (arith, nesting-le w v p, length-append w rest)))
+    subst (λ x. compute_outcome x ≡ found v rest) (sym is) (found_wire (length (w ++ rest)) w rest v p (omega (arith, nesting-le w v p, length-append w rest)))
 
 -- so is a payload
-raw_outcome_at : (type : AMQPType) (s b rest : List ℕ) (v : Tree) → Raw type b v → s ≡ b ++ rest → raw_outcome type s ≡ found v rest
+raw_outcome_at : (type : AMQPType) (s b rest : List ℕ) (v : Tree) → Raw type b v → s ≡ b ++ rest → compute_raw_outcome type s ≡ found v rest
 raw_outcome_at type s b rest v p is =
-    subst (λ x. raw_outcome type x ≡ found v rest) (sym is) (found_raw (length (b ++ rest)) type b rest v p (omega (arith, raw_nesting-le type b v p, length-append b rest)))
+    subst (λ x. compute_raw_outcome type x ≡ found v rest) (sym is) (found_raw (length (b ++ rest)) type b rest v p (omega (arith, raw_nesting-le type b v p, length-append b rest)))
 
 -- if each P at the start is the outcome, an error means that there is no such P
 prefix_by : (P Q : List ℕ → Tree → Type 0) (s : List ℕ) (o : Reading) → ((w rest : List ℕ) (v : Tree) → P w v → s ≡ w ++ rest → o ≡ found v rest)
@@ -35,16 +35,16 @@ prefix_by P Q s (more n) finds forget ends = ends
 prefix_by P Q s unknown finds forget ends = ends
 
 -- reading a payload results in what the function returns
-pub raw_outcome_holds : (type : AMQPType) (s : List ℕ) → IsBytes s → RawOutcome type s (raw_outcome type s)
+pub raw_outcome_holds : (type : AMQPType) (s : List ℕ) → IsBytes s → RawOutcome type s (compute_raw_outcome type s)
 raw_outcome_holds type s bytes =
-    NeedsMoreOr-weaker (lack type s) _ _ (raw_outcome type s)
-    (prefix_by (Raw type) (RawWithin (length s) type) s (raw_outcome type s) (raw_outcome_at type s) (λ b v q. q.0))
+    NeedsMoreOr-weaker (lack type s) _ _ (compute_raw_outcome type s)
+    (prefix_by (Raw type) (RawWithin (length s) type) s (compute_raw_outcome type s) (raw_outcome_at type s) (λ b v q. q.0))
     (raw_ends (length s) (meaning (length s)) (means_spelled (length s)) type s bytes)
 
 -- and to nothing else
-raw_outcome_only : (type : AMQPType) (s : List ℕ) (o : Reading) → IsBytes s → RawOutcome type s o → o ≡ raw_outcome type s
+raw_outcome_only : (type : AMQPType) (s : List ℕ) (o : Reading) → IsBytes s → RawOutcome type s o → o ≡ compute_raw_outcome type s
 raw_outcome_only type s o bytes here =
-    one_raw_outcome type s o (raw_outcome type s) here (raw_outcome_holds type s bytes)
+    one_raw_outcome type s o (compute_raw_outcome type s) here (raw_outcome_holds type s bytes)
 
 -- reading that finds only encodings, and each P at the start, results in this outcome
 outcome_by_ends : (depth : ℕ) (P : List ℕ → Tree → Type 0) (s : List ℕ) (o : Reading) → ((w : List ℕ) (v : Tree) → WireWithin depth w v → P w v)
@@ -57,20 +57,20 @@ outcome_by_ends depth P (c ∷ b) o forget finds ends = from_cases P (c ∷ b) o
   at_kind (Some type) ends = NeedsMoreOr-weaker (lack type b) _ _ o (prefix_by P (WireWithin depth) (c ∷ b) o finds forget) ends
 
 -- reading a value results in what the function returns
-pub outcome_holds : (s : List ℕ) → IsBytes s → Outcome s (outcome s)
+pub outcome_holds : (s : List ℕ) → IsBytes s → Outcome s (compute_outcome s)
 outcome_holds s bytes =
-    outcome_by_ends (length s) Wire s (outcome s) (λ w v q. q.0) (outcome_at s) (wire_ends (length s) (meaning (length s)) (means_spelled (length s)) s bytes)
+    outcome_by_ends (length s) Wire s (compute_outcome s) (λ w v q. q.0) (outcome_at s) (wire_ends (length s) (meaning (length s)) (means_spelled (length s)) s bytes)
 
 -- and to nothing else
-outcome_only : (s : List ℕ) (o : Reading) → IsBytes s → Outcome s o → o ≡ outcome s
-outcome_only s o bytes here = one_outcome s o (outcome s) here (outcome_holds s bytes)
+outcome_only : (s : List ℕ) (o : Reading) → IsBytes s → Outcome s o → o ≡ compute_outcome s
+outcome_only s o bytes here = one_outcome s o (compute_outcome s) here (outcome_holds s bytes)
 
 -- the relation is the function
-pub outcome_is : (s : List ℕ) (o : Reading) → IsBytes s → Outcome s o ↔ (o ≡ outcome s)
+pub outcome_is : (s : List ℕ) (o : Reading) → IsBytes s → Outcome s o ↔ (o ≡ compute_outcome s)
 outcome_is s o bytes = (outcome_only s o bytes, λ is. subst (Outcome s) (sym is) (outcome_holds s bytes))
 
 -- of payloads too
-pub raw_outcome_is : (type : AMQPType) (s : List ℕ) (o : Reading) → IsBytes s → RawOutcome type s o ↔ (o ≡ raw_outcome type s)
+pub raw_outcome_is : (type : AMQPType) (s : List ℕ) (o : Reading) → IsBytes s → RawOutcome type s o ↔ (o ≡ compute_raw_outcome type s)
 raw_outcome_is type s o bytes = (raw_outcome_only type s o bytes, λ is. subst (RawOutcome type s) (sym is) (raw_outcome_holds type s bytes))
 
 -- ---- within a depth

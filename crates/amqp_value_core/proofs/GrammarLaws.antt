@@ -15,9 +15,9 @@ pub use Rattle.amqp_value_core.proofs.Found.{and_others, and_pairs}
 pub use Rattle.amqp_value_core.proofs.Whole.{never_malformed}
 pub use Rattle.amqp_value_core.proofs.Agreement.{outcome_holds, outcome_is, raw_outcome_holds, raw_outcome_is}
 -- tables as finite maps, and what pairs mean
-pub use Rattle.amqp_value_core.proofs.Tables.{put_found, put_other, key_has_value, last_stays, option_or-assoc, option_or-none, pairs_rise, rising_pairs, same_tables, entries_rise, put_mean, mean_put, rising_mean, of_mean}
+pub use Rattle.amqp_value_core.proofs.Tables.{put_found, put_other, key_has_value, last_stays, option_or-assoc, option_or-none, pairs_rise, rising_pairs, same_tables, entries_rise, put_mean, mean_put, rising_mean, of_mean, one_mean}
 -- what an encoding bounds, what is read from it, and that the canonical one is a shortest
-pub use Rattle.amqp_value_core.proofs.Bounds.{bounds, raw_bounds}
+pub use Rattle.amqp_value_core.proofs.Bounds.{bounds, raw_bounds, mean_within}
 pub use Rattle.amqp_value_core.proofs.Shortest.{what_is_read, what_raw_reads, read_is_value, raw_value, shortest, same_text_same_value}
 -- canonical encodings by their bytes: each is an encoding and, of bytes, `text`
 pub use Rattle.amqp_value_core.proofs.Canons.{canon_is_wire, canon_fits, canon_is_text, canonical_wire, canon_rises}

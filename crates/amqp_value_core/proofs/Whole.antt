@@ -6,7 +6,7 @@ use Rattle.amqp_value_core.specs.Layouts.{fixed}
 use Rattle.amqp_value_core.specs.Inputs.{IsBytes}
 use Rattle.amqp_value_core.specs.Outcomes.{Reading, malformed, lack}
 use Rattle.amqp_value_core.specs.Payloads.{RawOutcome}
-use Rattle.amqp_value_core.specs.Decode.{meaning, raw_outcome}
+use Rattle.amqp_value_core.specs.Decode.{meaning, compute_raw_outcome}
 use Rattle.amqp_value_core.proofs.Agreement.{raw_outcome_is}
 use Rattle.amqp_value_core.proofs.Found.{by_layout, by_lack}
 
@@ -29,5 +29,5 @@ by_lack_not_malformed (suc k) n type b here = tt
 pub never_malformed : (type : AMQPType) (s : List ℕ) → IsBytes s → type ≢ amqp.ShortString → type ≢ amqp.FieldArray → type ≢ amqp.FieldTable
     → RawOutcome type s malformed → ⊥
 never_malformed type s bytes no_short no_array no_table here =
-    let is : malformed ≡ raw_outcome type s = (raw_outcome_is type s malformed bytes).0 here in
+    let is : malformed ≡ compute_raw_outcome type s = (raw_outcome_is type s malformed bytes).0 here in
     subst IsNotMalformed (sym is) (by_lack_not_malformed (lack type s) (length s) type s (by_layout_not_malformed (length s) type s no_short no_array no_table))

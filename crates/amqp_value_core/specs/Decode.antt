@@ -66,9 +66,9 @@ meaning (suc depth) amqp.FieldTable s = option_map table (pairs_onto (outcome_by
 meaning _ _ s = None
 
 -- the outcome of reading a value: no value nests as deep as it has bytes
-abbrev pub outcome : List ℕ → Reading
-outcome s = outcome_by (meaning (length s)) s
+abbrev pub compute_outcome : List ℕ → Reading
+compute_outcome s = outcome_by (meaning (length s)) s
 
 -- the outcome of reading a payload of the type
-abbrev pub raw_outcome : AMQPType → List ℕ → Reading
-raw_outcome type b = raw_outcome_by (meaning (length b)) type b
+abbrev pub compute_raw_outcome : AMQPType → List ℕ → Reading
+compute_raw_outcome type b = raw_outcome_by (meaning (length b)) type b

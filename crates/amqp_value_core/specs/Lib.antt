@@ -15,13 +15,15 @@ pub mod Prefix
 pub mod Inputs
 -- an input in two parts
 pub mod Splits
--- The definitions of the format. The first seven are those of the headline, in reading order.
+-- The definitions of the format. The first eight are those of the headline, in reading order.
 -- *Ids* and *Strings* come before them.
 
 -- what a value is, without its place in memory
 pub mod Values
 -- payloads of fixed width
 pub mod Layouts
+-- a table as a finite map: what is found at a key, and what pairs mean
+pub mod Maps
 -- which bytes are an encoding of which value
 pub mod Grammar
 -- what reading any bytes results in: a value, more bytes that are needed, or an error
@@ -42,8 +44,6 @@ pub mod Readings
 pub mod Decode
 -- encodings in which containers nest at most that deep
 pub mod Nesting
--- a table as a finite map: what is found at a key
-pub mod Maps
 -- a value's type and its payload apart: what is written, and what reading a payload results in
 pub mod Payloads
 -- values that are stored without an allocation

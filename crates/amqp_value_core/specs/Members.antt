@@ -3,7 +3,6 @@
 use Rattle.std.specs.Prelude.{ℕ, length}
 use Rattle.amqp_value_core.specs.Values.{Trees, Entries}
 use Rattle.amqp_value_core.specs.Texts.{body, pairs}
-
 pub use Rattle.amqp_value_core.specs.Values.{greatest_depth, entries_depth, count_all, entries_count, all_readable, entries_readable}
 pub use Rattle.amqp_value_core.specs.Texts.{AllFit, EntriesFit}
 pub use Rattle.amqp_value_core.specs.Canonical.{CanonBody, CanonPairs}

@@ -3,7 +3,6 @@ use Rattle.std.specs.Prelude.{ℕ, List}
 use Rattle.amqp_value_core.specs.declared.types.amqp_type.AMQPType.{AMQPType}
 use Rattle.amqp_value_core.specs.Grammar.{Raw}
 use Rattle.amqp_value_core.specs.Outcomes.{Reading, PrefixBy, RawOutcomeBy}
-
 pub use Rattle.amqp_value_core.specs.Canonical.{CanonRaw}
 
 -- a prefix of s is a payload of the type, or no prefix is

@@ -16,7 +16,7 @@ ghost use Rattle.amqp_value_core.specs.Readings.{read_back, StillWaits, with_mor
 ghost use Rattle.amqp_value_core.specs.Ids.{kind};
 ghost use Rattle.amqp_value_core.specs.Inputs.{IsBytes};
 ghost use Rattle.amqp_value_core.specs.Outcomes.{Reading, Outcome, Heavy, RawHeavy, found, malformed};
-ghost use Rattle.amqp_value_core.specs.Decode.{outcome, raw_outcome};
+ghost use Rattle.amqp_value_core.specs.Decode.{compute_outcome, compute_raw_outcome};
 ghost use Rattle.amqp_value_core.specs.Canonical.{Canon};
 ghost use Rattle.amqp_value_core.specs.Headline.{IsCanonical, IsWritableIn, IsShortest, TellsApart};
 ghost use Rattle.amqp_value_core.specs.Maps.{has_key, value_at, last_at, IsRising};
@@ -199,22 +199,22 @@ pub fn what_a_text_is()
     ensures injective { (v : Tree) → TellsApart v }
 {}
 
-/// Reading a value from any bytes has an outcome, it has no other, and the function `outcome`
+/// Reading a value from any bytes has an outcome, it has no other, and the function `compute_outcome`
 /// computes it.
 #[tactic(auto, using(crate::proofs::Agreement::outcome_holds, crate::proofs::Agreement::outcome_is))]
 pub fn outcome_computes()
-    ensures holds { (s : List ℕ) → IsBytes s → Outcome s (outcome s) }
-    ensures only { (s : List ℕ) (o : Reading) → IsBytes s → Outcome s o ↔ (o ≡ outcome s) }
+    ensures holds { (s : List ℕ) → IsBytes s → Outcome s (compute_outcome s) }
+    ensures only { (s : List ℕ) (o : Reading) → IsBytes s → Outcome s o ↔ (o ≡ compute_outcome s) }
 {}
 
-/// Reading a payload of a type has an outcome, it has no other, and the function `raw_outcome`
+/// Reading a payload of a type has an outcome, it has no other, and the function `compute_raw_outcome`
 /// computes it.
 #[tactic(auto, using(crate::proofs::Agreement::raw_outcome_holds, crate::proofs::Agreement::raw_outcome_is))]
 pub fn raw_outcome_computes()
     ensures holds { (type : AMQPType) (s : List ℕ) → IsBytes s
-        → RawOutcome type s (raw_outcome type s) }
+        → RawOutcome type s (compute_raw_outcome type s) }
     ensures only { (type : AMQPType) (s : List ℕ) (o : Reading) → IsBytes s
-        → RawOutcome type s o ↔ (o ≡ raw_outcome type s) }
+        → RawOutcome type s o ↔ (o ≡ compute_raw_outcome type s) }
 {}
 
 /// A payload of fixed width, a long string and a byte array are never malformed: once all of the

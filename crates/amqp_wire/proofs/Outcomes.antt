@@ -3,7 +3,7 @@ use Rattle.std.proofs.Common.{◌≡◌, ◌<◌, ℕ, suc, Some, None, List, []
 use Rattle.std.proofs.lemmas.Bool.{cases_lt, le-ltb, lt-ltb}
 use Rattle.amqp_value_core.specs.Inputs.{IsBytes}
 use Rattle.amqp_value_core.specs.Outcomes.{Reading, more, unknown, malformed, Outcome, Heavy}
-use Rattle.amqp_value_core.specs.Decode.{outcome, outcome_by, meaning}
+use Rattle.amqp_value_core.specs.Decode.{compute_outcome, outcome_by, meaning}
 use Rattle.amqp_value_core.proofs.GrammarLaws.{outcome_is, within_is}
 use Rattle.amq_protocol_types.specs.declared.parsing.errors.Err.TheVariants.{Incomplete, Error, Failure}
 use Rattle.amq_protocol_types.specs.declared.parsing.errors.Needed.TheVariants.{Unknown, Size}
@@ -24,11 +24,11 @@ bytes_fit (c ∷ s) fit = ((fit 0).fits, bytes_fit s (λ i. fit (suc i)))
 -- ---- any value
 
 -- what is printed of an outcome of bytes is what is printed of the one that is computed
-pub said_of_outcome : (s : List ℕ) (o : Reading) → IsBytes s → Outcome s o → said o ≡ said (outcome s)
+pub said_of_outcome : (s : List ℕ) (o : Reading) → IsBytes s → Outcome s o → said o ≡ said (compute_outcome s)
 said_of_outcome s o fit here = ap said ((outcome_is s o fit).0 here)
 
 -- and what is printed of an error
-pub said_of_refusal : (s : List ℕ) (e : Refusal) (t : List ℕ) → IsBytes s → IsRefusal (Outcome s) (Heavy s) e → IsSaid e t → t ≡ said (outcome s)
+pub said_of_refusal : (s : List ℕ) (e : Refusal) (t : List ℕ) → IsBytes s → IsRefusal (Outcome s) (Heavy s) e → IsSaid e t → t ≡ said (compute_outcome s)
 said_of_refusal s (Incomplete Unknown) t fit right is = absurd right
 said_of_refusal s (Incomplete (Size n)) t fit right is = is ∙ said_of_outcome s (more n) fit right
 said_of_refusal s (Error MapOpt) t fit right is = is ∙ said_of_outcome s unknown fit right
@@ -55,8 +55,8 @@ said_of_limited l s (Incomplete (Size n)) t fit right is = is ∙ said_of_within
 said_of_limited l s (Error MapOpt) t fit right is = is ∙ said_of_within l s unknown fit right
 said_of_limited l s (Error Eof) t fit right is = is ∙ said_of_within l s malformed fit right
 said_of_limited l s (Error TooLarge) t fit right is = is ∙ ap said_within (sym (too_large l s right))
-said_of_limited l s (Error MapRes) t fit right is = absurd right.1
-said_of_limited l s (Error OutOfMemory) t fit right is = absurd right.1
+said_of_limited l s (Error MapRes) t fit right is = absurd right
+said_of_limited l s (Error OutOfMemory) t fit right is = absurd right
 said_of_limited l s (Failure kind) t fit right is = absurd is
 
 -- and the other way round

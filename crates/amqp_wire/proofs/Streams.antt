@@ -8,7 +8,7 @@ use Rattle.amqp_value_core.specs.Values.{Tree}
 use Rattle.amqp_value_core.specs.View.{view}
 use Rattle.amqp_value_core.specs.Nesting.{WireWithin}
 use Rattle.amqp_value_core.specs.Inputs.{IsBytes}
-use Rattle.amqp_value_core.specs.Outcomes.{Reading, found, more, unknown, malformed}
+use Rattle.amqp_value_core.specs.Outcomes.{Reading, found, more, unknown, malformed, no_byte}
 use Rattle.amqp_value_core.proofs.Bytes.{bytes_after}
 use Rattle.amqp_value_core.proofs.GrammarLaws.{length-wire, one_reading, prefix_within, wire_found_within}
 use Rattle.amq_protocol_types.specs.declared.parsing.errors.ErrorKind.{ErrorKind}
@@ -135,7 +135,7 @@ last_line_is : (l : Limits) (s : List ℕ) (left : Option (List ℕ)) (line : Li
 last_line_is l s left line o bytes is none e = (e ∙ ap (last_line s) (sym is), none_begins l s bytes (subst HasNoValue (sym is) none))
 
 pub end_line_is : (l : Limits) (s : List ℕ) (left : Option (List ℕ)) (line : List ℕ) → line ≡ codes "end\n" → IsBytes s → IsOutcomeOfAll l s left (Ok None) → IsLine l s left line false
-end_line_is l [] left line e bytes (none, is) = last_line_is l [] left line (Some (more 1)) bytes (read_is l [] (more 1) bytes (omega arith, refl)) (λ v rest c. cc) e
+end_line_is l [] left line e bytes (none, is) = last_line_is l [] left line (Some (more 1)) bytes (read_is l [] (more 1) bytes (omega arith, no_byte)) (λ v rest c. cc) e
 end_line_is l (c ∷ s) left line e bytes (none, is) = absurd cc
 
 pub cut_line_is : (l : Limits) (s : List ℕ) (left : Option (List ℕ)) (line : List ℕ) → line ≡ codes "truncated\n" → IsBytes s → IsOutcomeOfAll l s left (Err stream.Truncated) → IsLine l s left line false
@@ -146,8 +146,8 @@ pub refused_line_is : (l : Limits) (s : List ℕ) (left : Option (List ℕ)) (li
 refused_line_is l s left line MapOpt e bytes x = last_line_is l s left line (Some unknown) bytes (read_is l s unknown bytes x) (λ v rest d. cc) e
 refused_line_is l s left line Eof e bytes x = last_line_is l s left line (Some malformed) bytes (read_is l s malformed bytes x) (λ v rest d. cc) e
 refused_line_is l s left line TooLarge e bytes x = last_line_is l s left line None bytes (too_large l s x) (λ v rest d. cc) e
-refused_line_is l s left line MapRes e bytes x = absurd x.1
-refused_line_is l s left line OutOfMemory e bytes x = absurd x.1
+refused_line_is l s left line MapRes e bytes x = absurd x
+refused_line_is l s left line OutOfMemory e bytes x = absurd x
 
 -- of all that the reader held, if nothing was retained
 pub line_is : (l : Limits) (k : List ℕ) (old left : Option (List ℕ)) (line : List ℕ) (b : Bool) (r : Result (Option AMQPValue) StreamError)

@@ -6,7 +6,7 @@ use Rattle.bstr.specs.Text.{lines_of, without_terminator}
 use Rattle.hex.specs.Hex.{decode_of, encode_lower}
 use Rattle.hex.specs.declared.error.FromHexError.{FromHexError}
 use Rattle.amqp_value_core.specs.Outcomes.{Reading, found, more, unknown, malformed}
-use Rattle.amqp_value_core.specs.Decode.{outcome, outcome_by, meaning}
+use Rattle.amqp_value_core.specs.Decode.{compute_outcome, outcome_by, meaning}
 use Rattle.amqp_value_core.specs.Values.{Tree}
 use Rattle.amqp_value_core.specs.Texts.{text}
 use Rattle.amq_protocol_types.specs.parsing.Headers.{extent}
@@ -37,7 +37,7 @@ said_within (Some o) = said o
 -- what is printed of bytes that are read in a form
 abbrev pub said_in : Form → List ℕ → List ℕ
 said_in (form.Within l) s = said_within (read_within l s)
-said_in _ s = said (outcome s)
+said_in _ s = said (compute_outcome s)
 
 -- what is printed of the bytes that hexadecimal denotes, if it denotes any
 abbrev pub said_of : (List ℕ → List ℕ) → Result (List ℕ) FromHexError → List ℕ
@@ -59,7 +59,7 @@ output_by say xs = lines_by say (map without_terminator (lines_of xs))
 
 -- if a value may be of any length and depth
 abbrev pub output : List ℕ → List ℕ
-output xs = output_by (λ s. said (outcome s)) xs
+output xs = output_by (λ s. said (compute_outcome s)) xs
 
 -- if values are read within limits
 abbrev pub output_within : Limits → List ℕ → List ℕ

@@ -1,7 +1,7 @@
 //! The result of one line. Nothing but memory can run out.
 
 ghost use Rattle.std.specs.Prelude.{◌≡◌, ◌-◌, ◌≤◌, ◌++◌, ◌∷◌, [], length, IfOk, string_bytes};
-ghost use Rattle.amqp_value_core.specs.Decode.{outcome};
+ghost use Rattle.amqp_value_core.specs.Decode.{compute_outcome};
 ghost use Rattle.amqp_value_core.specs.Headline.{IsWritableIn};
 ghost use Rattle.amqp_value_core.specs.View.{view};
 ghost use Rattle.amqp_value_core.specs.Texts.{text, size, Fits};
@@ -91,7 +91,7 @@ fn refusal_text(alloc: Global, error: ParserError) -> Result<String, AllocError>
 
 /// What is printed of the bytes that a line denotes.
 fn result_of_bytes<I: ParsableInput>(alloc: Global, bytes: I) -> Result<String, AllocError>
-    ensures { IfOk result (λ printed. string_bytes printed ≡ said (outcome (I.bytes bytes))) }
+    ensures { IfOk result (λ printed. string_bytes printed ≡ said (compute_outcome (I.bytes bytes))) }
 {
     let count = bytes.input_len();
     match parse_value(alloc, bytes) {

@@ -1,5 +1,5 @@
 -- What the type tag and the length field of a value determine, whatever has come after them.
-use Rattle.std.specs.Prelude.{ℕ, suc, ◌+◌, ◌<◌, ◌≤◌, ◌≡◌, Option, Some, None, List, [], ◌∷◌, length, take, nat_lt, if◌then◌else◌}
+use Rattle.std.specs.Prelude.{ℕ, suc, ◌+◌, ◌<◌, ◌≤◌, ◌≡◌, Option, Some, None, MatchOption, List, [], ◌∷◌, length, take, nat_lt, if◌then◌else◌}
 use Rattle.std.specs.Int.{Width, byte_len}
 use Rattle.amqp_value_core.specs.declared.types.amqp_type.AMQPType.{AMQPType}
 use Rattle.amqp_value_core.specs.Ids.{kind}
@@ -38,7 +38,8 @@ wanted (c ∷ b) = wanted_at (kind c) b
 
 -- the first byte is a type tag, and the bytes of its payload are all there
 abbrev pub IsWholeValue : List ℕ → Type 0
-IsWholeValue s = (wanted s ≡ 0) × (0 < extent s)
+IsWholeValue [] = ⊥
+IsWholeValue (c ∷ b) = MatchOption (kind c) ⊥ (λ type. lack type b ≡ 0)
 
 -- how many bytes the first field of a payload has
 abbrev pub first_of : Option Layout → Width → ℕ

@@ -91,6 +91,7 @@ pub fn value_len<I: ParsableInput>(i: I) -> usize
 }
 
 /// Reads the header of a value that may have at most `frame` bytes.
+#[tactic(auto, using(crate::proofs::lemmas::parsing::Whole::whole_by_header))]
 #[inline(always)]
 pub fn header_of<I: ParsableInput>(i: I, frame: u32) -> Header
     ensures header { IsHeader frame (I.bytes i) result }

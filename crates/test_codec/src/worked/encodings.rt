@@ -13,7 +13,7 @@ ghost use Rattle.amqp_value_core.specs.Ids.{kind, id_of};
 ghost use Rattle.amqp_value_core.specs.Names.{read_as};
 ghost use Rattle.amqp_value_core.specs.Outcomes.{found, more, unknown, malformed, Outcome, Heavy, RawHeavy};
 ghost use Rattle.amqp_value_core.specs.Payloads.{RawOutcome};
-ghost use Rattle.amqp_value_core.specs.Decode.{outcome, raw_outcome};
+ghost use Rattle.amqp_value_core.specs.Decode.{compute_outcome, compute_raw_outcome};
 ghost use Rattle.amqp_value_core.specs.Texts.{text, size};
 ghost use Rattle.amqp_value_core.specs.Hexadecimal.{hex};
 
@@ -21,38 +21,38 @@ use amqp_value_core::types::AMQPType;
 
 /// 0 is false, every other byte is true, and true is written 1.
 pub fn booleans()
-    ensures zero { outcome (hex "'t' 00") ≡ found (scalar (boolean false)) [] }
-    ensures one { outcome (hex "'t' 01") ≡ found (scalar (boolean true)) [] }
-    ensures seven { outcome (hex "'t' 07") ≡ found (scalar (boolean true)) [] }
+    ensures zero { compute_outcome (hex "'t' 00") ≡ found (scalar (boolean false)) [] }
+    ensures one { compute_outcome (hex "'t' 01") ≡ found (scalar (boolean true)) [] }
+    ensures seven { compute_outcome (hex "'t' 07") ≡ found (scalar (boolean true)) [] }
     ensures writes { text (scalar (boolean true)) ≡ hex "'t' 01" }
     ensures writes_false { text (scalar (boolean false)) ≡ hex "'t' 00" }
 {}
 
 /// Numbers of one byte and of two, big-endian: if each byte is 255 a signed number is -1.
 pub fn numbers_of_few_bytes()
-    ensures byte { outcome (hex "'b' ff")
+    ensures byte { compute_outcome (hex "'b' ff")
         ≡ found (scalar (number AMQPType.ShortShortInt (cast_unsigned w8 (negsuc 0)))) [] }
-    ensures unsigned_byte { outcome (hex "'B' ff") ≡ found (scalar (number AMQPType.ShortShortUInt 255)) [] }
+    ensures unsigned_byte { compute_outcome (hex "'B' ff") ≡ found (scalar (number AMQPType.ShortShortUInt 255)) [] }
     ensures writes_byte { text (scalar (number AMQPType.ShortShortUInt 64)) ≡ hex "'B' 40" }
-    ensures two_bytes { outcome (hex "'s' ffff")
+    ensures two_bytes { compute_outcome (hex "'s' ffff")
         ≡ found (scalar (number AMQPType.ShortInt (cast_unsigned w16 (negsuc 0)))) [] }
-    ensures unsigned_two_bytes { outcome (hex "'u' 0102")
+    ensures unsigned_two_bytes { compute_outcome (hex "'u' 0102")
         ≡ found (scalar (number AMQPType.ShortUInt 258)) [] }
     ensures writes_two_bytes { text (scalar (number AMQPType.ShortUInt 132)) ≡ hex "'u' 0084" }
 {}
 
 /// The number 42 in four bytes, and unsigned numbers up to the greatest.
 pub fn numbers_of_four_bytes()
-    ensures reads { outcome (hex "'I' 0000002a") ≡ found (scalar (number AMQPType.LongInt 42)) [] }
+    ensures reads { compute_outcome (hex "'I' 0000002a") ≡ found (scalar (number AMQPType.LongInt 42)) [] }
     ensures writes { text (scalar (number AMQPType.LongInt 42)) ≡ hex "'I' 0000002a" }
-    ensures greatest { outcome (hex "'i' ffffffff")
+    ensures greatest { compute_outcome (hex "'i' ffffffff")
         ≡ found (scalar (number AMQPType.LongUInt 0xffffffff)) [] }
     ensures writes_unsigned { text (scalar (number AMQPType.LongUInt 66666)) ≡ hex "'i' 0001046a" }
 {}
 
 /// A number below 0 is written as its two's complement: -2 in four bytes, and -53.
 pub fn a_negative_number()
-    ensures reads { outcome (hex "'I' fffffffe")
+    ensures reads { compute_outcome (hex "'I' fffffffe")
         ≡ found (scalar (number AMQPType.LongInt (cast_unsigned w32 (negsuc 1)))) [] }
     ensures writes { text (scalar (number AMQPType.LongInt (cast_unsigned w32 (negsuc 52))))
         ≡ hex "'I' ffffffcb" }
@@ -60,7 +60,7 @@ pub fn a_negative_number()
 
 /// Signed numbers of eight bytes.
 pub fn numbers_of_eight_bytes()
-    ensures reads { outcome (hex "'l' 0000000000000100")
+    ensures reads { compute_outcome (hex "'l' 0000000000000100")
         ≡ found (scalar (number AMQPType.LongLongInt 256)) [] }
     ensures writes { text (scalar (number AMQPType.LongLongInt (cast_unsigned w64 (negsuc 9998))))
         ≡ hex "'l' ffffffffffffd8f1" }
@@ -68,18 +68,18 @@ pub fn numbers_of_eight_bytes()
 
 /// A timestamp is eight bytes, an unsigned number.
 pub fn a_timestamp()
-    ensures reads { outcome (hex "'T' 2a2a2a2a2a2a2a2a")
+    ensures reads { compute_outcome (hex "'T' 2a2a2a2a2a2a2a2a")
         ≡ found (scalar (number AMQPType.Timestamp 0x2a2a2a2a2a2a2a2a)) [] }
-    ensures greatest { outcome (hex "'T' ffffffffffffffff")
+    ensures greatest { compute_outcome (hex "'T' ffffffffffffffff")
         ≡ found (scalar (number AMQPType.Timestamp 0xffffffffffffffff)) [] }
     ensures writes { text (scalar (number AMQPType.Timestamp 1234567890)) ≡ hex "'T' 00000000499602d2" }
 {}
 
 /// Two types have a second type tag, which is read and never written.
 pub fn alternate_tags()
-    ensures two_bytes { outcome (hex "'U' 0005") ≡ found (scalar (number AMQPType.ShortInt 5)) [] }
+    ensures two_bytes { compute_outcome (hex "'U' 0005") ≡ found (scalar (number AMQPType.ShortInt 5)) [] }
     ensures writes_two { text (scalar (number AMQPType.ShortInt 5)) ≡ hex "'s' 0005" }
-    ensures eight_bytes { outcome (hex "'L' ffffffffffffffff")
+    ensures eight_bytes { compute_outcome (hex "'L' ffffffffffffffff")
         ≡ found (scalar (number AMQPType.LongLongInt (cast_unsigned w64 (negsuc 0)))) [] }
     ensures writes_eight { text (scalar (number AMQPType.LongLongInt (cast_unsigned w64 (negsuc 0))))
         ≡ hex "'l' ffffffffffffffff" }
@@ -88,12 +88,12 @@ pub fn alternate_tags()
 /// A Float is its four bytes, and a Double its eight: one that is no number is written as it was
 /// read, and the two zeros differ.
 pub fn floats()
-    ensures no_number { outcome (hex "'f' 7fc00001") ≡ found (scalar (number AMQPType.Float 0x7fc00001)) [] }
+    ensures no_number { compute_outcome (hex "'f' 7fc00001") ≡ found (scalar (number AMQPType.Float 0x7fc00001)) [] }
     ensures writes { text (scalar (number AMQPType.Float 0x7fc00001)) ≡ hex "'f' 7fc00001" }
-    ensures zero { outcome (hex "'f' 00000000") ≡ found (scalar (number AMQPType.Float 0)) [] }
-    ensures other_zero { outcome (hex "'f' 80000000") ≡ found (scalar (number AMQPType.Float 0x80000000)) [] }
+    ensures zero { compute_outcome (hex "'f' 00000000") ≡ found (scalar (number AMQPType.Float 0)) [] }
+    ensures other_zero { compute_outcome (hex "'f' 80000000") ≡ found (scalar (number AMQPType.Float 0x80000000)) [] }
     ensures zeros_differ { ¬ (scalar (number AMQPType.Float 0) ≡ scalar (number AMQPType.Float 0x80000000)) }
-    ensures double { outcome (hex "'d' 404535c28f5c28f6")
+    ensures double { compute_outcome (hex "'d' 404535c28f5c28f6")
         ≡ found (scalar (number AMQPType.Double 0x404535c28f5c28f6)) [] }
     ensures writes_double { text (scalar (number AMQPType.Double 0x404535c28f5c28f6))
         ≡ hex "'d' 404535c28f5c28f6" }
@@ -101,28 +101,28 @@ pub fn floats()
 
 /// A decimal is a scale of one byte and an unsigned number of four.
 pub fn a_decimal()
-    ensures reads { outcome (hex "'D' 37 000003e7") ≡ found (scalar (decimal 55 999)) [] }
-    ensures greatest { outcome (hex "'D' ff ffffffff") ≡ found (scalar (decimal 255 0xffffffff)) [] }
+    ensures reads { compute_outcome (hex "'D' 37 000003e7") ≡ found (scalar (decimal 55 999)) [] }
+    ensures greatest { compute_outcome (hex "'D' ff ffffffff") ≡ found (scalar (decimal 255 0xffffffff)) [] }
     ensures writes { text (scalar (decimal 2 42)) ≡ hex "'D' 02 0000002a" }
 {}
 
 /// Nothing has no payload, and what is after it is left.
 pub fn nothing()
-    ensures alone { outcome (hex "'V'") ≡ found (scalar void) [] }
-    ensures with_rest { outcome (hex "'V' 0a") ≡ found (scalar void) (hex "0a") }
+    ensures alone { compute_outcome (hex "'V'") ≡ found (scalar void) [] }
+    ensures with_rest { compute_outcome (hex "'V' 0a") ≡ found (scalar void) (hex "0a") }
 {}
 
 /// A long string is any bytes after their length.
 pub fn long_strings()
-    ensures word { outcome (hex "'S' 00000004 'test'") ≡ found (long (codes "test")) [] }
-    ensures empty { outcome (hex "'S' 00000000 09") ≡ found (long []) (hex "09") }
-    ensures no_text { outcome (hex "'S' 00000001 ff") ≡ found (long (hex "ff")) [] }
+    ensures word { compute_outcome (hex "'S' 00000004 'test'") ≡ found (long (codes "test")) [] }
+    ensures empty { compute_outcome (hex "'S' 00000000 09") ≡ found (long []) (hex "09") }
+    ensures no_text { compute_outcome (hex "'S' 00000001 ff") ≡ found (long (hex "ff")) [] }
     ensures writes { text (long (codes "test")) ≡ hex "'S' 00000004 'test'" }
 {}
 
 /// So is a byte array, which is another value with the same bytes.
 pub fn byte_arrays()
-    ensures reads { outcome (hex "'x' 00000002 ff00 03") ≡ found (octets (hex "ff00")) (hex "03") }
+    ensures reads { compute_outcome (hex "'x' 00000002 ff00 03") ≡ found (octets (hex "ff00")) (hex "03") }
     ensures writes { text (octets (hex "2a010203")) ≡ hex "'x' 00000004 2a010203" }
 {}
 
@@ -130,35 +130,35 @@ pub fn byte_arrays()
 /// inside an array as that array.
 pub fn short_strings_are_written()
     ensures writes { text (short (codes "x")) ≡ hex "'_' 01 'x'" }
-    ensures alone { outcome (hex "'_' 01 'x'") ≡ unknown }
+    ensures alone { compute_outcome (hex "'_' 01 'x'") ≡ unknown }
     ensures writes_inside { text (array (trees_of (short (codes "x") ∷ []))) ≡ hex "'A' 00000003 '_' 01 'x'" }
-    ensures inside { outcome (hex "'A' 00000003 '_' 01 'x'") ≡ malformed }
+    ensures inside { compute_outcome (hex "'A' 00000003 '_' 01 'x'") ≡ malformed }
     ensures not_readable { readable (array (trees_of (short (codes "x") ∷ []))) ≡ false }
 {}
 
 /// A short string is read only as a payload: at most 255 bytes of UTF-8 after their length.
 #[tactic(auto, using(crate::proofs::OnLiterals::empty_text, crate::proofs::OnLiterals::word_test, crate::proofs::OnLiterals::e_acute))]
 pub fn short_strings_are_read()
-    ensures empty { raw_outcome AMQPType.ShortString (hex "00 07") ≡ found (short []) (hex "07") }
-    ensures word { raw_outcome AMQPType.ShortString (hex "04 'test'") ≡ found (short (codes "test")) [] }
-    ensures two_bytes { raw_outcome AMQPType.ShortString (hex "02 c3a9") ≡ found (short (hex "c3a9")) [] }
+    ensures empty { compute_raw_outcome AMQPType.ShortString (hex "00 07") ≡ found (short []) (hex "07") }
+    ensures word { compute_raw_outcome AMQPType.ShortString (hex "04 'test'") ≡ found (short (codes "test")) [] }
+    ensures two_bytes { compute_raw_outcome AMQPType.ShortString (hex "02 c3a9") ≡ found (short (hex "c3a9")) [] }
 {}
 
 /// Bytes that aren't UTF-8 are rejected once they have come: a byte that is in no UTF-8, a
 /// character that is cut, an overlong form, a surrogate.
 #[tactic(auto, using(crate::proofs::OnLiterals::byte_255, crate::proofs::OnLiterals::cut_letter, crate::proofs::OnLiterals::overlong, crate::proofs::OnLiterals::surrogate))]
 pub fn short_strings_are_refused()
-    ensures no_text { raw_outcome AMQPType.ShortString (hex "01 ff") ≡ malformed }
-    ensures cut_letter { raw_outcome AMQPType.ShortString (hex "01 c3 a9") ≡ malformed }
-    ensures overlong { raw_outcome AMQPType.ShortString (hex "02 c080") ≡ malformed }
-    ensures half { raw_outcome AMQPType.ShortString (hex "03 eda080") ≡ malformed }
-    ensures lacks { raw_outcome AMQPType.ShortString (hex "02 ff") ≡ more 1 }
-    ensures no_byte { raw_outcome AMQPType.ShortString [] ≡ more 1 }
+    ensures no_text { compute_raw_outcome AMQPType.ShortString (hex "01 ff") ≡ malformed }
+    ensures cut_letter { compute_raw_outcome AMQPType.ShortString (hex "01 c3 a9") ≡ malformed }
+    ensures overlong { compute_raw_outcome AMQPType.ShortString (hex "02 c080") ≡ malformed }
+    ensures half { compute_raw_outcome AMQPType.ShortString (hex "03 eda080") ≡ malformed }
+    ensures lacks { compute_raw_outcome AMQPType.ShortString (hex "02 ff") ≡ more 1 }
+    ensures no_byte { compute_raw_outcome AMQPType.ShortString [] ≡ more 1 }
 {}
 
 /// An array of true and nothing is found; the boolean is written 7, and 1 is written for it.
 pub fn an_array()
-    ensures reads { outcome (hex "'A' 00000003 't' 07 'V'")
+    ensures reads { compute_outcome (hex "'A' 00000003 't' 07 'V'")
         ≡ found (array (trees_of (scalar (boolean true) ∷ scalar void ∷ []))) [] }
     ensures writes { text (array (trees_of (scalar (boolean true) ∷ scalar void ∷ [])))
         ≡ hex "'A' 00000003 't' 01 'V'" }
@@ -167,21 +167,21 @@ pub fn an_array()
 /// An array that holds the array of false; its body ends before the last three bytes. With a body
 /// that is two bytes longer the number -1 is in the array too.
 pub fn a_nested_array()
-    ensures ends_before { outcome (hex "'A' 00000007 'A' 00000002 't' 00 'b' ff 01")
+    ensures ends_before { compute_outcome (hex "'A' 00000007 'A' 00000002 't' 00 'b' ff 01")
         ≡ found (array (trees_of (array (trees_of (scalar (boolean false) ∷ [])) ∷ []))) (hex "'b' ff 01") }
-    ensures longer { outcome (hex "'A' 00000009 'A' 00000002 't' 00 'b' ff 01")
+    ensures longer { compute_outcome (hex "'A' 00000009 'A' 00000002 't' 00 'b' ff 01")
         ≡ found (array (trees_of (array (trees_of (scalar (boolean false) ∷ [])) ∷ scalar (number AMQPType.ShortShortInt 255) ∷ []))) (hex "01") }
 {}
 
 /// An array with no values, and a byte that is left.
 pub fn an_empty_array()
-    ensures reads { outcome (hex "'A' 00000000 03") ≡ found (array no_trees) (hex "03") }
+    ensures reads { compute_outcome (hex "'A' 00000000 03") ≡ found (array no_trees) (hex "03") }
     ensures writes { text (array no_trees) ≡ hex "'A' 00000000" }
 {}
 
 /// A table of two keys, with a long string at the first and nothing at the second.
 pub fn a_table()
-    ensures reads { outcome (hex "'F' 00000012 04 'test' 'S' 00000004 'test' 02 'tt' 'V'")
+    ensures reads { compute_outcome (hex "'F' 00000012 04 'test' 'S' 00000004 'test' 02 'tt' 'V'")
         ≡ found (table (entries_of ((codes "test", long (codes "test")) ∷ (codes "tt", scalar void) ∷ []))) [] }
     ensures writes { text (table (entries_of ((codes "test", long (codes "test")) ∷ (codes "tt", scalar void) ∷ [])))
         ≡ hex "'F' 00000012 04 'test' 'S' 00000004 'test' 02 'tt' 'V'" }
@@ -189,13 +189,13 @@ pub fn a_table()
 
 /// A table with no keys, and a byte that is left.
 pub fn an_empty_table()
-    ensures reads { outcome (hex "'F' 00000000 03") ≡ found (table no_entries) (hex "03") }
+    ensures reads { compute_outcome (hex "'F' 00000000 03") ≡ found (table no_entries) (hex "03") }
     ensures writes { text (table no_entries) ≡ hex "'F' 00000000" }
 {}
 
 /// Of equal keys the last one's value stays, and the key is written once.
 pub fn equal_keys()
-    ensures reads { outcome (hex "'F' 00000008 01 'a' 't' 01 01 'a' 't' 00")
+    ensures reads { compute_outcome (hex "'F' 00000008 01 'a' 't' 01 01 'a' 't' 00")
         ≡ found (table (entries_of ((codes "a", scalar (boolean false)) ∷ []))) [] }
     ensures writes { text (table (entries_of ((codes "a", scalar (boolean false)) ∷ [])))
         ≡ hex "'F' 00000004 01 'a' 't' 00" }
@@ -203,7 +203,7 @@ pub fn equal_keys()
 
 /// Keys are read in any order, and written in that of their bytes.
 pub fn keys_in_order()
-    ensures reads { outcome (hex "'F' 00000006 01 'b' 'V' 01 'a' 'V'")
+    ensures reads { compute_outcome (hex "'F' 00000006 01 'b' 'V' 01 'a' 'V'")
         ≡ found (table (entries_of ((codes "a", scalar void) ∷ (codes "b", scalar void) ∷ []))) [] }
     ensures writes { text (table (entries_of ((codes "a", scalar void) ∷ (codes "b", scalar void) ∷ [])))
         ≡ hex "'F' 00000006 01 'a' 'V' 01 'b' 'V'" }
@@ -249,12 +249,12 @@ pub fn a_large_table()
         ∷ (codes "llll", scalar void)
         ∷ (codes "oof", array no_trees)
         ∷ (codes "tabl", table (entries_of ((codes "baz", long (codes "blah42")) ∷ (codes "foo", scalar (decimal 55 999)) ∷ []))) ∷ []) in
-        (text (table entries) ≡ bytes) × (size (table entries) ≡ 199) × (outcome bytes ≡ found (table entries) []) }
+        (text (table entries) ≡ bytes) × (size (table entries) ≡ 199) × (compute_outcome bytes ≡ found (table entries) []) }
 {}
 
 /// A table inside an array: what is written is as much shorter as the key that came twice.
 pub fn a_table_in_an_array()
-    ensures reads { outcome (hex "'A' 0000000b 'F' 00000006 01 'a' 'V' 01 'a' 'V'")
+    ensures reads { compute_outcome (hex "'A' 0000000b 'F' 00000006 01 'a' 'V' 01 'a' 'V'")
         ≡ found (array (trees_of (table (entries_of ((codes "a", scalar void) ∷ [])) ∷ []))) [] }
     ensures writes { text (array (trees_of (table (entries_of ((codes "a", scalar void) ∷ [])) ∷ [])))
         ≡ hex "'A' 00000008 'F' 00000003 01 'a' 'V'" }
@@ -262,7 +262,7 @@ pub fn a_table_in_an_array()
 
 /// A table inside a table, and an array inside that.
 pub fn a_table_in_a_table()
-    ensures reads { outcome (hex "'F' 0000000e 01 'a' 'F' 00000007 01 'b' 'A' 00000000")
+    ensures reads { compute_outcome (hex "'F' 0000000e 01 'a' 'F' 00000007 01 'b' 'A' 00000000")
         ≡ found (table (entries_of ((codes "a", table (entries_of ((codes "b", array no_trees) ∷ []))) ∷ []))) [] }
     ensures writes { text (table (entries_of ((codes "a", table (entries_of ((codes "b", array no_trees) ∷ []))) ∷ [])))
         ≡ hex "'F' 0000000e 01 'a' 'F' 00000007 01 'b' 'A' 00000000" }
@@ -271,20 +271,20 @@ pub fn a_table_in_a_table()
 /// A key may be empty, and may have characters of more than one byte.
 #[tactic(auto, using(crate::proofs::OnLiterals::empty_text, crate::proofs::OnLiterals::e_acute))]
 pub fn other_keys()
-    ensures empty { outcome (hex "'F' 00000002 00 'V'")
+    ensures empty { compute_outcome (hex "'F' 00000002 00 'V'")
         ≡ found (table (entries_of (([], scalar void) ∷ []))) [] }
-    ensures two_bytes { outcome (hex "'F' 00000004 02 c3a9 'V'")
+    ensures two_bytes { compute_outcome (hex "'F' 00000004 02 c3a9 'V'")
         ≡ found (table (entries_of ((hex "c3a9", scalar void) ∷ []))) [] }
 {}
 
 /// A complete table is malformed if a key isn't UTF-8, and if the body cuts a key or its value.
 #[tactic(auto, using(crate::proofs::OnLiterals::byte_255, crate::proofs::OnLiterals::letter_a))]
 pub fn keys_are_refused()
-    ensures no_text { outcome (hex "'F' 00000003 01 ff 'V'") ≡ malformed }
-    ensures cut { outcome (hex "'F' 00000002 02 'aa' 'V'") ≡ malformed }
-    ensures no_value { outcome (hex "'F' 00000002 01 'a' 'V'") ≡ malformed }
-    ensures unknown_value { outcome (hex "'F' 00000003 01 'a' 'z'") ≡ malformed }
-    ensures lacks { outcome (hex "'F' 00000003 01 ff") ≡ more 1 }
+    ensures no_text { compute_outcome (hex "'F' 00000003 01 ff 'V'") ≡ malformed }
+    ensures cut { compute_outcome (hex "'F' 00000002 02 'aa' 'V'") ≡ malformed }
+    ensures no_value { compute_outcome (hex "'F' 00000002 01 'a' 'V'") ≡ malformed }
+    ensures unknown_value { compute_outcome (hex "'F' 00000003 01 'a' 'z'") ≡ malformed }
+    ensures lacks { compute_outcome (hex "'F' 00000003 01 ff") ≡ more 1 }
 {}
 
 /// A new key goes to its place in the order of bytes, in which a prefix comes first; an equal key
@@ -312,68 +312,68 @@ pub fn keys_are_looked_up()
 
 /// If there is no byte one is needed, and of a length of four bytes those that haven't come.
 pub fn cut_headers()
-    ensures no_byte { outcome [] ≡ more 1 }
-    ensures array { outcome (hex "'A' 00") ≡ more 3 }
-    ensures string { outcome (hex "'S' 00") ≡ more 3 }
-    ensures table { outcome (hex "'F'") ≡ more 4 }
+    ensures no_byte { compute_outcome [] ≡ more 1 }
+    ensures array { compute_outcome (hex "'A' 00") ≡ more 3 }
+    ensures string { compute_outcome (hex "'S' 00") ≡ more 3 }
+    ensures table { compute_outcome (hex "'F'") ≡ more 4 }
 {}
 
 /// A number that is cut needs the rest of its width. A decimal has two, which are read one after
 /// the other: first one byte is needed, then four.
 pub fn a_cut_number()
-    ensures four_bytes { outcome (hex "'I' 0000") ≡ more 2 }
-    ensures eight_bytes { outcome (hex "'T' 01") ≡ more 7 }
-    ensures scale { outcome (hex "'D'") ≡ more 1 }
-    ensures whole_number { outcome (hex "'D' 02") ≡ more 4 }
-    ensures number { outcome (hex "'D' 02 00") ≡ more 3 }
+    ensures four_bytes { compute_outcome (hex "'I' 0000") ≡ more 2 }
+    ensures eight_bytes { compute_outcome (hex "'T' 01") ≡ more 7 }
+    ensures scale { compute_outcome (hex "'D'") ≡ more 1 }
+    ensures whole_number { compute_outcome (hex "'D' 02") ≡ more 4 }
+    ensures number { compute_outcome (hex "'D' 02 00") ≡ more 3 }
 {}
 
 /// Nine more bytes of the body are needed, and the unknown type tag in what has come isn't looked
 /// at.
 pub fn a_cut_body()
-    ensures lacks { outcome (hex "'A' 0000000a 'z'") ≡ more 9 }
-    ensures a_byte_more { outcome (hex "'A' 0000000a 'z' 'V'") ≡ more 8 }
+    ensures lacks { compute_outcome (hex "'A' 0000000a 'z'") ≡ more 9 }
+    ensures a_byte_more { compute_outcome (hex "'A' 0000000a 'z' 'V'") ≡ more 8 }
 {}
 
 /// As many bytes may be needed as a length can count, and nothing is allocated for them.
 pub fn the_longest_frame()
-    ensures array { outcome (hex "'A' ffffffff") ≡ more 0xffffffff }
-    ensures string { outcome (hex "'S' ffffffff") ≡ more 0xffffffff }
+    ensures array { compute_outcome (hex "'A' ffffffff") ≡ more 0xffffffff }
+    ensures string { compute_outcome (hex "'S' ffffffff") ≡ more 0xffffffff }
     ensures no_memory { ¬ Heavy (hex "'S' ffffffff") }
 {}
 
 /// The first byte isn't a type tag: `z`, and a byte beyond ASCII.
 pub fn an_unknown_id()
-    ensures letter { outcome (hex "'z'") ≡ unknown }
-    ensures beyond_ascii { outcome (hex "c8") ≡ unknown }
-    ensures with_rest { outcome (hex "c8 'V'") ≡ unknown }
+    ensures letter { compute_outcome (hex "'z'") ≡ unknown }
+    ensures beyond_ascii { compute_outcome (hex "c8") ≡ unknown }
+    ensures with_rest { compute_outcome (hex "c8 'V'") ≡ unknown }
 {}
 
 /// An unknown type tag in a body that has come completely is malformed.
 pub fn an_unknown_id_inside()
-    ensures { outcome (hex "'A' 00000001 'z'") ≡ malformed }
+    ensures { compute_outcome (hex "'A' 00000001 'z'") ≡ malformed }
 {}
 
 /// A value that the end of a complete body cuts is malformed, and asks for no more bytes.
 pub fn a_cut_value_inside()
-    ensures refused { outcome (hex "'A' 00000002 's' 00") ≡ malformed }
-    ensures with_rest { outcome (hex "'A' 00000002 'I' 00 00002a") ≡ malformed }
+    ensures refused { compute_outcome (hex "'A' 00000002 's' 00") ≡ malformed }
+    ensures with_rest { compute_outcome (hex "'A' 00000002 'I' 00 00002a") ≡ malformed }
 {}
 
 /// An inner length-prefixed field that ends after the outer one is malformed, though complete.
 pub fn a_frame_past_its_body()
-    ensures array { outcome (hex "'A' 00000006 'A' 00000002 't' 00") ≡ malformed }
-    ensures string { outcome (hex "'A' 00000006 'S' 00000002 't' 00") ≡ malformed }
+    ensures array { compute_outcome (hex "'A' 00000006 'A' 00000002 't' 00") ≡ malformed }
+    ensures string { compute_outcome (hex "'A' 00000006 'S' 00000002 't' 00") ≡ malformed }
 {}
 
 /// What is written is read back, whatever is after it.
 #[tactic(auto, using(crate::proofs::OnLiterals::letter_a))]
 pub fn reading_back()
-    ensures number { outcome (text (scalar (number AMQPType.LongInt 70000)) ++ hex "21")
+    ensures number { compute_outcome (text (scalar (number AMQPType.LongInt 70000)) ++ hex "21")
         ≡ found (scalar (number AMQPType.LongInt 70000)) (hex "21") }
-    ensures array { outcome (text (array (trees_of (array no_trees ∷ scalar void ∷ []))) ++ hex "21")
+    ensures array { compute_outcome (text (array (trees_of (array no_trees ∷ scalar void ∷ []))) ++ hex "21")
         ≡ found (array (trees_of (array no_trees ∷ scalar void ∷ []))) (hex "21") }
-    ensures table { outcome (text (table (entries_of ((codes "a", octets (hex "0102")) ∷ []))) ++ hex "21")
+    ensures table { compute_outcome (text (table (entries_of ((codes "a", octets (hex "0102")) ∷ []))) ++ hex "21")
         ≡ found (table (entries_of ((codes "a", octets (hex "0102")) ∷ []))) (hex "21") }
 {}
 
@@ -405,26 +405,26 @@ pub fn measures_of_a_table()
 
 /// A payload is read by its type, with no type tag before it.
 pub fn payloads()
-    ensures boolean { raw_outcome AMQPType.Boolean (hex "07 09") ≡ found (scalar (boolean true)) (hex "09") }
-    ensures no_byte { raw_outcome AMQPType.Boolean [] ≡ more 1 }
-    ensures void { raw_outcome AMQPType.Void (hex "05") ≡ found (scalar void) (hex "05") }
-    ensures nothing { raw_outcome AMQPType.Void [] ≡ found (scalar void) [] }
-    ensures string { raw_outcome AMQPType.LongString (hex "00000004 'test'")
+    ensures boolean { compute_raw_outcome AMQPType.Boolean (hex "07 09") ≡ found (scalar (boolean true)) (hex "09") }
+    ensures no_byte { compute_raw_outcome AMQPType.Boolean [] ≡ more 1 }
+    ensures void { compute_raw_outcome AMQPType.Void (hex "05") ≡ found (scalar void) (hex "05") }
+    ensures nothing { compute_raw_outcome AMQPType.Void [] ≡ found (scalar void) [] }
+    ensures string { compute_raw_outcome AMQPType.LongString (hex "00000004 'test'")
         ≡ found (long (codes "test")) [] }
-    ensures array { raw_outcome AMQPType.FieldArray (hex "00000002 't' 00 09")
+    ensures array { compute_raw_outcome AMQPType.FieldArray (hex "00000002 't' 00 09")
         ≡ found (array (trees_of (scalar (boolean false) ∷ []))) (hex "09") }
-    ensures cut { raw_outcome AMQPType.FieldArray (hex "000000") ≡ more 1 }
-    ensures refused { raw_outcome AMQPType.FieldArray (hex "00000001 'z'") ≡ malformed }
+    ensures cut { compute_raw_outcome AMQPType.FieldArray (hex "000000") ≡ more 1 }
+    ensures refused { compute_raw_outcome AMQPType.FieldArray (hex "00000001 'z'") ≡ malformed }
 {}
 
 /// An unsigned number of eight bytes is only a payload, and means the signed number of the same
 /// bits.
 pub fn unsigned_numbers_of_eight_bytes()
-    ensures unsigned { raw_outcome AMQPType.LongLongUInt (hex "2a2a2a2a2a2a2a2a")
+    ensures unsigned { compute_raw_outcome AMQPType.LongLongUInt (hex "2a2a2a2a2a2a2a2a")
         ≡ found (scalar (number AMQPType.LongLongInt 0x2a2a2a2a2a2a2a2a)) [] }
-    ensures greatest { raw_outcome AMQPType.LongLongUInt (hex "ffffffffffffffff")
+    ensures greatest { compute_raw_outcome AMQPType.LongLongUInt (hex "ffffffffffffffff")
         ≡ found (scalar (number AMQPType.LongLongInt (cast_unsigned w64 (negsuc 0)))) [] }
-    ensures timestamp { raw_outcome AMQPType.Timestamp (hex "2a2a2a2a2a2a2a2a")
+    ensures timestamp { compute_raw_outcome AMQPType.Timestamp (hex "2a2a2a2a2a2a2a2a")
         ≡ found (scalar (number AMQPType.Timestamp 0x2a2a2a2a2a2a2a2a)) [] }
 {}
 

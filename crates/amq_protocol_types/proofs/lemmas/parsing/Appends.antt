@@ -7,7 +7,7 @@ use Rattle.amqp_value_core.specs.Nesting.{WireWithin}
 use Rattle.amqp_value_core.specs.Inputs.{IsBytes}
 use Rattle.amqp_value_core.specs.Outcomes.{Reading, more, unknown, malformed, length_field}
 use Rattle.amqp_value_core.specs.Readings.{StillWaits, with_more}
-use Rattle.amqp_value_core.specs.Decode.{outcome_by, meaning, outcome}
+use Rattle.amqp_value_core.specs.Decode.{outcome_by, meaning, compute_outcome}
 use Rattle.amqp_value_core.proofs.GrammarLaws.{outcome_holds, outcome_is, within_holds, one_outcome_within, more_bytes_within, deep_enough}
 use Rattle.amq_protocol_types.specs.declared.parsing.errors.Err.TheVariants.{Error}
 use Rattle.amq_protocol_types.specs.declared.parsing.errors.ErrorKind.{ErrorKind}
@@ -78,4 +78,4 @@ laws_within l s bytes = record {
 
 -- and without limits
 pub has_one_outcome : (s : List ℕ) → IsBytes s → HasOneOutcome s
-has_one_outcome s bytes = (outcome s, outcome_holds s bytes, λ p here. (outcome_is s p bytes).0 here)
+has_one_outcome s bytes = (compute_outcome s, outcome_holds s bytes, λ p here. (outcome_is s p bytes).0 here)

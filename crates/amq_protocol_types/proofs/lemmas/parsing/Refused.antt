@@ -9,6 +9,7 @@ use Rattle.amq_protocol_types.specs.declared.parsing.errors.Needed.{Needed}
 use Rattle.amq_protocol_types.specs.declared.parsing.errors.Needed.TheVariants.{Unknown, Size}
 use Rattle.amq_protocol_types.specs.declared.parsing.errors.ErrorKind.TheVariants.{MapOpt, MapRes, Eof, OutOfMemory, TooLarge}
 use Rattle.amq_protocol_types.specs.parsing.Refusals.{Refusal}
+use Rattle.amq_protocol_types.proofs.lemmas.parsing.Whole.{whole_wants_none}
 use Rattle.amq_protocol_types.specs.parsing.ParseResults.{IsRefusal}
 use Rattle.amq_protocol_types.specs.parsing.PayloadResults.{OnlyLacks, bad_kind, RawRefuses, IsNoType}
 use Rattle.amq_protocol_types.specs.parsing.Headers.{extent_at, extent, wanted_at, wanted, IsWholeValue}
@@ -46,7 +47,7 @@ raw_refused type s heavy (Error TooLarge) kind f x = absurd x
 raw_refused type s heavy (Failure k) kind f x = (x.0, f x.1)
 
 -- if no type is read, that is what reading a value results in
-no_type_outcome : (d : ℕ) (s : List ℕ) (o : Reading) → IsNoType s o → OutcomeWithin d s o
+pub no_type_outcome : (d : ℕ) (s : List ℕ) (o : Reading) → IsNoType s o → OutcomeWithin d s o
 no_type_outcome d [] o e = subst (OutcomeWithin d []) (sym e) no_byte
 no_type_outcome d (c ∷ b) o (e, k) = subst (OutcomeWithin d (c ∷ b)) (sym e) (no_tag c b k)
 
@@ -72,7 +73,7 @@ unknown_within d _ (no_tag c b k) = no_tag c b k
 -- a value that is all there asks for no more bytes
 pub whole_asks_none : (d : ℕ) (s : List ℕ) (n : Needed) → IsWholeValue s → IsRefusal (OutcomeWithin d s) (Heavy s) (Incomplete n) → ⊥
 whole_asks_none d s Unknown whole x = x
-whole_asks_none d s (Size n) whole x = by s n whole.0 x
+whole_asks_none d s (Size n) whole x = by s n (whole_wants_none s whole) x
   where
     by : (s : List ℕ) (n : ℕ) → wanted s ≡ 0 → OutcomeWithin d s (more n) → ⊥
     by _ _ none no_byte = cc

@@ -4,7 +4,7 @@ use Rattle.std.specs.Prelude.{MatchOption}
 use Rattle.amqp_value_core.specs.declared.types.amqp_type.AMQPType.{AMQPType}
 use Rattle.amqp_value_core.specs.Ids.{kind}
 use Rattle.amqp_value_core.specs.Values.{Tree}
-use Rattle.amqp_value_core.specs.Outcomes.{Reading, found, more, no_byte, no_tag, needs_more, at_start, not_at_start, RawHeavy, Heavy}
+use Rattle.amqp_value_core.specs.Outcomes.{Reading, lack, found, more, no_byte, no_tag, needs_more, at_start, not_at_start, RawHeavy, Heavy}
 use Rattle.amqp_value_core.specs.Nesting.{OutcomeWithin}
 use Rattle.amqp_value_core.specs.Grammar.{Wire, wire}
 use Rattle.amqp_value_core.proofs.GrammarLaws.{lack-raw, prefix_within}
@@ -17,14 +17,32 @@ use Rattle.amq_protocol_types.specs.parsing.Limits.{Within, RefusesWithin}
 -- all are there if an encoding is at the start
 pub wire_whole : (w rest : List ℕ) (v : Tree) → Wire w v → IsWholeValue (w ++ rest)
 wire_whole _ rest _ (wire c type b v k p) =
-    subst (λ (o : Option AMQPType). (wanted_at o (b ++ rest) ≡ 0) × (0 < extent_at o (b ++ rest))) (sym k) (lack-raw type b rest v p, omega arith)
+    subst (λ (o : Option AMQPType). MatchOption o ⊥ (λ type. lack type (b ++ rest) ≡ 0)) (sym k) (lack-raw type b rest v p)
+
+-- and then none are missing
+pub whole_wants_none : (s : List ℕ) → IsWholeValue s → wanted s ≡ 0
+whole_wants_none [] whole = absurd whole
+whole_wants_none (c ∷ b) whole = by (kind c) whole
+  where
+    by : (k : Option AMQPType) → MatchOption k ⊥ (λ type. lack type b ≡ 0) → wanted_at k b ≡ 0
+    by None whole = absurd whole
+    by (Some type) whole = whole
+
+-- if none are missing they are all there, since the first byte is a type tag if the value has an extent
+pub whole_by_header : (s : List ℕ) → wanted s ≡ 0 → 0 < extent s → IsWholeValue s
+whole_by_header [] none some = absurd (omega (arith, some))
+whole_by_header (c ∷ b) none some = by (kind c) none some
+  where
+    by : (k : Option AMQPType) → wanted_at k b ≡ 0 → 0 < extent_at k b → MatchOption k ⊥ (λ type. lack type b ≡ 0)
+    by None none some = absurd (omega (arith, some))
+    by (Some type) none some = none
 
 -- if an outcome asks for no more bytes, none are missing
 pub nothing_wanted : (d : ℕ) (s : List ℕ) (o : Reading) → OutcomeWithin d s o → ((m : ℕ) → o ≡ more m → ⊥) → wanted s ≡ 0
 nothing_wanted d _ _ no_byte no_more = absurd (no_more 1 refl)
 nothing_wanted d _ _ (no_tag c b k) no_more = ap (λ (o : Option AMQPType). wanted_at o b) k
 nothing_wanted d _ _ (needs_more c type b n k e) no_more = absurd (no_more (suc n) refl)
-nothing_wanted d _ _ (at_start w rest v p) no_more = (wire_whole w rest v p.0).0
+nothing_wanted d _ _ (at_start w rest v p) no_more = whole_wants_none (w ++ rest) (wire_whole w rest v p.0)
 nothing_wanted d _ _ (not_at_start c type b k e none) no_more = ap (λ (o : Option AMQPType). wanted_at o b) k ∙ e
 
 -- and if reading allocates
@@ -32,9 +50,9 @@ heavy_whole : (s : List ℕ) → Heavy s → IsWholeValue s
 heavy_whole [] h = absurd h
 heavy_whole (c ∷ b) h = by (kind c) h
   where
-    by : (k : Option AMQPType) → MatchOption k ⊥ (λ type. RawHeavy type b) → (wanted_at k b ≡ 0) × (0 < extent_at k b)
+    by : (k : Option AMQPType) → MatchOption k ⊥ (λ type. RawHeavy type b) → MatchOption k ⊥ (λ type. lack type b ≡ 0)
     by None none = absurd none
-    by (Some type) heavy = (heavy.1, omega arith)
+    by (Some type) heavy = heavy.1
 
 -- so they are whenever reading within limits allocates, or returns a value
 pub found_all : (l : Limits) (s rest : List ℕ) (v : Tree) → Within l s (found v rest) → (extent s ≤ l.frame) × IsWholeValue s

@@ -1,7 +1,7 @@
 use Rattle.std.proofs.Common.{◌≡◌, length, string_bytes, rules}
 use Rattle.std.proofs.lemmas.Result.{IfOk-weaker}
 use Rattle.amqp_value_core.specs.Outcomes.{Outcome, Heavy, found}
-use Rattle.amqp_value_core.specs.Decode.{outcome}
+use Rattle.amqp_value_core.specs.Decode.{compute_outcome}
 use Rattle.amqp_value_core.specs.View.{view}
 use Rattle.amq_protocol_types.specs.parsing.ParseResults.{IsRefusal}
 use Rattle.amqp_wire.specs.Lines.{said, said_of_value}
@@ -13,11 +13,11 @@ pub returns-in-Ok : goal.returns-in-Ok
 returns-in-Ok g c =
     let s = g.I.ParsableInput.bytes c.args.bytes in
     let rest = g.I.ParsableInput.bytes c.in-Ok.rest in
-    let said_it : said_of_value (view c.in-Ok.value) (length rest) ≡ said (outcome s) = said_of_outcome s (found (view c.in-Ok.value) rest) c.input_len-count.ensures.bytes (search (rules, c.in-Ok.ensures.outcome)) in
+    let said_it : said_of_value (view c.in-Ok.value) (length rest) ≡ said (compute_outcome s) = said_of_outcome s (found (view c.in-Ok.value) rest) c.input_len-count.ensures.bytes (search (rules, c.in-Ok.ensures.outcome)) in
     search (rules, said_it)
 
 pub returns-in-Err : goal.returns-in-Err
 returns-in-Err g c =
     let s = g.I.ParsableInput.bytes c.args.bytes in
     let right : IsRefusal (Outcome s) (Heavy s) c.in-Err.error = search (rules, c.in-Err.ensures.outcome) in
-    IfOk-weaker c.refusal_text.result (λ a. IsSaid c.in-Err.error (string_bytes a)) (λ a. string_bytes a ≡ said (outcome s)) (λ a is. said_of_refusal s c.in-Err.error _ c.input_len-count.ensures.bytes right is) c.refusal_text.ensures
+    IfOk-weaker c.refusal_text.result (λ a. IsSaid c.in-Err.error (string_bytes a)) (λ a. string_bytes a ≡ said (compute_outcome s)) (λ a is. said_of_refusal s c.in-Err.error _ c.input_len-count.ensures.bytes right is) c.refusal_text.ensures
