@@ -24,6 +24,7 @@ pub fn parse_type<I: ParsableInput>(i: I) -> ParserResult<I, AMQPType>
         (λ x. IsType (I.bytes i) x.1 (I.bytes x.0))
         (IsRefusal (IsNoType (I.bytes i)) ⊥) }
     ensures read_back { IfOk result (λ x. read_as x.1 ≡ Some x.1) }
+    ensures bytes { IsBytes (I.bytes i) }
 {
     let (i, id) = parse_short_short_uint(i)?;
     match AMQPType::from_id(char::from(id)) {
@@ -54,6 +55,7 @@ pub fn parse_boolean<I: ParsableInput>(i: I) -> ParserResult<I, Boolean>
 pub fn parse_short_short_uint<I: ParsableInput>(i: I) -> ParserResult<I, ShortShortUInt>
     ensures number { ReadsUnsigned w8 I.bytes i result }
     ensures payload { ReadsNumber AMQPType.ShortShortUInt (λ n. n) I.bytes i result }
+    ensures bytes { IsBytes (I.bytes i) }
 {
     if i.input_len() == 0 {
         return Err(lacks(1));

@@ -21,6 +21,7 @@ use std::alloc::Global;
 ///
 /// If all bytes are there and they aren't UTF-8 it returns `MapRes`. It allocates only for a string
 /// that isn't empty.
+#[inline(always)]
 pub fn parse_short_string<I: ParsableInput>(alloc: Global, i: I) -> ParserResult<I, ShortString>
     ensures { MatchResult result
         (λ x. RawOutcome AMQPType.ShortString (I.bytes i) (found (short x.1) (I.bytes x.0)))

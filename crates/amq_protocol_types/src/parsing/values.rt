@@ -47,7 +47,8 @@ pub fn parse_value<I: ParsableInput>(alloc: Global, i: I) -> ParserResult<I, AMQ
     ensures bounded { IfOk result (λ x.
         IsWritableIn (length (I.bytes i) - length (I.bytes x.0)) (view x.1)) }
 {
-    value_within(alloc, i, i.input_len())
+    let (i, amqp_type) = parse_type(i)?;
+    parse_raw_value(alloc, amqp_type, i)
 }
 
 /// Parses a value in which containers nest at most `depth` deep.
@@ -69,6 +70,7 @@ pub(crate) fn value_within<I: ParsableInput>(
 /// Parses the payload of a value of the type.
 ///
 /// For `LongLongUInt` it returns the `LongLongInt` of the same bits.
+#[inline(always)]
 pub fn parse_raw_value<I: ParsableInput>(
     alloc: Global,
     amqp_type: AMQPType,

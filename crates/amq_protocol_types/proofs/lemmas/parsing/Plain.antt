@@ -63,7 +63,7 @@ unsigned_refuses d s e x =
     (λ o y. plain_within d amqp.LongLongUInt s o tt (unsigned_outcome s o y)) (λ h. absurd h) (OnlyLacks-refuses (RawOutcome amqp.LongLongInt s) ⊥ e x)
 
 -- a type that isn't a short string's has this kind of error
-eof_of_type : (type : AMQPType) → type ≢ amqp.ShortString → bad_kind type ≡ Eof
+pub eof_of_type : (type : AMQPType) → type ≢ amqp.ShortString → bad_kind type ≡ Eof
 eof_of_type amqp.ShortString no_short = absurd (no_short refl)
 eof_of_type _ no_short = refl
 

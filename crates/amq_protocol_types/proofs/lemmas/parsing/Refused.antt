@@ -1,8 +1,9 @@
 -- Rejections: what is right of a part is right of all.
 use Rattle.std.proofs.Common.{◌≡◌, ◌<◌, ◌≤◌, ◌∙◌, ℕ, zero, suc, List, [], ◌∷◌, length, Option, ap, sym, subst, arith}
 use Rattle.amqp_value_core.specs.declared.types.amqp_type.AMQPType.{AMQPType}
-use Rattle.amqp_value_core.specs.Outcomes.{Reading, more, unknown, malformed, lack, NeedsMoreOr, no_byte, no_tag, needs_more, Outcome, RawHeavy, Heavy}
-use Rattle.amqp_value_core.specs.Nesting.{OutcomeWithin}
+use Rattle.amqp_value_core.specs.Values.{Tree}
+use Rattle.amqp_value_core.specs.Outcomes.{Reading, more, unknown, malformed, lack, NeedsMoreOr, OutcomeBy, no_byte, no_tag, needs_more, Outcome, RawHeavy, Heavy}
+use Rattle.amqp_value_core.specs.Nesting.{WireWithin, OutcomeWithin}
 use Rattle.amqp_value_core.specs.Payloads.{RawPrefix, RawOutcome}
 use Rattle.amq_protocol_types.specs.declared.parsing.errors.Err.TheVariants.{Incomplete, Error, Failure}
 use Rattle.amq_protocol_types.specs.declared.parsing.errors.Needed.{Needed}
@@ -47,9 +48,12 @@ raw_refused type s heavy (Error TooLarge) kind f x = absurd x
 raw_refused type s heavy (Failure k) kind f x = (x.0, f x.1)
 
 -- if no type is read, that is what reading a value results in
+pub no_type_by : (P : List ℕ → Tree → Type 0) (s : List ℕ) (o : Reading) → IsNoType s o → OutcomeBy P s o
+no_type_by P [] o e = subst (OutcomeBy P []) (sym e) no_byte
+no_type_by P (c ∷ b) o (e, k) = subst (OutcomeBy P (c ∷ b)) (sym e) (no_tag c b k)
+
 pub no_type_outcome : (d : ℕ) (s : List ℕ) (o : Reading) → IsNoType s o → OutcomeWithin d s o
-no_type_outcome d [] o e = subst (OutcomeWithin d []) (sym e) no_byte
-no_type_outcome d (c ∷ b) o (e, k) = subst (OutcomeWithin d (c ∷ b)) (sym e) (no_tag c b k)
+no_type_outcome d s o x = no_type_by (WireWithin d) s o x
 
 pub no_type_refused : (d : ℕ) (s : List ℕ) (e : Refusal) → IsRefusal (IsNoType s) ⊥ e → IsRefusal (OutcomeWithin d s) (Heavy s) e
 no_type_refused d s e x = IsRefusal-weaker (IsNoType s) (OutcomeWithin d s) ⊥ (Heavy s) e (no_type_outcome d s) (λ none. absurd none) x
