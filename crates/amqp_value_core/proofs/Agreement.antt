@@ -13,18 +13,18 @@ use Rattle.amqp_value_core.specs.Decode.{outcome_by, meaning, compute_outcome, c
 use Rattle.amqp_value_core.proofs.Found.{found_wire, found_raw}
 use Rattle.amqp_value_core.proofs.Limited.{one_outcome_within}
 use Rattle.amqp_value_core.proofs.Outcomes.{NeedsMoreOr-weaker, from_cases, one_outcome, one_raw_outcome}
-use Rattle.amqp_value_core.proofs.Nests.{nesting-le, raw_nesting-le}
+use Rattle.amqp_value_core.proofs.Nests.{nesting-le, raw_nesting-le, wire_of, raw_of, wire_within, raw_within}
 use Rattle.amqp_value_core.proofs.Sound.{PrefixOrError, WireEnds, raw_ends, wire_ends, means_spelled}
 
 -- an encoding at the start is the outcome
 outcome_at : (s w rest : List ℕ) (v : Tree) → Wire w v → s ≡ w ++ rest → compute_outcome s ≡ found v rest
 outcome_at s w rest v p is =
-    subst (λ x. compute_outcome x ≡ found v rest) (sym is) (found_wire (length (w ++ rest)) w rest v p (omega (arith, nesting-le w v p, length-append w rest)))
+    subst (λ x. compute_outcome x ≡ found v rest) (sym is) (found_wire (length (w ++ rest)) w rest v (wire_within (length (w ++ rest)) w v p (omega (arith, nesting-le w v p, length-append w rest))))
 
 -- so is a payload
 raw_outcome_at : (type : AMQPType) (s b rest : List ℕ) (v : Tree) → Raw type b v → s ≡ b ++ rest → compute_raw_outcome type s ≡ found v rest
 raw_outcome_at type s b rest v p is =
-    subst (λ x. compute_raw_outcome type x ≡ found v rest) (sym is) (found_raw (length (b ++ rest)) type b rest v p (omega (arith, raw_nesting-le type b v p, length-append b rest)))
+    subst (λ x. compute_raw_outcome type x ≡ found v rest) (sym is) (found_raw (length (b ++ rest)) type b rest v (raw_within (length (b ++ rest)) type b v p (omega (arith, raw_nesting-le type b v p, length-append b rest))))
 
 -- if each P at the start is the outcome, an error means that there is no such P
 prefix_by : (P Q : List ℕ → Tree → Type 0) (s : List ℕ) (o : Reading) → ((w rest : List ℕ) (v : Tree) → P w v → s ≡ w ++ rest → o ≡ found v rest)
@@ -38,7 +38,7 @@ prefix_by P Q s unknown finds forget ends = ends
 pub raw_outcome_holds : (type : AMQPType) (s : List ℕ) → IsBytes s → RawOutcome type s (compute_raw_outcome type s)
 raw_outcome_holds type s bytes =
     NeedsMoreOr-weaker (lack type s) _ _ (compute_raw_outcome type s)
-    (prefix_by (Raw type) (RawWithin (length s) type) s (compute_raw_outcome type s) (raw_outcome_at type s) (λ b v q. q.0))
+    (prefix_by (Raw type) (RawWithin (length s) type) s (compute_raw_outcome type s) (raw_outcome_at type s) (raw_of (length s) type))
     (raw_ends (length s) (meaning (length s)) (means_spelled (length s)) type s bytes)
 
 -- and to nothing else
@@ -59,7 +59,7 @@ outcome_by_ends depth P (c ∷ b) o forget finds ends = from_cases P (c ∷ b) o
 -- reading a value results in what the function returns
 pub outcome_holds : (s : List ℕ) → IsBytes s → Outcome s (compute_outcome s)
 outcome_holds s bytes =
-    outcome_by_ends (length s) Wire s (compute_outcome s) (λ w v q. q.0) (outcome_at s) (wire_ends (length s) (meaning (length s)) (means_spelled (length s)) s bytes)
+    outcome_by_ends (length s) Wire s (compute_outcome s) (wire_of (length s)) (outcome_at s) (wire_ends (length s) (meaning (length s)) (means_spelled (length s)) s bytes)
 
 -- and to nothing else
 outcome_only : (s : List ℕ) (o : Reading) → IsBytes s → Outcome s o → o ≡ compute_outcome s
@@ -77,7 +77,7 @@ raw_outcome_is type s o bytes = (raw_outcome_only type s o bytes, λ is. subst (
 
 -- the function finds each encoding that nests no deeper
 within_at : (d : ℕ) (s w rest : List ℕ) (v : Tree) → WireWithin d w v → s ≡ w ++ rest → outcome_by (meaning d) s ≡ found v rest
-within_at d s w rest v p is = subst (λ x. outcome_by (meaning d) x ≡ found v rest) (sym is) (found_wire d w rest v p.0 p.1)
+within_at d s w rest v p is = subst (λ x. outcome_by (meaning d) x ≡ found v rest) (sym is) (found_wire d w rest v p)
 
 -- reading within a depth results in what the function returns, with containers at most that deep
 pub within_holds : (d : ℕ) (s : List ℕ) → IsBytes s → OutcomeWithin d s (outcome_by (meaning d) s)

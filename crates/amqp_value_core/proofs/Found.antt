@@ -1,6 +1,6 @@
 -- What has an encoding is found: reading as a function finds each value of the grammar, whatever
 -- follows its encoding.
-use Rattle.std.proofs.Common.{ℕ, suc, zero, ◌+◌, ◌≤◌, ◌≡◌, ◌∙◌, ap, sym, refl, subst, Bool, true, ◌&&◌, Option, Some, None, option_map, List, [], ◌∷◌, ◌++◌, length, take, drop, arith, append_assoc, length-append}
+use Rattle.std.proofs.Common.{ℕ, suc, zero, ◌+◌, ◌≤◌, ◌≡◌, ◌≢◌, ◌∙◌, ap, sym, refl, subst, Bool, true, ◌&&◌, Option, Some, None, option_map, List, [], ◌∷◌, ◌++◌, length, take, drop, arith, append_assoc, length-append}
 use Rattle.std.proofs.Math.Seq.{take-append_seam, drop-append_seam}
 use Rattle.std.proofs.lemmas.Bool.{le-leb}
 use Rattle.std.proofs.lemmas.Nat.{from_be_bytes-to_be_bytes_4}
@@ -12,8 +12,9 @@ use Rattle.amqp_value_core.specs.declared.types.amqp_type.AMQPType.TheVariants a
 use Rattle.amqp_value_core.specs.Values.{Tree, scalar, short, long, octets, array, table, Trees, tree, Entries, no_entries, insert, insert_all}
 use Rattle.amqp_value_core.specs.Layouts.{Layout, fixed}
 use Rattle.amqp_value_core.specs.Strings.{IsShort}
-use Rattle.amqp_value_core.specs.Grammar.{Wire, Raw, ArrayBody, TableBody, short_field, wire, raw_fixed, raw_short, raw_long, raw_octets, raw_array, raw_table, no_values, value, no_pairs, pair}
-use Rattle.amqp_value_core.specs.Nesting.{nesting, raw_nesting, body_nesting, pairs_nesting}
+use Rattle.amqp_value_core.specs.Grammar.{Wire, Raw, short_field, wire, raw_fixed, raw_short, raw_long, raw_octets, raw_array, raw_table}
+use Rattle.amqp_value_core.specs.Nesting.{WireWithin, within_wire, RawWithin, within_plain, within_array, within_table, BodyWithin, within_no_values, within_value, PairsWithin, within_no_pairs, within_pair}
+use Rattle.amqp_value_core.proofs.Nests.{wire_of}
 use Rattle.amqp_value_core.specs.Outcomes.{Reading, found, more, unknown, malformed, length_field, counted, lack_of}
 use Rattle.amqp_value_core.specs.Decode.{Meaning, framed, raw_outcome_by, outcome_by, values_by, is_short, is_key, pairs_onto, meaning}
 use Rattle.amqp_value_core.proofs.Tables.{mean_put}
@@ -94,13 +95,6 @@ value_first : (read : List ℕ → Reading) (n : ℕ) (w rest : List ℕ) (v : T
     → read (w ++ rest) ≡ found v rest → values_by read (suc n) (w ++ rest) ≡ option_map (tree v) (values_by read n rest)
 value_first read n _ rest _ (wire c type b v is raw) enough first = ap (and_others read n) first
 
--- a body means the array of its values, if they are found one level further in
-array_means : (depth deep : ℕ) (body : List ℕ) (vs : Trees) → suc deep ≤ depth
-    → ((inner : ℕ) → deep ≤ inner → values_by (outcome_by (meaning inner)) (length body) body ≡ Some vs)
-    → meaning depth amqp.FieldArray body ≡ Some (array vs)
-array_means zero deep body vs within spelled = absurd (omega arith)
-array_means (suc depth) deep body vs within spelled = ap (option_map array) (spelled depth (omega arith))
-
 -- what starts with a key and a value's encoding is that pair, and then the others
 pair_first : (read : List ℕ → Reading) (n : ℕ) (es : Entries) (k t rest : List ℕ) (v : Tree) → IsShort k → read t ≡ found v rest
     → pairs_onto read (suc n) es (short_field k ++ t) ≡ pairs_onto read n (insert k v es) rest
@@ -108,52 +102,49 @@ pair_first read n es k t rest v key first =
     (λ i. and_key (is_key-true k t key i) (and_pairs read n es (take-append_seam k t i) (read (drop-append_seam k t i))))
     ∙ ap (and_pairs read n es k) first
 
--- a body means the table of its pairs, if they are found one level further in
-table_means : (depth deep : ℕ) (body : List ℕ) (es : Entries) → suc deep ≤ depth
-    → ((inner : ℕ) → deep ≤ inner → pairs_onto (outcome_by (meaning inner)) (length body) no_entries body ≡ Some es)
-    → meaning depth amqp.FieldTable body ≡ Some (table es)
-table_means zero deep body es within spelled = absurd (omega arith)
-table_means (suc depth) deep body es within spelled = ap (option_map table) (spelled depth (omega arith))
+-- a payload that isn't a container's is found
+plain_found : (depth : ℕ) (type : AMQPType) (b rest : List ℕ) (v : Tree) → type ≢ amqp.FieldArray → type ≢ amqp.FieldTable → Raw type b v
+    → raw_outcome_by (meaning depth) type (b ++ rest) ≡ found v rest
+plain_found depth _ _ rest _ no_array no_table (raw_fixed type f b is wide) = fixed_found (meaning depth) type f b rest is wide
+plain_found depth _ _ rest _ no_array no_table (raw_short s is) =
+    framed_found (meaning depth) amqp.ShortString (length s ∷ []) s rest (short s) refl refl refl (ap (λ t. cond t (Some (short s)) None) (is_short-true s is))
+plain_found depth _ _ rest _ no_array no_table (raw_long s fits) =
+    framed_found (meaning depth) amqp.LongString (to_be_bytes w32 (length s)) s rest (long s) refl refl (from_be_bytes-to_be_bytes_4 (length s) fits) refl
+plain_found depth _ _ rest _ no_array no_table (raw_octets s fits) =
+    framed_found (meaning depth) amqp.ByteArray (to_be_bytes w32 (length s)) s rest (octets s) refl refl (from_be_bytes-to_be_bytes_4 (length s) fits) refl
+plain_found depth _ _ rest _ no_array no_table (raw_array body vs fits all) = absurd (no_array refl)
+plain_found depth _ _ rest _ no_array no_table (raw_table body ps es fits all means) = absurd (no_table refl)
 
 mutual
   -- every encoding that nests no deeper is found
-  pub found_wire : (depth : ℕ) (w rest : List ℕ) (v : Tree) (p : Wire w v) → nesting w v p ≤ depth
-      → outcome_by (meaning depth) (w ++ rest) ≡ found v rest
-  found_wire depth _ rest _ (wire c type b v is raw) within =
-      ap (λ k. by_kind k (meaning depth) (b ++ rest)) is ∙ found_raw depth type b rest v raw within
+  pub found_wire : (depth : ℕ) (w rest : List ℕ) (v : Tree) → WireWithin depth w v → outcome_by (meaning depth) (w ++ rest) ≡ found v rest
+  found_wire _ _ rest _ (within_wire depth c type b v is raw) =
+      ap (λ k. by_kind k (meaning depth) (b ++ rest)) is ∙ found_raw depth type b rest v raw
 
   -- so is every payload
-  pub found_raw : (depth : ℕ) (type : AMQPType) (b rest : List ℕ) (v : Tree) (p : Raw type b v) → raw_nesting type b v p ≤ depth
-      → raw_outcome_by (meaning depth) type (b ++ rest) ≡ found v rest
-  found_raw depth _ _ rest _ (raw_fixed type f b is wide) within = fixed_found (meaning depth) type f b rest is wide
-  found_raw depth _ _ rest _ (raw_short s is) within =
-      framed_found (meaning depth) amqp.ShortString (length s ∷ []) s rest (short s) refl refl refl (ap (λ t. cond t (Some (short s)) None) (is_short-true s is))
-  found_raw depth _ _ rest _ (raw_long s fits) within =
-      framed_found (meaning depth) amqp.LongString (to_be_bytes w32 (length s)) s rest (long s) refl refl (from_be_bytes-to_be_bytes_4 (length s) fits) refl
-  found_raw depth _ _ rest _ (raw_octets s fits) within =
-      framed_found (meaning depth) amqp.ByteArray (to_be_bytes w32 (length s)) s rest (octets s) refl refl (from_be_bytes-to_be_bytes_4 (length s) fits) refl
-  found_raw depth _ _ rest _ (raw_array body vs fits entries) within =
-      framed_found (meaning depth) amqp.FieldArray (to_be_bytes w32 (length body)) body rest (array vs) refl refl (from_be_bytes-to_be_bytes_4 (length body) fits)
-      (array_means depth (body_nesting body vs entries) body vs within (λ inner deep. found_body inner (length body) body vs entries deep (omega arith)))
-  found_raw depth _ _ rest _ (raw_table body ps es fits entries mean) within =
-      framed_found (meaning depth) amqp.FieldTable (to_be_bytes w32 (length body)) body rest (table es) refl refl (from_be_bytes-to_be_bytes_4 (length body) fits)
-      (table_means depth (pairs_nesting body ps entries) body es within
-      (λ inner deep. found_pairs inner (length body) no_entries body ps entries deep (omega arith) ∙ ap Some (sym (mean_put ps es mean))))
+  pub found_raw : (depth : ℕ) (type : AMQPType) (b rest : List ℕ) (v : Tree) → RawWithin depth type b v → raw_outcome_by (meaning depth) type (b ++ rest) ≡ found v rest
+  found_raw _ _ _ rest _ (within_plain depth type b v no_array no_table p) = plain_found depth type b rest v no_array no_table p
+  found_raw _ _ _ rest _ (within_array depth body vs fits all) =
+      framed_found (meaning (suc depth)) amqp.FieldArray (to_be_bytes w32 (length body)) body rest (array vs) refl refl (from_be_bytes-to_be_bytes_4 (length body) fits)
+      (ap (option_map array) (found_body depth (length body) body vs all (omega arith)))
+  found_raw _ _ _ rest _ (within_table depth body ps es fits all mean) =
+      framed_found (meaning (suc depth)) amqp.FieldTable (to_be_bytes w32 (length body)) body rest (table es) refl refl (from_be_bytes-to_be_bytes_4 (length body) fits)
+      (ap (option_map table) (found_pairs depth (length body) no_entries body ps all (omega arith) ∙ ap Some (sym (mean_put ps es mean))))
 
   -- and a body's values are those that it encodes
-  found_body : (depth n : ℕ) (body : List ℕ) (vs : Trees) (p : ArrayBody body vs) → body_nesting body vs p ≤ depth → length body ≤ n
-      → values_by (outcome_by (meaning depth)) n body ≡ Some vs
-  found_body depth n _ _ no_values within enough = refl
-  found_body depth zero _ _ (value w rest v vs first others) within enough = absurd (omega (arith, length-append w rest, length-wire w v first))
-  found_body depth (suc n) _ _ (value w rest v vs first others) within enough =
-      value_first (outcome_by (meaning depth)) n w rest v first enough (found_wire depth w rest v first (omega arith))
-      ∙ ap (option_map (tree v)) (found_body depth n rest vs others (omega arith) (omega (arith, length-append w rest, length-wire w v first)))
+  found_body : (depth n : ℕ) (body : List ℕ) (vs : Trees) → BodyWithin depth body vs → length body ≤ n → values_by (outcome_by (meaning depth)) n body ≡ Some vs
+  found_body _ n _ _ (within_no_values depth) enough = refl
+  found_body _ zero _ _ (within_value depth w rest v vs first others) enough = absurd (omega (arith, length-append w rest, length-wire w v (wire_of depth w v first)))
+  found_body _ (suc n) _ _ (within_value depth w rest v vs first others) enough =
+      let p = wire_of depth w v first in
+      value_first (outcome_by (meaning depth)) n w rest v p enough (found_wire depth w rest v first)
+      ∙ ap (option_map (tree v)) (found_body depth n rest vs others (omega (arith, length-append w rest, length-wire w v p)))
 
   -- and its pairs are put one after another
-  found_pairs : (depth n : ℕ) (es : Entries) (body : List ℕ) (ps : Entries) (p : TableBody body ps) → pairs_nesting body ps p ≤ depth → length body ≤ n
+  found_pairs : (depth n : ℕ) (es : Entries) (body : List ℕ) (ps : Entries) → PairsWithin depth body ps → length body ≤ n
       → pairs_onto (outcome_by (meaning depth)) n es body ≡ Some (insert_all es ps)
-  found_pairs depth n es _ _ no_pairs within enough = refl
-  found_pairs depth zero es _ _ (pair k w rest v ps key first others) within enough = absurd (omega arith)
-  found_pairs depth (suc n) es _ _ (pair k w rest v ps key first others) within enough =
-      pair_first (outcome_by (meaning depth)) n es k (w ++ rest) rest v key (found_wire depth w rest v first (omega arith))
-      ∙ found_pairs depth n (insert k v es) rest ps others (omega arith) (omega (arith, length-append k (w ++ rest), length-append w rest, length-wire w v first))
+  found_pairs _ n es _ _ (within_no_pairs depth) enough = refl
+  found_pairs _ zero es _ _ (within_pair depth k w rest v ps key first others) enough = absurd (omega arith)
+  found_pairs _ (suc n) es _ _ (within_pair depth k w rest v ps key first others) enough =
+      pair_first (outcome_by (meaning depth)) n es k (w ++ rest) rest v key (found_wire depth w rest v first)
+      ∙ found_pairs depth n (insert k v es) rest ps others (omega (arith, length-append k (w ++ rest), length-append w rest, length-wire w v (wire_of depth w v first)))

@@ -1,5 +1,5 @@
 -- Reading back: the canonical encoding of a value is read as that value, if it is readable.
-use Rattle.std.proofs.Common.{◌≡◌, ◌<◌, ◌≤◌, ◌^◌, ℕ, suc, subst, List, [], ◌∷◌, ◌++◌, length, drop, Some, None, Bool, true, false, refl, sym, ap, ◌∙◌, IsTrue, if◌then◌else◌, arith}
+use Rattle.std.proofs.Common.{◌≡◌, ◌<◌, ◌-◌, ◌^◌, ℕ, suc, subst, List, [], ◌∷◌, ◌++◌, length, drop, Some, None, Bool, true, false, refl, sym, ap, ◌∙◌, IsTrue, if◌then◌else◌, arith}
 use Rattle.std.specs.Int.{w32}
 use Rattle.std.proofs.lemmas.Bool.{and_from, both_ways}
 use Rattle.amqp_value_core.specs.declared.types.amqp_type.AMQPType.{AMQPType}
@@ -8,7 +8,7 @@ use Rattle.amqp_value_core.specs.Values.{Tree, scalar, short, long, octets, arra
 use Rattle.amqp_value_core.specs.Ids.{kind, id_of}
 use Rattle.amqp_value_core.specs.Strings.{IsShort}
 use Rattle.amqp_value_core.specs.Grammar.{short_field, long_field, Wire, wire, Raw, raw_fixed, raw_short, raw_array, raw_table, ArrayBody, no_values, value, TableBody, no_pairs, pair}
-use Rattle.amqp_value_core.specs.Nesting.{raw_nesting, body_nesting, pairs_nesting}
+use Rattle.amqp_value_core.specs.Nesting.{RawWithin, within_plain, within_array, within_table, BodyWithin, PairsWithin}
 use Rattle.amqp_value_core.specs.Texts.{text, body, pairs, Fits}
 use Rattle.amqp_value_core.specs.Members.{all_readable, entries_readable, AllFit, EntriesFit}
 use Rattle.amqp_value_core.specs.InMemory.{IsValue, AreValues, AreEntries}
@@ -27,30 +27,30 @@ one_large s t x y short_s short_t e =
     let len : length s ≡ length t = sym (counted-long_field s x short_s) ∙ (ap (counted w32) e ∙ counted-long_field t y short_t) in
     same_prefixes s t x y len (ap (drop 4) e)
 
--- the payload of an array is a body after its length, which nests no deeper than the payload, which
--- counts one more
-pub array_body_within : (d : ℕ) (s x b y : List ℕ) (z : Tree) → length s < 2 ^ 32 → (p : Raw amqp.FieldArray b z) → raw_nesting amqp.FieldArray b z p ≤ d
-    → long_field s ++ x ≡ b ++ y → (us : Trees) × (q : ArrayBody s us) × (suc (body_nesting s us q) ≤ d)
-array_body_within d s x _ y _ fits (raw_fixed type f b row len) within e = absurd cc
-array_body_within d s x _ y _ fits (raw_array c us bounded p) within e =
-    let same = one_large s c x y fits bounded e in
-    let at = subst (λ (t : List ℕ). (q : ArrayBody t us) × (suc (body_nesting t us q) ≤ d)) (sym same.0) (p, within) in
-    (us, at.0, at.1)
-
+-- the payload of an array is a body after its length
 pub array_body : (s x b y : List ℕ) (z : Tree) → length s < 2 ^ 32 → Raw amqp.FieldArray b z → long_field s ++ x ≡ b ++ y → (us : Trees) × ArrayBody s us
-array_body s x b y z fits p e = let r = array_body_within (raw_nesting amqp.FieldArray b z p) s x b y z fits p (omega arith) e in (r.0, r.1)
+array_body s x _ y _ fits (raw_fixed type f b row len) e = absurd cc
+array_body s x _ y _ fits (raw_array c us bounded p) e = (us, subst (λ (t : List ℕ). ArrayBody t us) (sym (one_large s c x y fits bounded e).0) p)
+
+-- within a depth, one that nests 1 less
+pub array_body_within : (d : ℕ) (s x b y : List ℕ) (z : Tree) → length s < 2 ^ 32 → RawWithin d amqp.FieldArray b z
+    → long_field s ++ x ≡ b ++ y → (us : Trees) × (0 < d) × BodyWithin (d - 1) s us
+array_body_within _ s x _ y _ fits (within_plain d type b v no_array no_table p) e = absurd (no_array refl)
+array_body_within _ s x _ y _ fits (within_array d c us bounded p) e =
+    let one : d ≡ suc d - 1 = omega arith in
+    (us, omega arith, subst (λ (n : ℕ). BodyWithin n s us) one (subst (λ (t : List ℕ). BodyWithin d t us) (sym (one_large s c x y fits bounded e).0) p))
 
 -- the payload of a table is pairs after their length
-pub table_body_within : (d : ℕ) (s x b y : List ℕ) (z : Tree) → length s < 2 ^ 32 → (p : Raw amqp.FieldTable b z) → raw_nesting amqp.FieldTable b z p ≤ d
-    → long_field s ++ x ≡ b ++ y → (ps : Entries) × (q : TableBody s ps) × (suc (pairs_nesting s ps q) ≤ d)
-table_body_within d s x _ y _ fits (raw_fixed type f b row len) within e = absurd cc
-table_body_within d s x _ y _ fits (raw_table c ps es bounded p mean) within e =
-    let same = one_large s c x y fits bounded e in
-    let at = subst (λ (t : List ℕ). (q : TableBody t ps) × (suc (pairs_nesting t ps q) ≤ d)) (sym same.0) (p, within) in
-    (ps, at.0, at.1)
-
 pub table_body : (s x b y : List ℕ) (z : Tree) → length s < 2 ^ 32 → Raw amqp.FieldTable b z → long_field s ++ x ≡ b ++ y → (ps : Entries) × TableBody s ps
-table_body s x b y z fits p e = let r = table_body_within (raw_nesting amqp.FieldTable b z p) s x b y z fits p (omega arith) e in (r.0, r.1)
+table_body s x _ y _ fits (raw_fixed type f b row len) e = absurd cc
+table_body s x _ y _ fits (raw_table c ps es bounded p mean) e = (ps, subst (λ (t : List ℕ). TableBody t ps) (sym (one_large s c x y fits bounded e).0) p)
+
+pub table_body_within : (d : ℕ) (s x b y : List ℕ) (z : Tree) → length s < 2 ^ 32 → RawWithin d amqp.FieldTable b z
+    → long_field s ++ x ≡ b ++ y → (ps : Entries) × (0 < d) × PairsWithin (d - 1) s ps
+table_body_within _ s x _ y _ fits (within_plain d type b v no_array no_table p) e = absurd (no_table refl)
+table_body_within _ s x _ y _ fits (within_table d c ps es bounded p mean) e =
+    let one : d ≡ suc d - 1 = omega arith in
+    (ps, omega arith, subst (λ (n : ℕ). PairsWithin n s ps) one (subst (λ (t : List ℕ). PairsWithin d t ps) (sym (one_large s c x y fits bounded e).0) p))
 
 -- the payload of a short string is one after its length
 pub short_bytes : (s x b y : List ℕ) (z : Tree) → Raw amqp.ShortString b z → short_field s ++ x ≡ b ++ y → IsShort s

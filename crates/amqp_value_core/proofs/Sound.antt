@@ -14,8 +14,9 @@ use Rattle.amqp_value_core.specs.Values.{Tree, short, long, octets, array, table
 use Rattle.amqp_value_core.specs.Ids.{kind}
 use Rattle.amqp_value_core.specs.Layouts.{Layout, fixed}
 use Rattle.amqp_value_core.specs.Strings.{IsShort}
-use Rattle.amqp_value_core.specs.Grammar.{short_field, long_field, wire, raw_fixed, raw_short, raw_long, raw_octets, raw_array, raw_table, no_values, value, no_pairs, pair}
-use Rattle.amqp_value_core.specs.Nesting.{WireWithin, RawWithin, BodyWithin, PairsWithin}
+use Rattle.amqp_value_core.specs.Grammar.{short_field, long_field, raw_short, raw_long, raw_octets}
+use Rattle.amqp_value_core.specs.Nesting.{WireWithin, within_wire, RawWithin, within_plain, within_array, within_table, BodyWithin, within_no_values, within_value, PairsWithin, within_no_pairs, within_pair}
+use Rattle.amqp_value_core.proofs.Nests.{fixed_within}
 use Rattle.amqp_value_core.specs.Inputs.{IsBytes}
 use Rattle.amqp_value_core.specs.Outcomes.{Reading, found, more, unknown, malformed, NeedsMoreOr, length_field, counted, lack, lack_of, frame_lack}
 use Rattle.amqp_value_core.specs.Decode.{Meaning, framed, raw_outcome_by, outcome_by, values_by, is_short, is_key, pairs_onto, meaning}
@@ -80,7 +81,7 @@ by_layout_ends : (depth : ℕ) (mean : Meaning) (type : AMQPType) (b : List ℕ)
 by_layout_ends depth mean type b means bytes None is whole = framed_ends depth mean type b means bytes whole
 by_layout_ends depth mean type b means bytes (Some f) is whole =
     let field = extent_of-whole (Some f) (length_field type) b whole in
-    (take f.width b, (raw_fixed type f (take f.width b) is (length-take f.width b ∙ omega arith), omega arith), sym (take-append-drop f.width b))
+    (take f.width b, fixed_within depth type f (take f.width b) is (length-take f.width b ∙ omega arith), sym (take-append-drop f.width b))
 
 -- reading a payload
 pub raw_ends : (depth : ℕ) (mean : Meaning) → IsSoundMeaning depth mean → (type : AMQPType) (b : List ℕ) → IsBytes b → RawEnds depth type b (raw_outcome_by mean type b)
@@ -91,7 +92,7 @@ raw_ends depth mean means type b bytes = at_lack (lack type b) refl where
 
 -- with its type tag before it, a payload is an encoding
 id_before : (depth c : ℕ) (type : AMQPType) (b : List ℕ) (o : Reading) → kind c ≡ Some type → PrefixOrError (RawWithin depth type) b o → PrefixOrError (WireWithin depth) (c ∷ b) o
-id_before depth c type b (found v rest) is (raw, (p, within), split) = (c ∷ raw, (wire c type raw v is p, within), ap (λ t. c ∷ t) split)
+id_before depth c type b (found v rest) is (raw, p, split) = (c ∷ raw, within_wire depth c type raw v is p, ap (λ t. c ∷ t) split)
 id_before depth c type b malformed is ends = tt
 id_before depth c type b (more n) is ends = ends
 id_before depth c type b unknown is ends = ends
@@ -130,8 +131,8 @@ wire_found depth (c ∷ b) o ends = at_kind (kind c) ends where
 tree_ends : (depth : ℕ) (s w rest : List ℕ) (v : Tree) (vs : Option Trees) → WireWithin depth w v → s ≡ w ++ rest
     → IfSome vs (BodyWithin depth rest) → IfSome (option_map (tree v) vs) (BodyWithin depth s)
 tree_ends depth s w rest v None first is others = tt
-tree_ends depth s w rest v (Some vs) (p, within) is (q, all_within) =
-    subst (λ x. BodyWithin depth x (tree v vs)) (sym is) (value w rest v vs p q, omega arith)
+tree_ends depth s w rest v (Some vs) p is q =
+    subst (λ x. BodyWithin depth x (tree v vs)) (sym is) (within_value depth w rest v vs p q)
 
 -- what the first value is, and what the others are
 others_end : (depth : ℕ) (read : List ℕ → Reading) (n : ℕ) (s : List ℕ) (o : Reading) → IsBytes s → IfFound (WireWithin depth) s o
@@ -146,7 +147,7 @@ others_end depth read n s malformed bytes ends others = tt
 -- values that are found one after another are a body
 values_end : (depth : ℕ) (read : List ℕ → Reading) → ((s : List ℕ) → IsBytes s → IfFound (WireWithin depth) s (read s))
     → (n : ℕ) (s : List ℕ) → IsBytes s → IfSome (values_by read n s) (BodyWithin depth s)
-values_end depth read reads n [] bytes = (no_values, omega arith)
+values_end depth read reads n [] bytes = within_no_values depth
 values_end depth read reads zero (c ∷ b) bytes = tt
 values_end depth read reads (suc n) (c ∷ b) bytes =
     others_end depth read n (c ∷ b) (read (c ∷ b)) bytes (reads (c ∷ b) bytes) (values_end depth read reads n)
@@ -165,8 +166,8 @@ PairsOnto depth es s fs = (ps : Entries) × PairsWithin depth s ps × (fs ≡ in
 pair_ends : (depth : ℕ) (es : Entries) (k t w rest : List ℕ) (v : Tree) (fs : Option Entries) → IsShort k → WireWithin depth w v → t ≡ w ++ rest
     → IfSome fs (PairsOnto depth (insert k v es) rest) → IfSome fs (PairsOnto depth es (short_field k ++ t))
 pair_ends depth es k t w rest v None key first is others = tt
-pair_ends depth es k t w rest v (Some fs) key (p, within) is (ps, (q, all_within), onto_es) =
-    subst (λ x. PairsOnto depth es (short_field k ++ x) fs) (sym is) (entry k v ps, (pair k w rest v ps key p q, omega arith), onto_es)
+pair_ends depth es k t w rest v (Some fs) key p is (ps, q, onto_es) =
+    subst (λ x. PairsOnto depth es (short_field k ++ x) fs) (sym is) (entry k v ps, within_pair depth k w rest v ps key p q, onto_es)
 
 -- what is after the first key, and what the other pairs are
 pairs_after : (depth : ℕ) (read : List ℕ → Reading) (n : ℕ) (es : Entries) (k t : List ℕ) (o : Reading) → IsShort k → IsBytes t → IfFound (WireWithin depth) t o
@@ -198,7 +199,7 @@ key_ends depth read reads n es c s bytes others = at_test (is_key c s) refl wher
 -- pairs that are put one after another are pairs
 pairs_end : (depth : ℕ) (read : List ℕ → Reading) → ((s : List ℕ) → IsBytes s → IfFound (WireWithin depth) s (read s))
     → (n : ℕ) (es : Entries) (s : List ℕ) → IsBytes s → IfSome (pairs_onto read n es s) (PairsOnto depth es s)
-pairs_end depth read reads n es [] bytes = (no_entries, (no_pairs, omega arith), refl)
+pairs_end depth read reads n es [] bytes = (no_entries, within_no_pairs depth, refl)
 pairs_end depth read reads zero es (c ∷ s) bytes = tt
 pairs_end depth read reads (suc n) es (c ∷ s) bytes = key_ends depth read reads n es c s bytes.1 (pairs_end depth read reads n)
 
@@ -221,30 +222,30 @@ short_end : (depth : ℕ) (l s : List ℕ) → length l ≡ 1 → from_be_bytes 
     → IfSome (cond t (Some (short s)) None) (RawWithin depth amqp.ShortString (l ++ s))
 short_end depth l s one counts false is = tt
 short_end depth l s one counts true is =
-    small_end (λ b. RawWithin depth amqp.ShortString b (short s)) l s one counts (raw_short s (is_short-holds s is), omega arith)
+    small_end (λ b. RawWithin depth amqp.ShortString b (short s)) l s one counts (within_plain depth amqp.ShortString (short_field s) (short s) (λ e. cc) (λ e. cc) (raw_short s (is_short-holds s is)))
 
 -- a body after its length is an array
 array_end : (depth : ℕ) (l s : List ℕ) → IsBytes l → length l ≡ 4 → from_be_bytes w32 l ≡ length s → (vs : Option Trees)
     → IfSome vs (BodyWithin depth s) → IfSome (option_map array vs) (RawWithin (suc depth) amqp.FieldArray (l ++ s))
 array_end depth l s bytes four counts None ends = tt
-array_end depth l s bytes four counts (Some vs) (p, within) =
-    large_end (λ b. RawWithin (suc depth) amqp.FieldArray b (array vs)) l s bytes four counts (λ fits. (raw_array s vs fits p, omega arith))
+array_end depth l s bytes four counts (Some vs) p =
+    large_end (λ b. RawWithin (suc depth) amqp.FieldArray b (array vs)) l s bytes four counts (λ fits. within_array depth s vs fits p)
 
 -- or a table
 table_end : (depth : ℕ) (l s : List ℕ) → IsBytes l → length l ≡ 4 → from_be_bytes w32 l ≡ length s → (es : Option Entries)
     → IfSome es (PairsOnto depth no_entries s) → IfSome (option_map table es) (RawWithin (suc depth) amqp.FieldTable (l ++ s))
 table_end depth l s bytes four counts None ends = tt
-table_end depth l s bytes four counts (Some es) (ps, (p, within), is) =
+table_end depth l s bytes four counts (Some es) (ps, p, is) =
     large_end (λ b. RawWithin (suc depth) amqp.FieldTable b (table es)) l s bytes four counts
-    (λ fits. (raw_table s ps es fits p (subst (Mean ps) (sym is) (put_mean ps)), omega arith))
+    (λ fits. within_table depth s ps es fits p (subst (Mean ps) (sym is) (put_mean ps)))
 
 -- what bytes mean, they encode
 pub means_spelled : (depth : ℕ) → IsSoundMeaning depth (meaning depth)
 means_spelled depth amqp.ShortString l s field one counts bytes = short_end depth l s one counts (is_short s) refl
 means_spelled depth amqp.LongString l s field four counts bytes =
-    large_end (λ b. RawWithin depth amqp.LongString b (long s)) l s field four counts (λ fits. (raw_long s fits, omega arith))
+    large_end (λ b. RawWithin depth amqp.LongString b (long s)) l s field four counts (λ fits. within_plain depth amqp.LongString (long_field s) (long s) (λ e. cc) (λ e. cc) (raw_long s fits))
 means_spelled depth amqp.ByteArray l s field four counts bytes =
-    large_end (λ b. RawWithin depth amqp.ByteArray b (octets s)) l s field four counts (λ fits. (raw_octets s fits, omega arith))
+    large_end (λ b. RawWithin depth amqp.ByteArray b (octets s)) l s field four counts (λ fits. within_plain depth amqp.ByteArray (long_field s) (octets s) (λ e. cc) (λ e. cc) (raw_octets s fits))
 means_spelled (suc depth) amqp.FieldArray l s field four counts bytes =
     array_end depth l s field four counts (values_by (outcome_by (meaning depth)) (length s) s)
     (values_end depth (outcome_by (meaning depth)) (λ b bytes. wire_found depth b (outcome_by (meaning depth) b) (wire_ends depth (meaning depth) (means_spelled depth) b bytes)) (length s) s bytes)

@@ -2,10 +2,10 @@
 use Rattle.std.proofs.Common.{◌≡◌, ◌<◌, ◌≤◌, ℕ, List, [], ◌∷◌, ◌++◌, length, refl, sym, ap, subst, arith, length-append}
 use Rattle.std.proofs.lemmas.List.{nil_from_length}
 use Rattle.amqp_value_core.specs.Values.{Tree, Trees, no_trees, tree, trees_of}
-use Rattle.amqp_value_core.specs.Grammar.{Wire, ArrayBody, no_values, value}
-use Rattle.amqp_value_core.specs.Nesting.{body_nesting, BodyWithin, OutcomeWithin}
+use Rattle.amqp_value_core.specs.Grammar.{Wire}
+use Rattle.amqp_value_core.specs.Nesting.{BodyWithin, within_no_values, within_value, OutcomeWithin}
 use Rattle.amqp_value_core.specs.Outcomes.{Reading, found, more, unknown, malformed, Heavy}
-use Rattle.amqp_value_core.proofs.GrammarLaws.{length-wire, one_reading, one_outcome_within, wire_found_within, prefix_within}
+use Rattle.amqp_value_core.proofs.GrammarLaws.{wire_of, length-wire, one_reading, one_outcome_within, wire_found_within, prefix_within}
 use Rattle.amq_protocol_types.specs.declared.parsing.errors.Err.TheVariants.{Incomplete, Error, Failure}
 use Rattle.amq_protocol_types.specs.declared.parsing.errors.Needed.TheVariants.{Unknown, Size}
 use Rattle.amq_protocol_types.specs.declared.parsing.errors.ErrorKind.TheVariants.{MapOpt, MapRes, Eof, OutOfMemory, TooLarge}
@@ -37,28 +37,28 @@ after-nothing [] = refl
 after-nothing (x ∷ xs) = ap (tree x) (after-nothing xs)
 
 -- a body that isn't empty begins with a value
-body_found : (d : ℕ) (s : List ℕ) (vs : Trees) (p : ArrayBody s vs) → body_nesting s vs p ≤ d → 0 < length s → (v : Tree) × (rest : List ℕ) × OutcomeWithin d s (found v rest)
-body_found d _ _ no_values within h = absurd (omega arith)
-body_found d _ _ (value w left v vs p all) within h = (v, left, wire_found_within d w left v p (omega arith))
+body_found : (d : ℕ) (s : List ℕ) (vs : Trees) → BodyWithin d s vs → 0 < length s → (v : Tree) × (rest : List ℕ) × OutcomeWithin d s (found v rest)
+body_found _ _ _ (within_no_values d) h = absurd (omega arith)
+body_found _ _ _ (within_value d w left v vs p all) h = (v, left, wire_found_within d w left v p)
 
 -- what else a body results in that isn't empty has no values
 no_body : (d : ℕ) (s : List ℕ) (vs : Trees) (o : Reading) → OutcomeWithin d s o → ((v : Tree) (rest : List ℕ) → o ≡ found v rest → ⊥) → 0 < length s → BodyWithin d s vs → ⊥
 no_body d s vs o x other h p =
-    let f = body_found d s vs p.0 p.1 h in
+    let f = body_found d s vs p h in
     other f.0 f.1 (one_outcome_within d s o (found f.0 f.1) x f.2)
 
 -- after the first value of a body is a body
-body_after : (d : ℕ) (s w rest : List ℕ) (v : Tree) (vs : Trees) → s ≡ w ++ rest → Wire w v → (q : ArrayBody s vs) → body_nesting s vs q ≤ d → (more : Trees) × BodyWithin d rest more
-body_after d _ w rest v _ e p no_values within = let h = length-wire w v p in absurd (omega (arith, ap length e, length-append w rest))
-body_after d _ w rest v _ e p (value u left z vs q all) within =
-    let same = one_reading u w left rest z v q p e in
-    (vs, subst (λ (t : List ℕ). BodyWithin d t vs) same.2 (all, omega arith))
+body_after : (d : ℕ) (s w rest : List ℕ) (v : Tree) (vs : Trees) → s ≡ w ++ rest → Wire w v → BodyWithin d s vs → (more : Trees) × BodyWithin d rest more
+body_after _ _ w rest v _ e p (within_no_values d) = let h = length-wire w v p in absurd (omega (arith, ap length e, length-append w rest))
+body_after _ _ w rest v _ e p (within_value d u left z vs q all) =
+    let same = one_reading u w left rest z v (wire_of d u z q) p e in
+    (vs, subst (λ (t : List ℕ). BodyWithin d t vs) same.2 all)
 
 -- what is left after a value is shorter
 pub rest_shorter : (d : ℕ) (s : List ℕ) (v : Tree) (rest : List ℕ) → OutcomeWithin d s (found v rest) → length rest < length s
 rest_shorter d s v rest x =
     let f = prefix_within d s rest v x in
-    omega (arith, ap length f.2, length-append f.0 rest, length-wire f.0 v f.1.0)
+    omega (arith, ap length f.2, length-append f.0 rest, length-wire f.0 v (wire_of d f.0 v f.1))
 
 -- before the first value
 pub ArrayBodyRead-start : (d : ℕ) (s : List ℕ) → ArrayBodyRead d s [] s
@@ -72,8 +72,8 @@ ArrayBodyRead-step d s xs left v rest g x =
     record {
       whole = λ vs p.
           subst (BodyWithin d s) (sym (after-push xs v vs))
-          (g.whole (tree v vs) (subst (λ (t : List ℕ). BodyWithin d t (tree v vs)) (sym f.2) (value f.0 rest v vs f.1.0 p.0, omega (arith, f.1.1, p.1))));
-      only = λ vs p. let m = g.only vs p in body_after d left f.0 rest v m.0 f.2 f.1.0 m.1.0 m.1.1;
+          (g.whole (tree v vs) (subst (λ (t : List ℕ). BodyWithin d t (tree v vs)) (sym f.2) (within_value d f.0 rest v vs f.1 p)));
+      only = λ vs p. let m = g.only vs p in body_after d left f.0 rest v m.0 f.2 (wire_of d f.0 v f.1) m.1;
       shorter = omega (arith, g.shorter, rest_shorter d left v rest x);
     }
 
@@ -81,7 +81,7 @@ ArrayBodyRead-step d s xs left v rest g x =
 pub ArrayBodyRead-end : (d : ℕ) (s : List ℕ) (xs : List Tree) (rest : List ℕ) → ArrayBodyRead d s xs rest → length rest ≡ 0 → BodyWithin d s (trees_of xs)
 ArrayBodyRead-end d s xs rest g e =
     subst (BodyWithin d s) (after-nothing xs)
-    (g.whole no_trees (subst (λ (t : List ℕ). BodyWithin d t no_trees) (sym (nil_from_length rest e)) (no_values, omega arith)))
+    (g.whole no_trees (subst (λ (t : List ℕ). BodyWithin d t no_trees) (sym (nil_from_length rest e)) (within_no_values d)))
 
 -- if a value can't be read there are no values
 ArrayBodyRead-stuck : (d : ℕ) (s : List ℕ) (xs : List Tree) (rest : List ℕ) (o : Reading) → ArrayBodyRead d s xs rest → 0 < length rest → OutcomeWithin d rest o

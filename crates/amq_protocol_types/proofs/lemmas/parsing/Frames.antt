@@ -1,5 +1,5 @@
 -- Length-prefixed fields: a length, and as many bytes after it.
-use Rattle.std.proofs.Common.{◌≡◌, ◌+◌, ◌-◌, ◌%◌, ◌<◌, ◌≤◌, ℕ, List, ◌++◌, ◌∷◌, length, take, drop, None, refl, sym, ap, ap₂, ◌∙◌, subst, arith, take-append-drop}
+use Rattle.std.proofs.Common.{◌≡◌, ◌+◌, ◌-◌, ◌%◌, ◌<◌, ◌≤◌, ℕ, suc, List, ◌++◌, ◌∷◌, length, take, drop, None, refl, sym, ap, ap₂, ◌∙◌, subst, arith, take-append-drop}
 use Rattle.std.specs.Int.{w8, w32}
 use Rattle.std.specs.Str.{IsUtf8}
 use Rattle.std.proofs.lemmas.Bool.{le-ltb}
@@ -9,8 +9,8 @@ use Rattle.amqp_value_core.specs.declared.types.amqp_type.AMQPType.TheVariants a
 use Rattle.amqp_value_core.specs.Values.{Tree, Trees, Entries, short, long, octets, array, table}
 use Rattle.amqp_value_core.specs.Layouts.{fixed}
 use Rattle.amqp_value_core.specs.Strings.{IsShort}
-use Rattle.amqp_value_core.specs.Grammar.{short_field, long_field, Raw, raw_short, raw_long, raw_octets, raw_array, raw_table}
-use Rattle.amqp_value_core.specs.Nesting.{RawWithin, BodyWithin, RawOutcomeWithin}
+use Rattle.amqp_value_core.specs.Grammar.{short_field, long_field, Raw, raw_short, raw_long, raw_octets}
+use Rattle.amqp_value_core.specs.Nesting.{RawWithin, within_array, within_table, BodyWithin, RawOutcomeWithin}
 use Rattle.amqp_value_core.specs.Outcomes.{Reading, found, more, unknown, malformed, length_field, counted, frame_lack, lack_of, lack, PrefixBy, RawHeavy}
 use Rattle.amqp_value_core.specs.Payloads.{RawOutcome}
 use Rattle.amqp_value_core.proofs.GrammarLaws.{array_body_within, table_body_within, raw_found_within, raw_whole_within, short_bytes, counted-long_field, lack_of-long_field, raw_found, raw_whole}
@@ -68,11 +68,13 @@ module _ (s body rest : List ℕ) (f : IsLengthPrefixed s body rest) where
 module _ (d : ℕ) (s body rest : List ℕ) (f : IsLengthPrefixed s body rest) where
   -- an array is read if the body is values that nest one less
   pub array_found : (vs : Trees) → 0 < d → BodyWithin (d - 1) body vs → RawOutcomeWithin d amqp.FieldArray s (found (array vs) rest)
-  array_found vs some p = frame_found_within amqp.FieldArray s body rest refl refl f d (array vs) (raw_array body vs f.fits p.0, omega (arith, p.1))
+  array_found vs some p =
+      frame_found_within amqp.FieldArray s body rest refl refl f d (array vs)
+      (let one : suc (d - 1) ≡ d = omega arith in subst (λ (n : ℕ). RawWithin n amqp.FieldArray (long_field body) (array vs)) one (within_array (d - 1) body vs f.fits p))
 
   -- if the body isn't one, no prefix is an array
   no_array : (o : Reading) → IsNoBody (d - 1) body o → PrefixBy (RawWithin d amqp.FieldArray) s o
-  no_array malformed none = λ b left v p e. let r = array_body_within d body rest b left v f.fits p.0 p.1 (sym f.framed ∙ e) in none r.0 (r.1, omega (arith, r.2))
+  no_array malformed none = λ b left v p e. let r = array_body_within d body rest b left v f.fits p (sym f.framed ∙ e) in none r.0 r.2
   no_array (found v left) none = absurd none
   no_array (more m) none = absurd none
   no_array unknown none = absurd none
@@ -85,16 +87,17 @@ module _ (d : ℕ) (s body rest : List ℕ) (f : IsLengthPrefixed s body rest) w
   pub array_too_deep : d ≡ 0 → RawOutcomeWithin d amqp.FieldArray s malformed
   array_too_deep none =
       frame_malformed amqp.FieldArray s body rest refl refl f d
-      (λ b left v p e. let r = array_body_within d body rest b left v f.fits p.0 p.1 (sym f.framed ∙ e) in absurd (omega (arith, r.2)))
+      (λ b left v p e. let r = array_body_within d body rest b left v f.fits p (sym f.framed ∙ e) in absurd (omega (arith, r.1)))
 
   -- a table is read if the body is pairs that nest one less
   pub table_found : (es : Entries) → 0 < d → IsTable (d - 1) body es → RawOutcomeWithin d amqp.FieldTable s (found (table es) rest)
   table_found es some p =
-      frame_found_within amqp.FieldTable s body rest refl refl f d (table es) (raw_table body p.0 es f.fits p.1.0 p.2, omega (arith, p.1.1))
+      frame_found_within amqp.FieldTable s body rest refl refl f d (table es)
+      (let one : suc (d - 1) ≡ d = omega arith in subst (λ (n : ℕ). RawWithin n amqp.FieldTable (long_field body) (table es)) one (within_table (d - 1) body p.0 es f.fits p.1 p.2))
 
   -- if the body isn't one, no prefix is a table
   no_table : (o : Reading) → IsNoTable (d - 1) body o → PrefixBy (RawWithin d amqp.FieldTable) s o
-  no_table malformed none = λ b left v p e. let r = table_body_within d body rest b left v f.fits p.0 p.1 (sym f.framed ∙ e) in none r.0 (r.1, omega (arith, r.2))
+  no_table malformed none = λ b left v p e. let r = table_body_within d body rest b left v f.fits p (sym f.framed ∙ e) in none r.0 r.2
   no_table (found v left) none = absurd none
   no_table (more m) none = absurd none
   no_table unknown none = absurd none
@@ -106,7 +109,7 @@ module _ (d : ℕ) (s body rest : List ℕ) (f : IsLengthPrefixed s body rest) w
   pub table_too_deep : d ≡ 0 → RawOutcomeWithin d amqp.FieldTable s malformed
   table_too_deep none =
       frame_malformed amqp.FieldTable s body rest refl refl f d
-      (λ b left v p e. let r = table_body_within d body rest b left v f.fits p.0 p.1 (sym f.framed ∙ e) in absurd (omega (arith, r.2)))
+      (λ b left v p e. let r = table_body_within d body rest b left v f.fits p (sym f.framed ∙ e) in absurd (omega (arith, r.1)))
 
 -- ---- a length in one byte
 

@@ -4,12 +4,12 @@ use Rattle.amqp_value_core.specs.declared.types.amqp_type.AMQPType.{AMQPType}
 use Rattle.amqp_value_core.specs.declared.types.amqp_type.AMQPType.TheVariants as amqp
 use Rattle.amqp_value_core.specs.declared.value.AMQPValue.{AMQPValue}
 use Rattle.amqp_value_core.specs.Values.{Tree}
-use Rattle.amqp_value_core.specs.Grammar.{Raw, raw_fixed, raw_short, raw_long, raw_octets, raw_array, raw_table}
-use Rattle.amqp_value_core.specs.Nesting.{raw_nesting, RawWithin, RawOutcomeWithin}
+use Rattle.amqp_value_core.specs.Grammar.{Raw}
+use Rattle.amqp_value_core.specs.Nesting.{RawWithin, within_plain, RawOutcomeWithin}
 use Rattle.amqp_value_core.specs.View.{view}
 use Rattle.amqp_value_core.specs.Outcomes.{Reading, found, RawHeavy}
 use Rattle.amqp_value_core.specs.Payloads.{RawOutcome}
-use Rattle.amqp_value_core.proofs.GrammarLaws.{raw_outcome_same, raw_unlimited}
+use Rattle.amqp_value_core.proofs.GrammarLaws.{raw_of, raw_outcome_same, raw_unlimited}
 use Rattle.amq_protocol_types.specs.declared.parsing.errors.ErrorKind.TheVariants.{Eof}
 use Rattle.amq_protocol_types.specs.parsing.Refusals.{Refusal}
 use Rattle.amq_protocol_types.specs.parsing.ParseResults.{IsRefusal}
@@ -17,18 +17,10 @@ use Rattle.amq_protocol_types.specs.parsing.PayloadResults.{OnlyLacks, bad_kind,
 use Rattle.amq_protocol_types.proofs.lemmas.parsing.Payloads.{unsigned_outcome}
 use Rattle.amq_protocol_types.proofs.lemmas.parsing.Refused.{IsRefusal-weaker, OnlyLacks-refuses, raw_refused}
 
--- no container, so nothing nests
-flat : (type : AMQPType) (b : List ℕ) (v : Tree) (p : Raw type b v) → type ≢ amqp.FieldArray → type ≢ amqp.FieldTable → raw_nesting type b v p ≡ 0
-flat _ _ _ (raw_fixed type f b is wide) no_array no_table = refl
-flat _ _ _ (raw_short s is) no_array no_table = refl
-flat _ _ _ (raw_long s fits) no_array no_table = refl
-flat _ _ _ (raw_octets s fits) no_array no_table = refl
-flat _ _ _ (raw_array body vs fits all) no_array no_table = absurd (no_array refl)
-flat _ _ _ (raw_table body ps es fits all mean) no_array no_table = absurd (no_table refl)
-
+-- what reading a payload that is no container's results in is the same within any depth
 plain_outcome : (d : ℕ) (type : AMQPType) (s : List ℕ) (o : Reading) → type ≢ amqp.FieldArray → type ≢ amqp.FieldTable → RawOutcome type s o → RawOutcomeWithin d type s o
 plain_outcome d type s o no_array no_table x =
-    raw_outcome_same (Raw type) (RawWithin d type) type s o (λ b rest v e p. (p, omega (arith, flat type b v p no_array no_table))) (λ b rest v e p. p.0) x
+    raw_outcome_same (Raw type) (RawWithin d type) type s o (λ b rest v e p. within_plain d type b v no_array no_table p) (λ b rest v e p. raw_of d type b v p) x
 
 -- a payload of the type isn't a container
 abbrev pub IsPlainPayload : AMQPType → Type 0
@@ -36,7 +28,6 @@ IsPlainPayload amqp.FieldArray = ⊥
 IsPlainPayload amqp.FieldTable = ⊥
 IsPlainPayload _ = Unit {0}
 
--- what reading it results in is the same within any depth
 plain_within : (d : ℕ) (type : AMQPType) (s : List ℕ) (o : Reading) → IsPlainPayload type → RawOutcome type s o → RawOutcomeWithin d type s o
 plain_within d type s o plain x = plain_outcome d type s o (λ e. subst IsPlainPayload e plain) (λ e. subst IsPlainPayload e plain) x
 

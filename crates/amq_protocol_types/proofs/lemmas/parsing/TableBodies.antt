@@ -5,11 +5,11 @@ use Rattle.amqp_value_core.specs.declared.types.amqp_type.AMQPType.TheVariants a
 use Rattle.amqp_value_core.specs.Values.{Tree, short, Entries, no_entries, entry, insert, insert_all}
 use Rattle.amqp_value_core.specs.Strings.{IsShort}
 use Rattle.amqp_value_core.specs.Grammar.{short_field, Wire, Raw, raw_short, TableBody, no_pairs, pair}
-use Rattle.amqp_value_core.specs.Nesting.{pairs_nesting, PairsWithin, OutcomeWithin}
+use Rattle.amqp_value_core.specs.Nesting.{PairsWithin, within_no_pairs, within_pair, OutcomeWithin}
 use Rattle.amqp_value_core.specs.Outcomes.{Reading, found, more, unknown, malformed, lack, Heavy}
 use Rattle.amqp_value_core.specs.Payloads.{RawOutcome}
 use Rattle.amqp_value_core.specs.Maps.{Mean}
-use Rattle.amqp_value_core.proofs.GrammarLaws.{raw_prefix, one_key, one_reading, one_outcome_within, one_raw_outcome, raw_found, wire_found_within, prefix_within, put_mean}
+use Rattle.amqp_value_core.proofs.GrammarLaws.{wire_of, pairs_of, raw_prefix, one_key, one_reading, one_outcome_within, one_raw_outcome, raw_found, wire_found_within, prefix_within, put_mean}
 use Rattle.amq_protocol_types.specs.declared.parsing.errors.Err.TheVariants.{Incomplete, Error, Failure}
 use Rattle.amq_protocol_types.specs.declared.parsing.errors.Needed.TheVariants.{Unknown, Size}
 use Rattle.amq_protocol_types.specs.declared.parsing.errors.ErrorKind.TheVariants.{MapOpt, MapRes, Eof, OutOfMemory, TooLarge}
@@ -54,20 +54,20 @@ no_key _ _ o x other h (pair k w left v ps is p all) =
 
 -- and after it a value that is read
 no_value : (d : ℕ) (s k after : List ℕ) (ps : Entries) (o : Reading) → s ≡ short_field k ++ after → OutcomeWithin d after o
-    → ((v : Tree) (rest : List ℕ) → o ≡ found v rest → ⊥) → (q : TableBody s ps) → pairs_nesting s ps q ≤ d → ⊥
-no_value d _ k after _ o e x other no_pairs within = absurd cc
-no_value d _ k after _ o e x other (pair j w left v ps at p all) within =
+    → ((v : Tree) (rest : List ℕ) → o ≡ found v rest → ⊥) → PairsWithin d s ps → ⊥
+no_value _ _ k after _ o e x other (within_no_pairs d) = absurd cc
+no_value _ _ k after _ o e x other (within_pair d j w left v ps at p all) =
     let rest : after ≡ w ++ left = (one_key k j after (w ++ left) (sym e)).1 in
-    other v left (one_outcome_within d after o (found v left) x (subst (λ (t : List ℕ). OutcomeWithin d t (found v left)) (sym rest) (wire_found_within d w left v p (omega arith))))
+    other v left (one_outcome_within d after o (found v left) x (subst (λ (t : List ℕ). OutcomeWithin d t (found v left)) (sym rest) (wire_found_within d w left v p)))
 
 -- after the first pair are pairs
-pairs_after : (d : ℕ) (s k w rest : List ℕ) (v : Tree) (ps : Entries) → Wire w v → s ≡ short_field k ++ (w ++ rest) → (q : TableBody s ps) → pairs_nesting s ps q ≤ d
+pairs_after : (d : ℕ) (s k w rest : List ℕ) (v : Tree) (ps : Entries) → Wire w v → s ≡ short_field k ++ (w ++ rest) → PairsWithin d s ps
     → (qs : Entries) × PairsWithin d rest qs
-pairs_after d _ k w rest v _ p e no_pairs within = absurd cc
-pairs_after d _ k w rest v _ p e (pair j u left z ps at q all) within =
+pairs_after _ _ k w rest v _ p e (within_no_pairs d) = absurd cc
+pairs_after _ _ k w rest v _ p e (within_pair d j u left z ps at q all) =
     let after : w ++ rest ≡ u ++ left = (one_key k j (w ++ rest) (u ++ left) (sym e)).1 in
-    let same = one_reading w u rest left v z p q after in
-    (ps, subst (λ (t : List ℕ). PairsWithin d t ps) (sym same.2) (all, omega arith))
+    let same = one_reading w u rest left v z p (wire_of d u z q) after in
+    (ps, subst (λ (t : List ℕ). PairsWithin d t ps) (sym same.2) all)
 
 -- before the first pair
 pub TableBodyRead-start : (d : ℕ) (s : List ℕ) → TableBodyRead d s no_entries s
@@ -81,21 +81,21 @@ TableBodyRead-step d s es left k after v rest g x y =
     let f = prefix_within d after rest v y in
     let all : left ≡ short_field k ++ (f.0 ++ rest) = key.0 ∙ ap (λ (t : List ℕ). short_field k ++ t) f.2 in
     record {
-      whole = λ ps p. g.whole (entry k v ps) (subst (λ (t : List ℕ). PairsWithin d t (entry k v ps)) (sym all) (pair k f.0 rest v ps key.1 f.1.0 p.0, omega (arith, f.1.1, p.1)));
-      only = λ qs p. let m = g.only qs p in pairs_after d left k f.0 rest v m.0 f.1.0 all m.1.0 m.1.1;
+      whole = λ ps p. g.whole (entry k v ps) (subst (λ (t : List ℕ). PairsWithin d t (entry k v ps)) (sym all) (within_pair d k f.0 rest v ps key.1 f.1 p));
+      only = λ qs p. let m = g.only qs p in pairs_after d left k f.0 rest v m.0 (wire_of d f.0 v f.1) all m.1;
       shorter = omega (arith, g.shorter, key_shorter left k after x, rest_shorter d after v rest y);
     }
 
 -- after the last pair
 pub TableBodyRead-end : (d : ℕ) (s : List ℕ) (es : Entries) (rest : List ℕ) → TableBodyRead d s es rest → length rest ≡ 0 → IsTable d s es
 TableBodyRead-end d s es rest g e =
-    let r = g.whole no_entries (subst (λ (t : List ℕ). PairsWithin d t no_entries) (sym (nil_from_length rest e)) (no_pairs, omega arith)) in
+    let r = g.whole no_entries (subst (λ (t : List ℕ). PairsWithin d t no_entries) (sym (nil_from_length rest e)) (within_no_pairs d)) in
     (r.0, r.1, subst (Mean r.0) (sym r.2) (put_mean r.0))
 
 -- if a key can't be read there are no pairs
 stuck_at_key : (d : ℕ) (s : List ℕ) (es : Entries) (rest : List ℕ) (o : Reading) → TableBodyRead d s es rest → 0 < length rest → RawOutcome amqp.ShortString rest o
     → ((v : Tree) (left : List ℕ) → o ≡ found v left → ⊥) → IsNoTable d s malformed
-stuck_at_key d s es rest o g h x other = λ qs p. let m = g.only qs p in no_key rest m.0 o x other h m.1.0
+stuck_at_key d s es rest o g h x other = λ qs p. let m = g.only qs p in no_key rest m.0 o x other h (pairs_of d rest m.0 m.1)
 
 -- the error of a key, for the table round it
 pub TableBodyRead-bad_key : (d : ℕ) (s : List ℕ) (es : Entries) (rest : List ℕ) (e : Refusal) → TableBodyRead d s es rest → 0 < length rest
@@ -112,7 +112,7 @@ stuck_at_value : (d : ℕ) (s : List ℕ) (es : Entries) (rest k after : List �
 stuck_at_value d s es rest k after o g x y other = λ qs p.
     let m = g.only qs p in
     let key = key_at_start rest k after x in
-    no_value d rest k after m.0 o key.0 y other m.1.0 m.1.1
+    no_value d rest k after m.0 o key.0 y other m.1
 
 -- the error of a value, for the table round it
 pub TableBodyRead-bad_value : (d : ℕ) (s : List ℕ) (es : Entries) (rest k after : List ℕ) (e : Refusal) → TableBodyRead d s es rest

@@ -14,7 +14,7 @@ use Rattle.amq_protocol_types.specs.declared.parsing.limits.Limits.{Limits}
 use Rattle.amq_protocol_types.specs.parsing.Refusals.{lacks}
 use Rattle.amq_protocol_types.specs.parsing.Limits.{RefusesWithin}
 use Rattle.amqp_value_core.specs.Outcomes.{found, more, length_field, lack_of, lack, OutcomeBy, no_byte, needs_more}
-use Rattle.amqp_value_core.proofs.GrammarLaws.{more_bytes, prefix_within, first_within, fields_lack_cut, fields_lack_known, frame_lack_cut, frame_lack_known, counted-append}
+use Rattle.amqp_value_core.proofs.GrammarLaws.{wire_of, more_bytes, prefix_within, first_within, fields_lack_cut, fields_lack_known, frame_lack_cut, frame_lack_known, counted-append}
 use Rattle.amq_protocol_types.specs.parsing.Headers.{extent_of, extent_at, extent, wanted_at, wanted, IsWaiting}
 use Rattle.amq_protocol_types.proofs.lemmas.parsing.Extents.{extent_cut, extent_known}
 use Rattle.amq_protocol_types.proofs.lemmas.parsing.Whole.{wire_whole, whole_wants_none}
@@ -103,7 +103,7 @@ nothing_after frame d s v rest waits x =
       | inl less ↦
           let prefix : take (length w) s ≡ w = ap (take (length w)) f.2 ∙ take_at w rest (length w) refl in
           let lacks : 0 < wanted w = subst (λ (t : List ℕ). 0 < wanted t) prefix (waits (length w) less).0 in
-          let none : wanted (w ++ []) ≡ 0 = whole_wants_none (w ++ []) (wire_whole w [] v f.1.0) in
+          let none : wanted (w ++ []) ≡ 0 = whole_wants_none (w ++ []) (wire_whole w [] v (wire_of d w v f.1)) in
           absurd (omega (arith, ap wanted (append-nil w)))
       | inr whole ↦ nil_from_length rest (omega arith)
     ]

@@ -7,7 +7,7 @@ use Rattle.amqp_value_core.specs.Values.{Tree}
 use Rattle.amqp_value_core.specs.Outcomes.{Reading, lack, found, more, no_byte, no_tag, needs_more, at_start, not_at_start, RawHeavy, Heavy}
 use Rattle.amqp_value_core.specs.Nesting.{OutcomeWithin}
 use Rattle.amqp_value_core.specs.Grammar.{Wire, wire}
-use Rattle.amqp_value_core.proofs.GrammarLaws.{lack-raw, prefix_within}
+use Rattle.amqp_value_core.proofs.GrammarLaws.{wire_of, lack-raw, prefix_within}
 use Rattle.amq_protocol_types.specs.declared.parsing.errors.Err.TheVariants.{Failure}
 use Rattle.amq_protocol_types.specs.declared.parsing.errors.ErrorKind.{ErrorKind}
 use Rattle.amq_protocol_types.specs.declared.parsing.limits.Limits.{Limits}
@@ -42,7 +42,7 @@ pub nothing_wanted : (d : ℕ) (s : List ℕ) (o : Reading) → OutcomeWithin d 
 nothing_wanted d _ _ no_byte no_more = absurd (no_more 1 refl)
 nothing_wanted d _ _ (no_tag c b k) no_more = ap (λ (o : Option AMQPType). wanted_at o b) k
 nothing_wanted d _ _ (needs_more c type b n k e) no_more = absurd (no_more (suc n) refl)
-nothing_wanted d _ _ (at_start w rest v p) no_more = whole_wants_none (w ++ rest) (wire_whole w rest v p.0)
+nothing_wanted d _ _ (at_start w rest v p) no_more = whole_wants_none (w ++ rest) (wire_whole w rest v (wire_of d w v p))
 nothing_wanted d _ _ (not_at_start c type b k e none) no_more = ap (λ (o : Option AMQPType). wanted_at o b) k ∙ e
 
 -- and if reading allocates
@@ -58,7 +58,7 @@ heavy_whole (c ∷ b) h = by (kind c) h
 pub found_all : (l : Limits) (s rest : List ℕ) (v : Tree) → Within l s (found v rest) → (extent s ≤ l.frame) × IsWholeValue s
 found_all l s rest v x =
     let p = prefix_within l.depth s rest v x.1 in
-    (x.0, subst IsWholeValue (sym p.2) (wire_whole p.0 rest v p.1.0))
+    (x.0, subst IsWholeValue (sym p.2) (wire_whole p.0 rest v (wire_of l.depth p.0 v p.1)))
 
 pub failed_all : (l : Limits) (s : List ℕ) (kind : ErrorKind) → RefusesWithin l s (Failure kind) → (extent s ≤ l.frame) × IsWholeValue s
 failed_all l s kind x = (x.0, heavy_whole s x.1.1)

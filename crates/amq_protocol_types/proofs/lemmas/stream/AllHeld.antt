@@ -6,7 +6,7 @@ use Rattle.amqp_value_core.specs.View.{view}
 use Rattle.amqp_value_core.specs.Nesting.{WireWithin}
 use Rattle.amqp_value_core.specs.Values.{Tree}
 use Rattle.amqp_value_core.specs.Outcomes.{found, more}
-use Rattle.amqp_value_core.proofs.GrammarLaws.{wire_found_within}
+use Rattle.amqp_value_core.proofs.GrammarLaws.{wire_of, wire_found_within}
 use Rattle.amq_protocol_types.specs.declared.stream.error.StreamError.TheVariants as stream
 use Rattle.amq_protocol_types.specs.declared.stream.source.Source.{Ghosts}
 use Rattle.amq_protocol_types.specs.declared.stream.values.Values.{Values}
@@ -18,7 +18,7 @@ use Rattle.amq_protocol_types.proofs.lemmas.parsing.Appends.{refused_append}
 
 -- a value whose encoding came is read of that and more
 found_of_all : (l : Limits) (s t : List ℕ) (v : Tree) → WireWithin l.depth s v → length s ≤ l.frame → Within l (s ++ t) (found v t)
-found_of_all l s t v p few = (omega (arith, few, wire_extent s t v p.0), wire_found_within l.depth s t v p.0 p.1)
+found_of_all l s t v p few = (omega (arith, few, wire_extent s t v (wire_of l.depth s v p)), wire_found_within l.depth s t v p)
 
 -- the outcome of s is that of s and what was left
 with_rest : (l : Limits) (s y : List ℕ) (r : NextResult) (new : Values) → IsOutcomeOf l s (Some y) r new → IsOutcomeOfAll l (s ++ y) (Some y) r
