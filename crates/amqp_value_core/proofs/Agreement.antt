@@ -7,12 +7,12 @@ use Rattle.amqp_value_core.specs.Ids.{kind}
 use Rattle.amqp_value_core.specs.Grammar.{Wire, Raw}
 use Rattle.amqp_value_core.specs.Nesting.{WireWithin, RawWithin, OutcomeWithin}
 use Rattle.amqp_value_core.specs.Inputs.{IsBytes}
-use Rattle.amqp_value_core.specs.Outcomes.{Reading, found, more, unknown, malformed, NeedsMoreOr, lack, PrefixBy, OutcomeBy, Outcome}
+use Rattle.amqp_value_core.specs.Outcomes.{Reading, found, more, unknown, malformed, lack, OutcomeBy, Outcome}
 use Rattle.amqp_value_core.specs.Payloads.{RawOutcome}
 use Rattle.amqp_value_core.specs.Decode.{outcome_by, meaning, compute_outcome, compute_raw_outcome}
 use Rattle.amqp_value_core.proofs.Found.{found_wire, found_raw}
 use Rattle.amqp_value_core.proofs.Limited.{one_outcome_within}
-use Rattle.amqp_value_core.proofs.Outcomes.{NeedsMoreOr-weaker, from_cases, one_outcome, one_raw_outcome}
+use Rattle.amqp_value_core.proofs.Outcomes.{NeedsMoreOr, PrefixBy, raw_from_cases, NeedsMoreOr-weaker, from_cases, one_outcome, one_raw_outcome}
 use Rattle.amqp_value_core.proofs.Nests.{nesting-le, raw_nesting-le, wire_of, raw_of, wire_within, raw_within}
 use Rattle.amqp_value_core.proofs.Sound.{PrefixOrError, WireEnds, raw_ends, wire_ends, means_spelled}
 
@@ -37,9 +37,10 @@ prefix_by P Q s unknown finds forget ends = ends
 -- reading a payload results in what the function returns
 pub raw_outcome_holds : (type : AMQPType) (s : List ℕ) → IsBytes s → RawOutcome type s (compute_raw_outcome type s)
 raw_outcome_holds type s bytes =
-    NeedsMoreOr-weaker (lack type s) _ _ (compute_raw_outcome type s)
+    raw_from_cases (Raw type) type s (compute_raw_outcome type s)
+    (NeedsMoreOr-weaker (lack type s) _ _ (compute_raw_outcome type s)
     (prefix_by (Raw type) (RawWithin (length s) type) s (compute_raw_outcome type s) (raw_outcome_at type s) (raw_of (length s) type))
-    (raw_ends (length s) (meaning (length s)) (means_spelled (length s)) type s bytes)
+    (raw_ends (length s) (meaning (length s)) (means_spelled (length s)) type s bytes))
 
 -- and to nothing else
 raw_outcome_only : (type : AMQPType) (s : List ℕ) (o : Reading) → IsBytes s → RawOutcome type s o → o ≡ compute_raw_outcome type s

@@ -8,7 +8,7 @@ pub use Rattle.amqp_value_core.proofs.Spelling.{size_of_scalar, size_of_array, s
 -- outcomes: of a canonical encoding, with more bytes, and that there is one
 pub use Rattle.amqp_value_core.proofs.Reading.{reading_back}
 pub use Rattle.amqp_value_core.proofs.MoreBytes.{NeedsMoreOr-more, more_bytes, more_raw_bytes}
-pub use Rattle.amqp_value_core.proofs.Outcomes.{NeedsMoreOr-weaker, raw_prefix, OutcomeByCases, from_cases, to_cases, one_outcome, one_raw_outcome}
+pub use Rattle.amqp_value_core.proofs.Outcomes.{NeedsMoreOr, PrefixBy, RawPrefix, NeedsMoreOr-weaker, raw_from_cases, raw_to_cases, OutcomeByCases, from_cases, to_cases, one_outcome, one_raw_outcome}
 -- the outcome as a function: its cases by what is first
 pub use Rattle.amqp_value_core.proofs.Found.{and_others, and_pairs}
 -- and that no payload but a short string, an array or a table is malformed

@@ -1,10 +1,9 @@
 -- Headlines: what was read keeps to its encoding's length, and what is written is a shortest
 -- encoding that determines its value.
-use Rattle.std.proofs.Common.{◌≡◌, ◌-◌, ℕ, List, length, ap, subst, arith, length-append}
+use Rattle.std.proofs.Common.{◌≡◌, ◌-◌, ℕ, List, ◌++◌, length, ap, subst, arith, length-append}
 use Rattle.amqp_value_core.specs.Values.{Tree}
 use Rattle.amqp_value_core.specs.Grammar.{Wire}
 use Rattle.amqp_value_core.specs.Outcomes.{found, Outcome}
-use Rattle.amqp_value_core.specs.Readings.{WirePrefix}
 use Rattle.amqp_value_core.specs.Texts.{text}
 use Rattle.amqp_value_core.specs.Headline.{IsWritableIn, IsShortest, TellsApart}
 use Rattle.amqp_value_core.proofs.Outcomes.{prefix_found}
@@ -12,7 +11,7 @@ use Rattle.amqp_value_core.proofs.Bounds.{bounds}
 use Rattle.amqp_value_core.proofs.Shortest.{what_is_read, shortest, same_text_same_value}
 
 -- what is found has an encoding at the start
-pub found_prefix : (s rest : List ℕ) (v : Tree) → Outcome s (found v rest) → WirePrefix s (found v rest)
+pub found_prefix : (s rest : List ℕ) (v : Tree) → Outcome s (found v rest) → (w : List ℕ) × Wire w v × (s ≡ w ++ rest)
 found_prefix s rest v x = prefix_found Wire s rest v x
 
 -- a value that was read is bounded by its encoding

@@ -4,30 +4,26 @@ use Rattle.amqp_value_core.specs.declared.types.amqp_type.AMQPType.{AMQPType}
 use Rattle.amqp_value_core.specs.Values.{Tree}
 use Rattle.amqp_value_core.specs.Ids.{kind}
 use Rattle.amqp_value_core.specs.Grammar.{Wire, Raw}
-use Rattle.amqp_value_core.specs.Outcomes.{Reading, found, more, unknown, malformed, lack, PrefixBy, RawOutcomeBy, OutcomeBy, no_byte, no_tag, needs_more, at_start, not_at_start, Outcome}
+use Rattle.amqp_value_core.specs.Outcomes.{Reading, found, more, unknown, malformed, lack, RawOutcomeBy, OutcomeBy, no_byte, no_tag, needs_more, at_start, not_at_start, Outcome}
 use Rattle.amqp_value_core.specs.Payloads.{RawOutcome}
 use Rattle.amqp_value_core.specs.Nesting.{WireWithin, within_wire, RawWithin, OutcomeWithin, RawOutcomeWithin}
 use Rattle.amqp_value_core.specs.Readings.{StillWaits, with_more}
 use Rattle.amqp_value_core.proofs.Prefixes.{one_held}
 use Rattle.amqp_value_core.proofs.Headers.{lack-raw}
 use Rattle.amqp_value_core.proofs.MoreBytes.{more_raw_bytes_by, more_bytes_by}
-use Rattle.amqp_value_core.proofs.Outcomes.{HasOnePrefix, NeedsMoreOr-weaker, raw_whole_by, prefix_found, raw_to_value_by, value_to_raw_by, one_outcome_by}
+use Rattle.amqp_value_core.proofs.Outcomes.{PrefixBy, HasOnePrefix, raw_whole_by, prefix_found, raw_to_value_by, value_to_raw_by, one_outcome_by}
 use Rattle.amqp_value_core.proofs.Unique.{one_reading}
 use Rattle.amqp_value_core.proofs.Nests.{nesting-le, raw_nesting-le, wire_of, raw_of, wire_within, raw_within}
 
 -- ---- of any P
 
 -- P decides what Q does, if they hold of the same prefixes
-prefix_same : (P Q : List ℕ → Tree → Type 0) (s : List ℕ) (o : Reading) → ((b rest : List ℕ) (v : Tree) → s ≡ b ++ rest → P b v → Q b v)
-    → ((b rest : List ℕ) (v : Tree) → s ≡ b ++ rest → Q b v → P b v) → PrefixBy P s o → PrefixBy Q s o
-prefix_same P Q s (found v rest) there back (b, p, e) = (b, there b rest v e p, e)
-prefix_same P Q s malformed there back none = λ b rest v q e. none b rest v (back b rest v e q) e
-prefix_same P Q s (more n) there back f = absurd f
-prefix_same P Q s unknown there back f = absurd f
-
 pub raw_outcome_same : (P Q : List ℕ → Tree → Type 0) (type : AMQPType) (s : List ℕ) (o : Reading) → ((b rest : List ℕ) (v : Tree) → s ≡ b ++ rest → P b v → Q b v)
     → ((b rest : List ℕ) (v : Tree) → s ≡ b ++ rest → Q b v → P b v) → RawOutcomeBy P type s o → RawOutcomeBy Q type s o
-raw_outcome_same P Q type s o there back x = NeedsMoreOr-weaker (lack type s) (PrefixBy P s o) (PrefixBy Q s o) o (prefix_same P Q s o there back) x
+raw_outcome_same P Q type s (found v rest) there back (b, p, is) = (b, there b rest v is p, is)
+raw_outcome_same P Q type s (more n) there back x = x
+raw_outcome_same P Q type s malformed there back (whole, none) = (whole, λ b rest v q is. none b rest v (back b rest v is q) is)
+raw_outcome_same P Q type s unknown there back x = x
 
 outcome_same : (P Q : List ℕ → Tree → Type 0) (s : List ℕ) (o : Reading) → ((b rest : List ℕ) (v : Tree) → s ≡ b ++ rest → P b v → Q b v)
     → ((b rest : List ℕ) (v : Tree) → s ≡ b ++ rest → Q b v → P b v) → OutcomeBy P s o → OutcomeBy Q s o

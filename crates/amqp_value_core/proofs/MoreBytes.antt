@@ -5,12 +5,12 @@ use Rattle.amqp_value_core.specs.declared.types.amqp_type.AMQPType.{AMQPType}
 use Rattle.amqp_value_core.specs.Values.{Tree}
 use Rattle.amqp_value_core.specs.Ids.{kind}
 use Rattle.amqp_value_core.specs.Grammar.{Wire, Raw}
-use Rattle.amqp_value_core.specs.Outcomes.{Reading, found, more, unknown, malformed, lack, NeedsMoreOr, PrefixBy, RawOutcomeBy, OutcomeBy, no_byte, no_tag, needs_more, at_start, not_at_start, Outcome}
+use Rattle.amqp_value_core.specs.Outcomes.{Reading, found, more, unknown, malformed, lack, RawOutcomeBy, OutcomeBy, no_byte, no_tag, needs_more, at_start, not_at_start, Outcome}
 use Rattle.amqp_value_core.specs.Payloads.{RawOutcome}
 use Rattle.amqp_value_core.specs.Readings.{with_more, StillWaits}
 use Rattle.amqp_value_core.proofs.Prefixes.{prefix_inside}
 use Rattle.amqp_value_core.proofs.Headers.{extent, extent-whole, extent-append, extent-raw, lack-whole, lack-append}
-use Rattle.amqp_value_core.proofs.Outcomes.{raw_whole_by, value_to_raw, raw_to_value}
+use Rattle.amqp_value_core.proofs.Outcomes.{NeedsMoreOr, PrefixBy, raw_from_cases, raw_to_cases, raw_whole_by, value_to_raw, raw_to_value}
 
 -- a payload at the start of a joined list is in its first part, if that is a complete
 -- length-prefixed field
@@ -36,7 +36,7 @@ module _ (P : List ℕ → Tree → Type 0) (type : AMQPType) (raw : (b : List �
 
   -- the outcome of reading a payload, with more bytes
   pub more_raw_bytes_by : (o : Reading) → RawOutcomeBy P type s o → StillWaits o t → RawOutcomeBy P type (s ++ t) (with_more o t)
-  more_raw_bytes_by o x waits = by (lack type s) refl x
+  more_raw_bytes_by o x waits = by (lack type s) refl (raw_to_cases P type raw s o x)
     where
       by : (n : ℕ) → lack type s ≡ n → NeedsMoreOr n (PrefixBy P s o) o → RawOutcomeBy P type (s ++ t) (with_more o t)
       by zero whole f = raw_whole_by P type (s ++ t) (with_more o t) (lack-whole type s t whole) (prefix_append o whole f)
@@ -44,7 +44,8 @@ module _ (P : List ℕ → Tree → Type 0) (type : AMQPType) (raw : (b : List �
           let less : length t < suc n = subst (λ (r : Reading). StillWaits r t) is waits in
           let left : lack type (s ++ t) ≡ suc n - length t = lack-append type s t (rw e less) ∙ ap (λ (m : ℕ). m - length t) e in
           subst (λ (r : Reading). RawOutcomeBy P type (s ++ t) (with_more r t)) (sym is)
-          (subst (λ (m : ℕ). RawOutcomeBy P type (s ++ t) (more m)) left (NeedsMoreOr-more (lack type (s ++ t)) _ (omega (arith, left))))
+          (subst (λ (m : ℕ). RawOutcomeBy P type (s ++ t) (more m)) left
+          (raw_from_cases P type (s ++ t) (more (lack type (s ++ t))) (NeedsMoreOr-more (lack type (s ++ t)) _ (omega (arith, left)))))
 
 -- the outcome of reading a value, with more bytes, if after each type tag it is that
 pub more_bytes_by : (P : List ℕ → Tree → Type 0) (s t : List ℕ) (o : Reading)

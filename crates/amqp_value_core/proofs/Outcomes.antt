@@ -1,16 +1,31 @@
 -- Outcomes: a value's is that of its payload, and a list has at most one.
-use Rattle.std.proofs.Common.{◌≡◌, ℕ, zero, suc, List, [], ◌∷◌, ◌++◌, Option, Some, None, MatchOption, refl, sym, ap, ap₂, ◌∙◌, subst}
+use Rattle.std.proofs.Common.{◌≡◌, ℕ, zero, suc, List, [], ◌∷◌, ◌++◌, Option, Some, None, MatchOption, refl, sym, ap, ap₂, ◌∙◌, subst, arith}
 use Rattle.amqp_value_core.specs.declared.types.amqp_type.AMQPType.{AMQPType}
 use Rattle.amqp_value_core.specs.Values.{Tree}
 use Rattle.amqp_value_core.specs.Ids.{kind}
 use Rattle.amqp_value_core.specs.Grammar.{Wire, wire, Raw}
-use Rattle.amqp_value_core.specs.Outcomes.{Reading, found, more, unknown, malformed, lack, NeedsMoreOr, PrefixBy, RawOutcomeBy, OutcomeBy, no_byte, no_tag, needs_more, at_start, not_at_start, Outcome, RawHeavy, Heavy}
-use Rattle.amqp_value_core.specs.Payloads.{RawPrefix, RawOutcome}
+use Rattle.amqp_value_core.specs.Outcomes.{Reading, found, more, unknown, malformed, lack, RawOutcomeBy, OutcomeBy, no_byte, no_tag, needs_more, at_start, not_at_start, Outcome, RawHeavy, Heavy}
+use Rattle.amqp_value_core.specs.Payloads.{RawOutcome}
 use Rattle.amqp_value_core.proofs.Prefixes.{one_held}
 use Rattle.amqp_value_core.proofs.Headers.{lack-raw}
 use Rattle.amqp_value_core.proofs.Unique.{one_reading, one_raw_reading}
 
 -- ---- of any P
+
+-- an outcome by cases: n more bytes are needed, or if n is 0 P decides
+abbrev pub NeedsMoreOr : ℕ → Type 0 → Reading → Type 0
+NeedsMoreOr zero P o = P
+NeedsMoreOr (suc n) P o = o ≡ more (suc n)
+
+-- P holds of a prefix of s and what is found, or of no prefix and no value
+abbrev pub PrefixBy : (List ℕ → Tree → Type 0) → List ℕ → Reading → Type 0
+PrefixBy P s (found v rest) = (b : List ℕ) × P b v × (s ≡ b ++ rest)
+PrefixBy P s malformed = (b rest : List ℕ) (v : Tree) → P b v → s ≡ b ++ rest → ⊥
+PrefixBy P s _ = ⊥
+
+-- a prefix of s is a payload of the type, or no prefix is
+abbrev pub RawPrefix : AMQPType → List ℕ → Reading → Type 0
+RawPrefix type s o = PrefixBy (Raw type) s o
 
 -- if no byte is missing, what P decides Q does
 pub NeedsMoreOr-weaker : (n : ℕ) (P Q : Type 0) (o : Reading) → (P → Q) → NeedsMoreOr n P o → NeedsMoreOr n Q o
@@ -19,12 +34,33 @@ NeedsMoreOr-weaker (suc n) P Q o f x = x
 
 -- a complete payload results in what its prefix decides
 pub raw_whole_by : (P : List ℕ → Tree → Type 0) (type : AMQPType) (s : List ℕ) (o : Reading) → lack type s ≡ 0 → PrefixBy P s o → RawOutcomeBy P type s o
-raw_whole_by P type s o whole f = subst (λ (n : ℕ). NeedsMoreOr n (PrefixBy P s o) o) (sym whole) f
+raw_whole_by P type s (found v rest) whole f = f
+raw_whole_by P type s malformed whole f = (whole, f)
+raw_whole_by P type s (more n) whole f = absurd f
+raw_whole_by P type s unknown whole f = f
 
--- what is found is at the start
-pub raw_prefix : (P : List ℕ → Tree → Type 0) (n : ℕ) (s rest : List ℕ) (v : Tree) → NeedsMoreOr n (PrefixBy P s (found v rest)) (found v rest) → PrefixBy P s (found v rest)
-raw_prefix P zero s rest v f = f
-raw_prefix P (suc n) s rest v e = absurd cc
+-- the outcome of reading a payload by what is missing is the outcome
+pub raw_from_cases : (P : List ℕ → Tree → Type 0) (type : AMQPType) (s : List ℕ) (o : Reading) → NeedsMoreOr (lack type s) (PrefixBy P s o) o → RawOutcomeBy P type s o
+raw_from_cases P type s o x = by (lack type s) refl x
+  where
+    by : (n : ℕ) → lack type s ≡ n → NeedsMoreOr n (PrefixBy P s o) o → RawOutcomeBy P type s o
+    by zero e f = raw_whole_by P type s o e f
+    by (suc n) e is = subst (RawOutcomeBy P type s) (sym is) (omega arith, e)
+
+-- and the other way round, if P holds only of payloads of the type
+pub raw_to_cases : (P : List ℕ → Tree → Type 0) (type : AMQPType) → ((b : List ℕ) (v : Tree) → P b v → Raw type b v) → (s : List ℕ) (o : Reading) → RawOutcomeBy P type s o
+    → NeedsMoreOr (lack type s) (PrefixBy P s o) o
+raw_to_cases P type raw s o x = by o x
+  where
+    at : (o : Reading) (n : ℕ) → lack type s ≡ n → NeedsMoreOr n (PrefixBy P s o) o → NeedsMoreOr (lack type s) (PrefixBy P s o) o
+    at o n e y = subst (λ (m : ℕ). NeedsMoreOr m (PrefixBy P s o) o) (sym e) y
+
+    by : (o : Reading) → RawOutcomeBy P type s o → NeedsMoreOr (lack type s) (PrefixBy P s o) o
+    by (found v rest) (b, p, is) = at (found v rest) 0 (ap (lack type) is ∙ lack-raw type b rest v (raw b v p)) (b, p, is)
+    by (more zero) (some, e) = absurd (omega arith)
+    by (more (suc n)) (some, e) = at (more (suc n)) (suc n) e refl
+    by malformed (e, none) = at malformed 0 e none
+    by unknown x = absurd x
 
 pub prefix_found : (P : List ℕ → Tree → Type 0) (s rest : List ℕ) (v : Tree) → OutcomeBy P s (found v rest) → PrefixBy P s (found v rest)
 prefix_found P _ _ _ (at_start w rest v p) = (w, p, refl)
@@ -73,16 +109,19 @@ to_cases P wires _ _ (needs_more c type b n k e) = at_cases P c type b (more (su
 to_cases P wires _ _ (at_start w rest v p) = start_cases P w rest v p (wires w v p)
 to_cases P wires _ _ (not_at_start c type b k e none) = at_cases P c type b malformed 0 k e none
 
--- P holds of payloads of the type, and Q of these after c, which denotes it
+-- if P holds of payloads of the type, and Q of these after c, which denotes it, reading a type tag
+-- and then its payload is reading the value
+pub raw_to_value_by : (P Q : List ℕ → Tree → Type 0) (c : ℕ) (type : AMQPType) → kind c ≡ Some type → ((p : List ℕ) (v : Tree) → P p v → Q (c ∷ p) v) → (b : List ℕ)
+    → ((w rest : List ℕ) (v : Tree) → Q w v → c ∷ b ≡ w ++ rest → (p : List ℕ) × P p v × (b ≡ p ++ rest)) → (o : Reading) → RawOutcomeBy P type b o → OutcomeBy Q (c ∷ b) o
+raw_to_value_by P Q c type k tagged b untagged (found v rest) (p, q, is) = subst (λ (t : List ℕ). OutcomeBy Q (c ∷ t) (found v rest)) (sym is) (at_start (c ∷ p) rest v (tagged p v q))
+raw_to_value_by P Q c type k tagged b untagged (more zero) (some, e) = absurd (omega arith)
+raw_to_value_by P Q c type k tagged b untagged (more (suc n)) (some, e) = needs_more c type b n k e
+raw_to_value_by P Q c type k tagged b untagged malformed (e, none) =
+    not_at_start c type b k e (λ w rest v q is. let r = untagged w rest v q is in none r.0 rest v r.1 r.2)
+raw_to_value_by P Q c type k tagged b untagged unknown x = absurd x
+
 module _ (P Q : List ℕ → Tree → Type 0) (c : ℕ) (type : AMQPType) (k : kind c ≡ Some type) (tagged : (p : List ℕ) (v : Tree) → P p v → Q (c ∷ p) v) (b : List ℕ)
     (untagged : (w rest : List ℕ) (v : Tree) → Q w v → c ∷ b ≡ w ++ rest → (p : List ℕ) × P p v × (b ≡ p ++ rest)) (o : Reading) where
-  -- what a payload at the start of b decides, an encoding at the start of c and b does
-  prefix_from_raw : (o : Reading) → PrefixBy P b o → PrefixBy Q (c ∷ b) o
-  prefix_from_raw (found v rest) f = (c ∷ f.0, tagged f.0 v f.1, ap (λ (t : List ℕ). c ∷ t) f.2)
-  prefix_from_raw malformed f = λ w rest v q e. let r = untagged w rest v q e in f r.0 rest v r.1 r.2
-  prefix_from_raw (more n) f = absurd f
-  prefix_from_raw unknown f = absurd f
-
   -- and the other way round
   raw_from_prefix : (o : Reading) → PrefixBy Q (c ∷ b) o → PrefixBy P b o
   raw_from_prefix (found v rest) f = untagged f.0 rest v f.1 f.2
@@ -90,14 +129,11 @@ module _ (P Q : List ℕ → Tree → Type 0) (c : ℕ) (type : AMQPType) (k : k
   raw_from_prefix (more n) f = absurd f
   raw_from_prefix unknown f = absurd f
 
-  -- reading a type tag and then its payload is reading the value
-  pub raw_to_value_by : RawOutcomeBy P type b o → OutcomeBy Q (c ∷ b) o
-  raw_to_value_by x = from_cases Q (c ∷ b) o (subst (OutcomeAt Q b o c) (sym k) (NeedsMoreOr-weaker (lack type b) (PrefixBy P b o) (PrefixBy Q (c ∷ b) o) o (prefix_from_raw o) x))
-
   -- and the other way round
   pub value_to_raw_by : ((w : List ℕ) (v : Tree) → Q w v → Wire w v) → OutcomeBy Q (c ∷ b) o → RawOutcomeBy P type b o
   value_to_raw_by wires x =
-      NeedsMoreOr-weaker (lack type b) (PrefixBy Q (c ∷ b) o) (PrefixBy P b o) o (raw_from_prefix o) (subst (OutcomeAt Q b o c) k (to_cases Q wires (c ∷ b) o x))
+      raw_from_cases P type b o
+      (NeedsMoreOr-weaker (lack type b) (PrefixBy Q (c ∷ b) o) (PrefixBy P b o) o (raw_from_prefix o) (subst (OutcomeAt Q b o c) k (to_cases Q wires (c ∷ b) o x)))
 
 -- a list has one prefix of which P holds, with one meaning
 abbrev pub HasOnePrefix : (List ℕ → Tree → Type 0) → Type 0
@@ -173,7 +209,8 @@ wire_found _ rest _ (wire c type b v k p) = raw_to_value c type (b ++ rest) (fou
 
 -- reading a payload results in one outcome
 pub one_raw_outcome : (type : AMQPType) (s : List ℕ) (o p : Reading) → RawOutcome type s o → RawOutcome type s p → o ≡ p
-one_raw_outcome type s o p x y = one_unless (Raw type) (one_raw_reading type) (lack type s) s o p x y
+one_raw_outcome type s o p x y =
+    one_unless (Raw type) (one_raw_reading type) (lack type s) s o p (raw_to_cases (Raw type) type (λ b v q. q) s o x) (raw_to_cases (Raw type) type (λ b v q. q) s p y)
 
 -- reading a value results in one outcome
 pub one_outcome : (s : List ℕ) (o p : Reading) → Outcome s o → Outcome s p → o ≡ p

@@ -14,11 +14,10 @@ use Rattle.amqp_value_core.specs.Members.{all_readable, entries_readable, AllFit
 use Rattle.amqp_value_core.specs.InMemory.{IsValue, AreValues, AreEntries}
 use Rattle.amqp_value_core.specs.Readings.{unread, read_back}
 use Rattle.amqp_value_core.specs.Outcomes.{counted, found, malformed, lack, no_tag, Outcome}
-use Rattle.amqp_value_core.specs.Payloads.{RawPrefix}
 use Rattle.amqp_value_core.proofs.Prefixes.{same_prefixes}
 use Rattle.amqp_value_core.proofs.Headers.{counted-long_field, lack_of-long_field}
 use Rattle.amqp_value_core.proofs.Unique.{one_prefix, one_key}
-use Rattle.amqp_value_core.proofs.Outcomes.{raw_of_wire, raw_whole, raw_to_value, wire_found}
+use Rattle.amqp_value_core.proofs.Outcomes.{RawPrefix, raw_of_wire, raw_whole, raw_to_value, wire_found}
 use Rattle.amqp_value_core.proofs.Spelling.{text_is_wire}
 
 -- two lists after their lengths, at the start of one list, are one

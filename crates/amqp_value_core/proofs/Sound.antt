@@ -18,13 +18,13 @@ use Rattle.amqp_value_core.specs.Grammar.{short_field, long_field, raw_short, ra
 use Rattle.amqp_value_core.specs.Nesting.{WireWithin, within_wire, RawWithin, within_plain, within_array, within_table, BodyWithin, within_no_values, within_value, PairsWithin, within_no_pairs, within_pair}
 use Rattle.amqp_value_core.proofs.Nests.{fixed_within}
 use Rattle.amqp_value_core.specs.Inputs.{IsBytes}
-use Rattle.amqp_value_core.specs.Outcomes.{Reading, found, more, unknown, malformed, NeedsMoreOr, length_field, counted, lack, lack_of, frame_lack}
+use Rattle.amqp_value_core.specs.Outcomes.{Reading, found, more, unknown, malformed, length_field, counted, lack, lack_of, frame_lack}
 use Rattle.amqp_value_core.specs.Decode.{Meaning, framed, raw_outcome_by, outcome_by, values_by, is_short, is_key, pairs_onto, meaning}
 use Rattle.amqp_value_core.proofs.Bytes.{bytes_after, bytes_take, bytes_drop, byte_at}
 use Rattle.amqp_value_core.specs.Maps.{Mean}
 use Rattle.amqp_value_core.proofs.Tables.{put_mean}
 use Rattle.amqp_value_core.proofs.Headers.{extent_of-whole}
-use Rattle.amqp_value_core.proofs.Outcomes.{NeedsMoreOr-weaker}
+use Rattle.amqp_value_core.proofs.Outcomes.{NeedsMoreOr, NeedsMoreOr-weaker}
 use Rattle.amqp_value_core.proofs.Found.{by_kind, by_layout, by_lack, by_meaning, and_others, and_pairs, and_key}
 
 -- P holds of a prefix of s and the value that was found in it, or s is rejected

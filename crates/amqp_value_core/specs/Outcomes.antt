@@ -1,5 +1,5 @@
 -- What reading some bytes results in: a value, more bytes that are needed, or an error.
-use Rattle.std.specs.Prelude.{ℕ, suc, zero, ◌+◌, ◌-◌, ◌<◌, ◌≡◌, Option, Some, None, MatchOption, List, [], ◌∷◌, ◌++◌, length, take, nat_lt, if◌then◌else◌}
+use Rattle.std.specs.Prelude.{ℕ, suc, ◌+◌, ◌-◌, ◌<◌, ◌≡◌, Option, Some, None, MatchOption, List, [], ◌∷◌, ◌++◌, length, take, nat_lt, if◌then◌else◌}
 use Rattle.std.specs.Int.{Width, w8, w32, byte_len, from_be_bytes}
 use Rattle.amqp_value_core.specs.declared.types.amqp_type.AMQPType.{AMQPType}
 use Rattle.amqp_value_core.specs.declared.types.amqp_type.AMQPType.TheVariants as amqp
@@ -47,20 +47,13 @@ lack_of None w b = frame_lack w b
 abbrev pub lack : AMQPType → List ℕ → ℕ
 lack type b = lack_of (fixed type) (length_field type) b
 
--- n more bytes are needed, or if n is 0 P decides
-abbrev pub NeedsMoreOr : ℕ → Type 0 → Reading → Type 0
-NeedsMoreOr zero P o = P
-NeedsMoreOr (suc n) P o = o ≡ more (suc n)
-
--- P holds of a prefix of s and what is found, or of no prefix and no value
-abbrev pub PrefixBy : (List ℕ → Tree → Type 0) → List ℕ → Reading → Type 0
-PrefixBy P s (found v rest) = (b : List ℕ) × P b v × (s ≡ b ++ rest)
-PrefixBy P s malformed = (b rest : List ℕ) (v : Tree) → P b v → s ≡ b ++ rest → ⊥
-PrefixBy P s _ = ⊥
-
--- reading a payload of the type from s results in o, if P holds of its payloads
+-- reading a payload of the type from s results in o, if P holds of payloads and their values: a
+-- payload is at the start, more bytes are needed, or the bytes are all there and none is
 abbrev pub RawOutcomeBy : (List ℕ → Tree → Type 0) → AMQPType → List ℕ → Reading → Type 0
-RawOutcomeBy P type s o = NeedsMoreOr (lack type s) (PrefixBy P s o) o
+RawOutcomeBy P type s (found v rest) = (b : List ℕ) × P b v × (s ≡ b ++ rest)
+RawOutcomeBy P type s (more n) = (0 < n) × (lack type s ≡ n)
+RawOutcomeBy P type s malformed = (lack type s ≡ 0) × ((b rest : List ℕ) (v : Tree) → P b v → s ≡ b ++ rest → ⊥)
+RawOutcomeBy P type s unknown = ⊥
 
 -- what reading a value from some bytes results in, if P holds of encodings and their values
 pub data OutcomeBy (P : List ℕ → Tree → Type 0) : List ℕ → Reading → Type 0 where

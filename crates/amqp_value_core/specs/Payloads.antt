@@ -2,12 +2,8 @@
 use Rattle.std.specs.Prelude.{ℕ, List}
 use Rattle.amqp_value_core.specs.declared.types.amqp_type.AMQPType.{AMQPType}
 use Rattle.amqp_value_core.specs.Grammar.{Raw}
-use Rattle.amqp_value_core.specs.Outcomes.{Reading, PrefixBy, RawOutcomeBy}
+use Rattle.amqp_value_core.specs.Outcomes.{Reading, RawOutcomeBy}
 pub use Rattle.amqp_value_core.specs.Canonical.{CanonRaw}
-
--- a prefix of s is a payload of the type, or no prefix is
-abbrev pub RawPrefix : AMQPType → List ℕ → Reading → Type 0
-RawPrefix type s o = PrefixBy (Raw type) s o
 
 -- reading a payload of the type from s results in o
 abbrev pub RawOutcome : AMQPType → List ℕ → Reading → Type 0

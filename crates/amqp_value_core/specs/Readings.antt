@@ -1,8 +1,7 @@
 -- What reading results in if more bytes follow, and of what was written.
 use Rattle.std.specs.Prelude.{ℕ, ◌-◌, ◌<◌, List, ◌++◌, length, if◌then◌else◌}
 use Rattle.amqp_value_core.specs.Values.{Tree, short, readable}
-use Rattle.amqp_value_core.specs.Grammar.{Wire}
-use Rattle.amqp_value_core.specs.Outcomes.{Reading, found, unknown, malformed, more, PrefixBy}
+use Rattle.amqp_value_core.specs.Outcomes.{Reading, found, unknown, malformed, more}
 
 -- the outcome if t follows
 abbrev pub with_more : Reading → List ℕ → Reading
@@ -25,7 +24,3 @@ unread _ = malformed
 -- what reading v's canonical encoding with `rest` after it results in: v again if v is readable
 abbrev pub read_back : Tree → List ℕ → Reading
 read_back v rest = if readable v then found v rest else unread v
-
--- a prefix of s is an encoding, or no prefix is
-abbrev pub WirePrefix : List ℕ → Reading → Type 0
-WirePrefix s o = PrefixBy Wire s o

@@ -12,7 +12,7 @@ ghost use Rattle.amqp_value_core.specs.Payloads.{RawOutcome};
 ghost use Rattle.amqp_value_core.specs.Texts.{payload, text, size, Fits};
 ghost use Rattle.amqp_value_core.specs.Grammar.{Wire, Raw};
 ghost use Rattle.amqp_value_core.specs.InMemory.{IsValue};
-ghost use Rattle.amqp_value_core.specs.Readings.{read_back, StillWaits, with_more, WirePrefix};
+ghost use Rattle.amqp_value_core.specs.Readings.{read_back, StillWaits, with_more};
 ghost use Rattle.amqp_value_core.specs.Ids.{kind};
 ghost use Rattle.amqp_value_core.specs.Inputs.{IsBytes};
 ghost use Rattle.amqp_value_core.specs.Outcomes.{Reading, Outcome, Heavy, RawHeavy, found, malformed};
@@ -186,7 +186,8 @@ pub fn canonical_wire()
 /// What reading finds has an encoding at the start, and keeps to the number of bytes taken.
 #[tactic(auto, using(crate::proofs::GrammarLaws::found_prefix, crate::proofs::GrammarLaws::bounded_found))]
 pub fn what_is_found()
-    ensures prefix { (s rest : List ℕ) (v : Tree) → Outcome s (found v rest) → WirePrefix s (found v rest) }
+    ensures prefix { (s rest : List ℕ) (v : Tree) → Outcome s (found v rest)
+        → (w : List ℕ) × Wire w v × (s ≡ w ++ rest) }
     ensures bounded { (s rest : List ℕ) (v : Tree) → Outcome s (found v rest)
         → IsWritableIn (length s - length rest) v }
 {}

@@ -8,9 +8,9 @@ use Rattle.amqp_value_core.specs.declared.types.amqp_type.AMQPType.TheVariants a
 use Rattle.amqp_value_core.specs.Values.{Tree, Scalar, boolean, number, decimal, void, scalar}
 use Rattle.amqp_value_core.specs.Layouts.{Layout, fixed, truth, whole_number}
 use Rattle.amqp_value_core.specs.Grammar.{Raw, raw_fixed}
-use Rattle.amqp_value_core.specs.Outcomes.{Reading, found, more, unknown, malformed, lack}
-use Rattle.amqp_value_core.specs.Payloads.{RawPrefix, RawOutcome}
-use Rattle.amqp_value_core.proofs.GrammarLaws.{NeedsMoreOr-weaker, raw_found}
+use Rattle.amqp_value_core.specs.Outcomes.{Reading, found, more, unknown, malformed}
+use Rattle.amqp_value_core.specs.Payloads.{RawOutcome}
+use Rattle.amqp_value_core.proofs.GrammarLaws.{raw_found}
 use Rattle.amq_protocol_types.specs.parsing.PayloadResults.{IsNumberRead}
 
 -- a payload of fixed width at the start is read
@@ -77,18 +77,14 @@ pub void_found : (s : List ℕ) → RawOutcome amqp.Void s (found (scalar void) 
 void_found s = fixed_found amqp.Void _ s [] s refl refl refl
 
 -- a LongLongUInt is read as the LongLongInt of the same bytes
-module _ (s : List ℕ) where
-  as_signed : (b : List ℕ) (v : Tree) → Raw amqp.LongLongUInt b v → Raw amqp.LongLongInt b v
-  as_signed _ _ (raw_fixed type f b row len) = raw_fixed amqp.LongLongInt f b row len
+as_signed : (b : List ℕ) (v : Tree) → Raw amqp.LongLongUInt b v → Raw amqp.LongLongInt b v
+as_signed _ _ (raw_fixed type f b row len) = raw_fixed amqp.LongLongInt f b row len
 
-  as_unsigned : (b : List ℕ) (v : Tree) → Raw amqp.LongLongInt b v → Raw amqp.LongLongUInt b v
-  as_unsigned _ _ (raw_fixed type f b row len) = raw_fixed amqp.LongLongUInt f b row len
+as_unsigned : (b : List ℕ) (v : Tree) → Raw amqp.LongLongInt b v → Raw amqp.LongLongUInt b v
+as_unsigned _ _ (raw_fixed type f b row len) = raw_fixed amqp.LongLongUInt f b row len
 
-  unsigned_prefix : (o : Reading) → RawPrefix amqp.LongLongInt s o → RawPrefix amqp.LongLongUInt s o
-  unsigned_prefix (found v rest) f = (f.0, as_unsigned f.0 v f.1, f.2)
-  unsigned_prefix malformed f = λ b rest v p e. f b rest v (as_signed b v p) e
-  unsigned_prefix (more n) f = f
-  unsigned_prefix unknown f = f
-
-  pub unsigned_outcome : (o : Reading) → RawOutcome amqp.LongLongInt s o → RawOutcome amqp.LongLongUInt s o
-  unsigned_outcome o x = NeedsMoreOr-weaker (lack amqp.LongLongInt s) (RawPrefix amqp.LongLongInt s o) (RawPrefix amqp.LongLongUInt s o) o (unsigned_prefix o) x
+pub unsigned_outcome : (s : List ℕ) (o : Reading) → RawOutcome amqp.LongLongInt s o → RawOutcome amqp.LongLongUInt s o
+unsigned_outcome s (found v rest) (b, p, is) = (b, as_unsigned b v p, is)
+unsigned_outcome s (more n) x = x
+unsigned_outcome s malformed (whole, none) = (whole, λ b rest v p is. none b rest v (as_signed b v p) is)
+unsigned_outcome s unknown x = x

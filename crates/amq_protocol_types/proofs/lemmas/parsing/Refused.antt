@@ -1,10 +1,10 @@
 -- Rejections: what is right of a part is right of all.
-use Rattle.std.proofs.Common.{◌≡◌, ◌<◌, ◌≤◌, ◌∙◌, ℕ, zero, suc, List, [], ◌∷◌, length, Option, ap, sym, subst, arith}
+use Rattle.std.proofs.Common.{◌≡◌, ◌<◌, ◌≤◌, ◌∙◌, ℕ, suc, List, [], ◌∷◌, length, Option, ap, sym, subst, arith}
 use Rattle.amqp_value_core.specs.declared.types.amqp_type.AMQPType.{AMQPType}
 use Rattle.amqp_value_core.specs.Values.{Tree}
-use Rattle.amqp_value_core.specs.Outcomes.{Reading, more, unknown, malformed, lack, NeedsMoreOr, OutcomeBy, no_byte, no_tag, needs_more, Outcome, RawHeavy, Heavy}
+use Rattle.amqp_value_core.specs.Outcomes.{Reading, more, unknown, malformed, OutcomeBy, no_byte, no_tag, needs_more, Outcome, RawHeavy, Heavy}
 use Rattle.amqp_value_core.specs.Nesting.{WireWithin, OutcomeWithin}
-use Rattle.amqp_value_core.specs.Payloads.{RawPrefix, RawOutcome}
+use Rattle.amqp_value_core.specs.Payloads.{RawOutcome}
 use Rattle.amq_protocol_types.specs.declared.parsing.errors.Err.TheVariants.{Incomplete, Error, Failure}
 use Rattle.amq_protocol_types.specs.declared.parsing.errors.Needed.{Needed}
 use Rattle.amq_protocol_types.specs.declared.parsing.errors.Needed.TheVariants.{Unknown, Size}
@@ -27,20 +27,12 @@ IsRefusal-weaker Is Now heavy now (Error OutOfMemory) f h x = x
 IsRefusal-weaker Is Now heavy now (Error TooLarge) f h x = x
 IsRefusal-weaker Is Now heavy now (Failure k) f h x = (x.0, h x.1)
 
--- a payload is never of an unknown type
-no_unknown : (type : AMQPType) (s : List ℕ) → RawOutcome type s unknown → ⊥
-no_unknown type s x = by (lack type s) x
-  where
-    by : (n : ℕ) → NeedsMoreOr n (RawPrefix type s unknown) unknown → ⊥
-    by zero f = f
-    by (suc n) e = absurd cc
-
 -- the error of a payload, if it isn't a short string, and it allocates if the payload does
 pub raw_refused : (type : AMQPType) (s : List ℕ) (heavy : Type 0) (e : Refusal) → bad_kind type ≡ Eof → (heavy → RawHeavy type s)
     → IsRefusal (RawOutcome type s) heavy e → RawRefuses type s e
 raw_refused type s heavy (Incomplete Unknown) kind f x = absurd x
 raw_refused type s heavy (Incomplete (Size n)) kind f x = x
-raw_refused type s heavy (Error MapOpt) kind f x = absurd (no_unknown type s x)
+raw_refused type s heavy (Error MapOpt) kind f x = absurd x
 raw_refused type s heavy (Error Eof) kind f x = (sym kind, x)
 raw_refused type s heavy (Error MapRes) kind f x = absurd x
 raw_refused type s heavy (Error OutOfMemory) kind f x = absurd x

@@ -6,10 +6,10 @@ use Rattle.amqp_value_core.specs.Values.{Tree, short, Entries, no_entries, entry
 use Rattle.amqp_value_core.specs.Strings.{IsShort}
 use Rattle.amqp_value_core.specs.Grammar.{short_field, Wire, Raw, raw_short, TableBody, no_pairs, pair}
 use Rattle.amqp_value_core.specs.Nesting.{PairsWithin, within_no_pairs, within_pair, OutcomeWithin}
-use Rattle.amqp_value_core.specs.Outcomes.{Reading, found, more, unknown, malformed, lack, Heavy}
+use Rattle.amqp_value_core.specs.Outcomes.{Reading, found, more, unknown, malformed, Heavy}
 use Rattle.amqp_value_core.specs.Payloads.{RawOutcome}
 use Rattle.amqp_value_core.specs.Maps.{Mean}
-use Rattle.amqp_value_core.proofs.GrammarLaws.{wire_of, pairs_of, raw_prefix, one_key, one_reading, one_outcome_within, one_raw_outcome, raw_found, wire_found_within, prefix_within, put_mean}
+use Rattle.amqp_value_core.proofs.GrammarLaws.{wire_of, pairs_of, one_key, one_reading, one_outcome_within, one_raw_outcome, raw_found, wire_found_within, prefix_within, put_mean}
 use Rattle.amq_protocol_types.specs.declared.parsing.errors.Err.TheVariants.{Incomplete, Error, Failure}
 use Rattle.amq_protocol_types.specs.declared.parsing.errors.Needed.TheVariants.{Unknown, Size}
 use Rattle.amq_protocol_types.specs.declared.parsing.errors.ErrorKind.TheVariants.{MapOpt, MapRes, Eof, OutOfMemory, TooLarge}
@@ -33,9 +33,8 @@ key_of _ _ (raw_short s is) = (refl, is)
 
 key_at_start : (s k rest : List ℕ) → RawOutcome amqp.ShortString s (found (short k) rest) → (s ≡ short_field k ++ rest) × IsShort k
 key_at_start s k rest x =
-    let f = raw_prefix (Raw amqp.ShortString) (lack amqp.ShortString s) s rest (short k) x in
-    let key = key_of f.0 k f.1 in
-    (f.2 ∙ ap (λ (b : List ℕ). b ++ rest) key.0, key.1)
+    let key = key_of x.0 k x.1 in
+    (x.2 ∙ ap (λ (b : List ℕ). b ++ rest) key.0, key.1)
 
 -- what is left after a key is shorter
 pub key_shorter : (s k rest : List ℕ) → RawOutcome amqp.ShortString s (found (short k) rest) → length rest < length s
