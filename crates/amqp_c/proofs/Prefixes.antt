@@ -7,7 +7,8 @@ use Rattle.amqp_value_core.specs.declared.types.amqp_type.AMQPType.{AMQPType}
 use Rattle.amqp_value_core.specs.declared.types.amqp_type.AMQPType.TheVariants as amqp
 use Rattle.amqp_value_core.specs.Ids.{kind, id_of}
 use Rattle.amqp_value_core.specs.Names.{read_as}
-use Rattle.amqp_value_core.specs.Values.{Tree, scalar, short, long, octets, array, table, no_entries, insert_all, scalar_type, Scalar, type_of}
+use Rattle.amqp_value_core.specs.Values.{Tree, scalar, short, long, octets, array, table, no_entries, scalar_type, Scalar, type_of}
+use Rattle.amqp_value_core.specs.Inserting.{insert_all}
 use Rattle.amqp_value_core.specs.Layouts.{Layout, fixed}
 use Rattle.amqp_value_core.specs.Grammar.{long_field, Wire, wire, Raw, raw_fixed, raw_short, raw_long, raw_octets, raw_array, raw_table, ArrayBody}
 use Rattle.amqp_value_core.specs.Outcomes.{Reading, found, more, unknown, malformed, lack, lack_of, frame_lack, fields_lack, length_field, NeedsMoreOr, PrefixBy, Outcome}

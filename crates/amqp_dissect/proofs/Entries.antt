@@ -9,7 +9,8 @@ use Rattle.std.proofs.lemmas.Bool.{le-ltb, lt-ltb}
 use Rattle.amqp_value_core.specs.declared.types.amqp_type.AMQPType.{AMQPType}
 use Rattle.amqp_value_core.specs.declared.types.amqp_type.AMQPType.TheVariants as amqp
 use Rattle.amqp_value_core.specs.Ids.{kind}
-use Rattle.amqp_value_core.specs.Values.{Tree, scalar, long, octets, array, table, no_trees, tree, no_entries, entry, insert_all}
+use Rattle.amqp_value_core.specs.Values.{Tree, scalar, long, octets, array, table, no_trees, tree, no_entries, entry}
+use Rattle.amqp_value_core.specs.Inserting.{insert_all}
 use Rattle.amqp_value_core.specs.Layouts.{Layout, fixed}
 use Rattle.amqp_value_core.specs.Grammar.{short_field, long_field, wire, raw_fixed, raw_long, raw_octets, raw_array, raw_table, no_values, value, no_pairs, pair}
 use Rattle.amqp_value_core.specs.Nesting.{OutcomeWithin, WireWithin, RawWithin}

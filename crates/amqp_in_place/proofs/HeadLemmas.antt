@@ -8,7 +8,8 @@ use Rattle.std.specs.Borrow.{Bor}
 use Rattle.amqp_value_core.specs.Strings.{IsShort}
 use Rattle.amqp_value_core.specs.declared.types.amqp_type.AMQPType.{AMQPType}
 use Rattle.amqp_value_core.specs.declared.types.amqp_type.AMQPType.TheVariants as amqp
-use Rattle.amqp_value_core.specs.Values.{Tree, Trees, Entries, no_entries, insert_all, short, array, table}
+use Rattle.amqp_value_core.specs.Values.{Tree, Trees, Entries, no_entries, short, array, table}
+use Rattle.amqp_value_core.specs.Inserting.{insert_all}
 use Rattle.amqp_value_core.specs.Grammar.{short_field, long_field, Wire, raw_short, raw_array, raw_table}
 use Rattle.amqp_value_core.specs.Nesting.{nesting, RawWithin, BodyWithin, OutcomeWithin, RawOutcomeWithin}
 use Rattle.amqp_value_core.specs.Outcomes.{Reading, found, more, unknown, malformed, lack, frame_lack, counted, NeedsMoreOr, PrefixBy, Outcome}

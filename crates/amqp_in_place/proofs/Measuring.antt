@@ -6,7 +6,8 @@ use Rattle.amqp_value_core.specs.Ids.{kind}
 use Rattle.amqp_value_core.specs.Strings.{IsShort}
 use Rattle.amqp_value_core.specs.declared.types.amqp_type.AMQPType.{AMQPType}
 use Rattle.amqp_value_core.specs.declared.types.amqp_type.AMQPType.TheVariants as amqp
-use Rattle.amqp_value_core.specs.Values.{Tree, short, long, octets, array, table, Trees, no_trees, tree, Entries, no_entries, entry, insert_all, count, depth}
+use Rattle.amqp_value_core.specs.Values.{Tree, short, long, octets, array, table, Trees, no_trees, tree, Entries, no_entries, entry, count, depth}
+use Rattle.amqp_value_core.specs.Inserting.{insert_all}
 use Rattle.amqp_value_core.specs.Members.{count_all, entries_count}
 use Rattle.amqp_value_core.specs.Layouts.{Layout, fixed}
 use Rattle.amqp_value_core.specs.Grammar.{short_field, long_field, Wire, wire, Raw, raw_fixed, raw_short, raw_long, raw_octets, raw_array, raw_table, ArrayBody, no_values, value, TableBody, no_pairs, pair}

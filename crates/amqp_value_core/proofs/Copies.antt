@@ -10,7 +10,8 @@ use Rattle.amqp_value_core.specs.declared.types.field_array.FieldArray.{FieldArr
 use Rattle.amqp_value_core.specs.declared.types.field_table.FieldTable.{FieldTable}
 use Rattle.amqp_value_core.specs.declared.value.AMQPValue.{AMQPValue, the_lemmas}
 use Rattle.amqp_value_core.specs.declared.value.AMQPValue.TheVariants as value
-use Rattle.amqp_value_core.specs.Values.{no_trees, no_entries, entry, insert, array, table}
+use Rattle.amqp_value_core.specs.Values.{no_trees, no_entries, entry, array, table}
+use Rattle.amqp_value_core.specs.Inserting.{insert}
 use Rattle.amqp_value_core.specs.NeedsNoAlloc.{NeedsNoAlloc}
 use Rattle.amqp_value_core.specs.View.{view}
 use Rattle.amqp_value_core.specs.Containers.{trees, entries, array_items, array_view, table_entries, table_view}

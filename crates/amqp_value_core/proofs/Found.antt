@@ -9,7 +9,8 @@ use Rattle.std.specs.Prelude.{cond}
 use Rattle.std.specs.Int.{w32, byte_len, from_be_bytes, to_be_bytes}
 use Rattle.amqp_value_core.specs.declared.types.amqp_type.AMQPType.{AMQPType}
 use Rattle.amqp_value_core.specs.declared.types.amqp_type.AMQPType.TheVariants as amqp
-use Rattle.amqp_value_core.specs.Values.{Tree, scalar, short, long, octets, array, table, Trees, tree, Entries, no_entries, insert, insert_all}
+use Rattle.amqp_value_core.specs.Values.{Tree, scalar, short, long, octets, array, table, Trees, tree, Entries, no_entries}
+use Rattle.amqp_value_core.specs.Inserting.{insert, insert_all}
 use Rattle.amqp_value_core.specs.Layouts.{Layout, fixed}
 use Rattle.amqp_value_core.specs.Strings.{IsShort}
 use Rattle.amqp_value_core.specs.Grammar.{Wire, Raw, short_field, wire, raw_fixed, raw_short, raw_long, raw_octets, raw_array, raw_table}

@@ -10,7 +10,8 @@ use Rattle.std.specs.Option.{IfSome}
 use Rattle.std.specs.Int.{w8, w32, byte_len, from_be_bytes, to_be_bytes}
 use Rattle.amqp_value_core.specs.declared.types.amqp_type.AMQPType.{AMQPType}
 use Rattle.amqp_value_core.specs.declared.types.amqp_type.AMQPType.TheVariants as amqp
-use Rattle.amqp_value_core.specs.Values.{Tree, short, long, octets, array, table, Trees, tree, Entries, no_entries, entry, insert, insert_all}
+use Rattle.amqp_value_core.specs.Values.{Tree, short, long, octets, array, table, Trees, tree, Entries, no_entries, entry}
+use Rattle.amqp_value_core.specs.Inserting.{insert, insert_all}
 use Rattle.amqp_value_core.specs.Ids.{kind}
 use Rattle.amqp_value_core.specs.Layouts.{Layout, fixed}
 use Rattle.amqp_value_core.specs.Strings.{IsShort}

@@ -40,6 +40,8 @@ pub mod Members
 pub mod InMemory
 -- what reading results in if more bytes follow, and of what was written
 pub mod Readings
+-- entries with one more
+pub mod Inserting
 -- those outcomes, as a function
 pub mod Decode
 -- encodings in which containers nest at most that deep

@@ -27,15 +27,19 @@ length_field _ = w32
 abbrev pub counted : Width → List ℕ → ℕ
 counted w b = from_be_bytes w (take (byte_len w) b)
 
+-- how many bytes s is short of n: 0 if it has as many, or more
+abbrev pub short_of : ℕ → List ℕ → ℕ
+short_of n s = n - length s
+
 -- how many more bytes are needed of a length field, and once it is complete of what it counts
 abbrev pub frame_lack : Width → List ℕ → ℕ
 frame_lack w b =
-    if nat_lt (length b) (byte_len w) then byte_len w - length b
-    else byte_len w + counted w b - length b
+    if nat_lt (length b) (byte_len w) then short_of (byte_len w) b
+    else short_of (byte_len w + counted w b) b
 
 -- how many more bytes a layout's first field needs, and once it is complete all its fields
 abbrev pub fields_lack : Layout → List ℕ → ℕ
-fields_lack f b = if nat_lt (length b) f.first then f.first - length b else f.width - length b
+fields_lack f b = if nat_lt (length b) f.first then short_of f.first b else short_of f.width b
 
 -- how many more bytes are needed of a payload of the layout, or of one with a length field
 abbrev pub lack_of : Option Layout → Width → List ℕ → ℕ
@@ -73,9 +77,18 @@ pub data OutcomeBy (P : List ℕ → Tree → Type 0) : List ℕ → Reading →
 abbrev pub Outcome : List ℕ → Reading → Type 0
 Outcome s o = OutcomeBy Wire s o
 
+-- the types whose payloads have a length field
+abbrev pub HasLength : AMQPType → Type 0
+HasLength amqp.ShortString = Unit {0}
+HasLength amqp.LongString = Unit {0}
+HasLength amqp.ByteArray = Unit {0}
+HasLength amqp.FieldArray = Unit {0}
+HasLength amqp.FieldTable = Unit {0}
+HasLength _ = ⊥
+
 -- a payload of the type allocates: its length counts at least one byte, and all have come
 abbrev pub RawHeavy : AMQPType → List ℕ → Type 0
-RawHeavy type s = (fixed type ≡ None) × (lack type s ≡ 0) × (0 < counted (length_field type) s)
+RawHeavy type s = HasLength type × (lack type s ≡ 0) × (0 < counted (length_field type) s)
 
 -- a value allocates
 abbrev pub Heavy : List ℕ → Type 0

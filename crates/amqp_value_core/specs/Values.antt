@@ -1,7 +1,7 @@
 -- Values: what an `AMQPValue` is, without its place in memory.
 -- AMQP 0-9-1, section 4.2.5.5 (field tables), in the reading of RabbitMQ's errata, section 3.
 use Rattle.std.specs.Prelude.{ℕ, ◌+◌, ◌≡◌, max, Bool, true, false, ◌&&◌, List, [], ◌∷◌}
-use Rattle.std.specs.Ordering.{nat_cmp, match_ordering}
+use Rattle.std.specs.Ordering.{nat_cmp}
 use Rattle.std.specs.Cmp.Lexicographic.{slice_cmp}
 use Rattle.amqp_value_core.specs.declared.types.amqp_type.AMQPType.{AMQPType}
 use Rattle.amqp_value_core.specs.declared.types.amqp_type.AMQPType.TheVariants as amqp
@@ -61,17 +61,6 @@ trees_of (v ∷ vs) = tree v (trees_of vs)
 abbrev pub entries_of : List (List ℕ × Tree) → Entries
 entries_of [] = no_entries
 entries_of (e ∷ es) = entry e.0 e.1 (entries_of es)
-
--- the entries, with v at k: an equal key takes the value, and a new one goes to its place in the
--- order
-abbrev pub insert : List ℕ → Tree → Entries → Entries
-insert k v no_entries = entry k v no_entries
-insert k v (entry j u es) = match_ordering (slice_cmp nat_cmp k j) (entry k v (entry j u es)) (entry j v es) (entry j u (insert k v es))
-
--- the entries, with pairs put one after another: of equal keys the last pair's value stays
-abbrev pub insert_all : Entries → Entries → Entries
-insert_all es no_entries = es
-insert_all es (entry k v ps) = insert_all (insert k v es) ps
 
 -- how deep containers nest: 1 more than what nests deepest in them, so 1 if empty; all that isn't a
 -- container 0

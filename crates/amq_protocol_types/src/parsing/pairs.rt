@@ -1,7 +1,8 @@
 //! Building a table of pairs: few are inserted one by one, many are collected first.
 
 ghost use Rattle.std.specs.Prelude.{◌≡◌, ◌≤◌, IfOk, OnOk, length};
-ghost use Rattle.amqp_value_core.specs.Values.{no_entries, insert};
+ghost use Rattle.amqp_value_core.specs.Values.{no_entries};
+ghost use Rattle.amqp_value_core.specs.Inserting.{insert};
 ghost use Rattle.amqp_value_core.specs.View.{view};
 ghost use Rattle.amqp_value_core.specs.Containers.{table_view};
 ghost use Rattle.amq_protocol_types.specs.parsing.Gathering.{kept};

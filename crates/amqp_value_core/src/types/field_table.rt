@@ -2,7 +2,8 @@
 
 ghost use Rattle.std.specs.Prelude.{◌≡◌, ◌≤◌, [], ◌∷◌, length, OnOk, OnErr, IfOk, IfErr, IsOk};
 ghost use Rattle.std.specs.Borrow.{sem};
-ghost use Rattle.amqp_value_core.specs.Values.{no_entries, insert, insert_all};
+ghost use Rattle.amqp_value_core.specs.Values.{no_entries};
+ghost use Rattle.amqp_value_core.specs.Inserting.{insert, insert_all};
 ghost use Rattle.amqp_value_core.specs.Maps.{has_key};
 ghost use Rattle.amqp_value_core.specs.View.{view};
 ghost use Rattle.amqp_value_core.specs.Containers.{entries, named, names, table_entries, table_view};

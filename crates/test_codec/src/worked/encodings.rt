@@ -7,7 +7,8 @@
 ghost use Rattle.std.specs.Prelude.{◌≡◌, List, [], ◌∷◌, ◌++◌, true, false, negsuc, Some, None, codes};
 ghost use Rattle.std.specs.Str.{byte};
 ghost use Rattle.std.specs.Int.{w8, w16, w32, w64, cast_unsigned};
-ghost use Rattle.amqp_value_core.specs.Values.{boolean, number, decimal, void, scalar, short, long, octets, array, trees_of, no_trees, table, entries_of, no_entries, insert, depth, count, readable};
+ghost use Rattle.amqp_value_core.specs.Values.{boolean, number, decimal, void, scalar, short, long, octets, array, trees_of, no_trees, table, entries_of, no_entries, depth, count, readable};
+ghost use Rattle.amqp_value_core.specs.Inserting.{insert};
 ghost use Rattle.amqp_value_core.specs.Maps.{has_key, value_at};
 ghost use Rattle.amqp_value_core.specs.Ids.{kind, id_of};
 ghost use Rattle.amqp_value_core.specs.Names.{read_as};

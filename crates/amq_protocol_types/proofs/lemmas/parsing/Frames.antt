@@ -11,7 +11,7 @@ use Rattle.amqp_value_core.specs.Layouts.{fixed}
 use Rattle.amqp_value_core.specs.Strings.{IsShort}
 use Rattle.amqp_value_core.specs.Grammar.{short_field, long_field, Raw, raw_short, raw_long, raw_octets}
 use Rattle.amqp_value_core.specs.Nesting.{RawWithin, within_array, within_table, BodyWithin, RawOutcomeWithin}
-use Rattle.amqp_value_core.specs.Outcomes.{Reading, found, more, unknown, malformed, length_field, counted, frame_lack, lack_of, lack, RawHeavy}
+use Rattle.amqp_value_core.specs.Outcomes.{Reading, found, more, unknown, malformed, length_field, counted, frame_lack, lack_of, lack, HasLength, RawHeavy}
 use Rattle.amqp_value_core.specs.Payloads.{RawOutcome}
 use Rattle.amqp_value_core.proofs.GrammarLaws.{PrefixBy, array_body_within, table_body_within, raw_found_within, raw_whole_within, short_bytes, counted-long_field, lack_of-long_field, raw_found, raw_whole}
 use Rattle.amq_protocol_types.specs.declared.parsing.errors.Err.TheVariants.{Incomplete, Error, Failure}
@@ -24,6 +24,15 @@ use Rattle.amq_protocol_types.specs.parsing.PayloadResults.{IsNumberRead, RawRef
 use Rattle.amq_protocol_types.proofs.lemmas.parsing.Refused.{IsRefusal-weaker}
 
 -- ---- a length in four bytes
+
+-- a type that isn't of fixed width has a length field
+has_length : (type : AMQPType) → fixed type ≡ None → HasLength type
+has_length amqp.ShortString e = tt
+has_length amqp.LongString e = tt
+has_length amqp.ByteArray e = tt
+has_length amqp.FieldArray e = tt
+has_length amqp.FieldTable e = tt
+has_length _ e = absurd cc
 
 -- s is a payload of the type, and `rest` after it: `body` after its length
 module _ (type : AMQPType) (s body rest : List ℕ) (row : fixed type ≡ None) (field : length_field type ≡ w32) (f : IsLengthPrefixed s body rest) where
@@ -39,7 +48,7 @@ module _ (type : AMQPType) (s body rest : List ℕ) (row : fixed type ≡ None) 
   -- it allocates if its body has a byte
   frame_heavy : 0 < length body → RawHeavy type s
   frame_heavy h =
-      (row, frame_whole, omega (arith, ap₂ counted field f.framed, counted-long_field body rest f.fits))
+      (has_length type row, frame_whole, omega (arith, ap₂ counted field f.framed, counted-long_field body rest f.fits))
 
   -- what the length-prefixed field means is found, if containers nest at most d deep
   frame_found_within : (d : ℕ) (v : Tree) → RawWithin d type (long_field body) v → RawOutcomeWithin d type s (found v rest)
@@ -146,7 +155,7 @@ module _ (s left : List ℕ) (n : ℕ) (few : n < 256) (e : IsNumberRead w8 s n 
 
   -- memory runs out only if there are any
   short_heavy : (t : List ℕ) → t ≡ take n left → 0 < length t → RawHeavy amqp.ShortString s
-  short_heavy t is some = (refl, small_whole, omega (arith, ap length is, length-take-le n left there, small_counted))
+  short_heavy t is some = (tt, small_whole, omega (arith, ap length is, length-take-le n left there, small_counted))
 
   -- so an error of making the string of them is right
   pub short_error : (t : List ℕ) (e : Refusal) → t ≡ take n left → RefusesAs (λ kind. (kind ≡ MapRes) × (IsUtf8 t → ⊥)) (λ _. ⊥) (0 < length t) e → RawRefuses amqp.ShortString s e

@@ -2,7 +2,8 @@
 use Rattle.std.proofs.Common.{◌≡◌, ◌<◌, ◌≤◌, ℕ, List, ◌++◌, length, refl, sym, ◌∙◌, ap, subst, arith, length-append}
 use Rattle.std.proofs.lemmas.List.{nil_from_length}
 use Rattle.amqp_value_core.specs.declared.types.amqp_type.AMQPType.TheVariants as amqp
-use Rattle.amqp_value_core.specs.Values.{Tree, short, Entries, no_entries, entry, insert, insert_all}
+use Rattle.amqp_value_core.specs.Values.{Tree, short, Entries, no_entries, entry}
+use Rattle.amqp_value_core.specs.Inserting.{insert, insert_all}
 use Rattle.amqp_value_core.specs.Strings.{IsShort}
 use Rattle.amqp_value_core.specs.Grammar.{short_field, Wire, Raw, raw_short, TableBody, no_pairs, pair}
 use Rattle.amqp_value_core.specs.Nesting.{PairsWithin, within_no_pairs, within_pair, OutcomeWithin}

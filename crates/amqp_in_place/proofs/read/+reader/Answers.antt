@@ -1,6 +1,7 @@
 use Rattle.std.proofs.Common.{ℕ, List, [], ◌∷◌, ◌++◌, refl, sym, subst, rules, arith}
 use Rattle.std.specs.Str.{IsUtf8}
-use Rattle.amqp_value_core.specs.Values.{no_entries, insert, array, table, trees_of}
+use Rattle.amqp_value_core.specs.Values.{no_entries, array, table, trees_of}
+use Rattle.amqp_value_core.specs.Inserting.{insert}
 use Rattle.amqp_value_core.specs.Inputs.{slice_bytes}
 use Rattle.amq_protocol_types.proofs.ParsingLaws.{ArrayBodyRead-step, ArrayBodyRead-end, rest_shorter, TableBodyRead-start, TableBodyRead-step, TableBodyRead-end, key_shorter}
 use Rattle.amqp_value_core.specs.declared.types.amqp_type.AMQPType.TheVariants as amqp

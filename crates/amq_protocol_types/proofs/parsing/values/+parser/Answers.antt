@@ -6,7 +6,8 @@ use Rattle.amqp_value_core.specs.declared.types.amqp_type.AMQPType.TheVariants a
 use Rattle.amqp_value_core.specs.declared.value.AMQPValue.{the_lemmas}
 use Rattle.amqp_value_core.specs.declared.value.AMQPValue.TheVariants.{FieldArray, FieldTable}
 use Rattle.amqp_value_core.specs.declared.value.AMQPValue.TheVariants as value
-use Rattle.amqp_value_core.specs.Values.{Tree, scalar, void, array, table, no_entries, insert}
+use Rattle.amqp_value_core.specs.Values.{Tree, scalar, void, array, table, no_entries}
+use Rattle.amqp_value_core.specs.Inserting.{insert}
 use Rattle.amqp_value_core.specs.View.{view}
 use Rattle.amqp_value_core.specs.Containers.{array_items, array_view, entries, table_view}
 use Rattle.amqp_value_core.specs.Outcomes.{found}
