@@ -12,10 +12,10 @@ use Rattle.amqp_value_core.specs.Ids.{kind}
 use Rattle.amqp_value_core.specs.Values.{Tree, scalar, long, octets, array, table, no_trees, tree, no_entries, entry}
 use Rattle.amqp_value_core.specs.Inserting.{insert_all}
 use Rattle.amqp_value_core.specs.Layouts.{Layout, fixed}
-use Rattle.amqp_value_core.specs.Grammar.{short_field, long_field, wire, raw_fixed, raw_long, raw_octets, raw_array, raw_table, no_values, value, no_pairs, pair}
-use Rattle.amqp_value_core.specs.Nesting.{OutcomeWithin, WireWithin, RawWithin}
+use Rattle.amqp_value_core.specs.Grammar.{short_field, long_field, raw_fixed, raw_long, raw_octets}
+use Rattle.amqp_value_core.specs.Nesting.{OutcomeWithin, WireWithin, within_wire, RawWithin, within_plain, within_array, within_table, within_no_values, within_value, within_no_pairs, within_pair}
 use Rattle.amqp_value_core.specs.Outcomes.{found, lack, lack_of, frame_lack, length_field}
-use Rattle.amqp_value_core.proofs.GrammarLaws.{put_mean, wire_found_within}
+use Rattle.amqp_value_core.proofs.GrammarLaws.{raw_within, put_mean, wire_found_within}
 use Rattle.amq_protocol_types.specs.parsing.Headers.{extent}
 use Rattle.amq_protocol_types.specs.parsing.Limits.{Within, IsHeader as IsHeaderOf}
 use Rattle.amq_protocol_types.specs.declared.parsing.limits.Limits.{Limits}
@@ -79,7 +79,7 @@ module _ (d : ℕ) (s b : List ℕ) (type : AMQPType) (first width : ℕ) (is : 
         is.0 ∷ take width b,
         scalar (f.0.denotes (take width b)),
         drop width b,
-        (wire is.0 type (take width b) (scalar (f.0.denotes (take width b))) is.2 raw, omega arith),
+        within_wire d is.0 type (take width b) (scalar (f.0.denotes (take width b))) is.2 (raw_within d type (take width b) (scalar (f.0.denotes (take width b))) raw (omega arith)),
         is.1 ∙ ap (λ t. is.0 ∷ t) (sym (take-append-drop width b)),
         ap suc (length-take-le width b there),
       )
@@ -116,14 +116,14 @@ header_fits xs a e type after (c, body, rest, k, is, fits, b) le in_xs =
     (omega arith, omega (arith, size, length_large body))
 
 string_raw : (d : ℕ) (type : AMQPType) (body : List ℕ) → IsStringType type → length body < 2 ^ 32 → (v : Tree) × RawWithin d type (long_field body) v
-string_raw d amqp.LongString body p fits = (long body, (raw_long body fits, omega arith))
-string_raw d amqp.ByteArray body p fits = (octets body, (raw_octets body fits, omega arith))
+string_raw d amqp.LongString body p fits = (long body, within_plain d amqp.LongString (long_field body) (long body) (λ e. cc) (λ e. cc) (raw_long body fits))
+string_raw d amqp.ByteArray body p fits = (octets body, within_plain d amqp.ByteArray (long_field body) (octets body) (λ e. cc) (λ e. cc) (raw_octets body fits))
 string_raw d _ body p fits = absurd p
 
 pub string_read : (d : ℕ) (s : List ℕ) (type : AMQPType) (at after : ℕ) → HasHeader s type at after → IsStringType type → IsValueOfEntry d s (after - at)
 string_read d s type at after (c, body, rest, k, is, fits, b) string =
     let r = string_raw d type body string fits in
-    (c ∷ long_field body, r.0, rest, (wire c type (long_field body) r.0 k r.1.0, r.1.1), is, omega (arith, length_large body))
+    (c ∷ long_field body, r.0, rest, within_wire d c type (long_field body) r.0 k r.1, is, omega (arith, length_large body))
 
 -- ---- traversing a value
 
@@ -174,13 +174,13 @@ pub record IsBodyOf (type : AMQPType) (Are : ℕ → List ℕ → Type 0) (Fail 
 
 pub of_array : IsBodyOf amqp.FieldArray AreValuesWithin NoValues
 of_array = record {
-  raw = λ d body fits (vs, p). (array vs, (raw_array body vs fits p.0, omega (arith, p.1)));
+  raw = λ d body fits (vs, p). (array vs, within_array d body vs fits p);
   fail = in_array;
 }
 
 pub of_table : IsBodyOf amqp.FieldTable ArePairsWithin NoPairs
 of_table = record {
-  raw = λ d body fits (ps, p). (table (insert_all no_entries ps), (raw_table body ps (insert_all no_entries ps) fits p.0 (put_mean ps), omega (arith, p.1)));
+  raw = λ d body fits (ps, p). (table (insert_all no_entries ps), within_table d body ps (insert_all no_entries ps) fits p (put_mean ps));
   fail = in_table;
 }
 
@@ -208,7 +208,7 @@ module _ (type : AMQPType) (Are : ℕ → List ℕ → Type 0) (Fail : ℕ → L
       let v = of.raw (d - 1) h.1 h.5 (subst (Are (d - 1)) body_ahead es.entries) in
       let whole = es.whole in
       let count : length (h.0 ∷ long_field h.1) ≡ new.at - old.at = omega (arith, length_large h.1, h.6, whole) in
-      passes d old new end u can (es.goes.input ∙ same) (es.goes.depth ∙ below) (omega (arith, es.goes.order)) (h.0 ∷ long_field h.1, v.0, h.2, (wire h.0 type (long_field h.1) v.0 h.3 v.1.0, omega (arith, v.1.1)), h.4, count)
+      passes d old new end u can (es.goes.input ∙ same) (es.goes.depth ∙ below) (omega (arith, es.goes.order)) (h.0 ∷ long_field h.1, v.0, h.2, within_wire d h.0 type (long_field h.1) v.0 h.3 (let one : suc (d - 1) ≡ d = omega arith in subst (λ (n : ℕ). RawWithin n type (long_field h.1) v.0) one v.1), h.4, count)
   container (Err s) es =
       let up = es.goes.order in
       let depth : suc (d - 1) ≡ d = omega arith in
@@ -290,7 +290,7 @@ module _ (d : ℕ) (old now next : Walk) (end : ℕ) (can : CanReach old end) (g
   value_more u x =
       let h = x.value in
       passed_one (AreValuesWithin d) (NoValues d) old end now can g next h.0 x.goes h.3
-      (λ s (vs, p). (tree h.1 vs, (value h.0 s h.1 vs h.2.0 p.0, omega (arith, h.2.1, p.1))))
+      (λ s (vs, p). (tree h.1 vs, within_value d h.0 s h.1 vs h.2 p))
       (λ s o p y. after_value d h.0 h.1 s o p h.2 y)
 
   pub value_stop : (s : Stop) → now.at < end → PassesValue d now end (Err s) next → PassesEntries (AreValuesWithin d) (NoValues d) old end (Err s) next
@@ -300,7 +300,7 @@ module _ (d : ℕ) (old now next : Walk) (end : ℕ) (can : CanReach old end) (g
       (is_at_weaker (IsNoValue d (ahead now end) (next.at - now.at)) (NoValues d (ahead now end) (next.at - now.at)) (λ p y. bad_value d (ahead now end) (next.at - now.at) p long y) s x.problem)
 
 pub values_end : (d : ℕ) (old now : Walk) (end : ℕ) (u : Unit {0}) → CanReach old end → EntriesPassed (AreValuesWithin d) (NoValues d) old end now → end ≤ now.at → PassesEntries (AreValuesWithin d) (NoValues d) old end (Ok u) now
-values_end d old now end u can g none = entries_end (AreValuesWithin d) (NoValues d) old end now can g u none (no_trees, (no_values, omega arith))
+values_end d old now end u can g none = entries_end (AreValuesWithin d) (NoValues d) old end now can g u none (no_trees, within_no_values d)
 
 -- ---- keys and pairs
 
@@ -333,7 +333,7 @@ module _ (d : ℕ) (old now mid next : Walk) (end : ℕ) (can : CanReach old end
       let k = short_field key.0 in
       let is : ahead now end ≡ (k ++ h.0) ++ ahead next end = key.2 ∙ (ap (λ t. k ++ t) h.3 ∙ sym (append_assoc k h.0 (ahead next end))) in
       passed_one (ArePairsWithin d) (NoPairs d) old end now can g next (k ++ h.0) (on_again now mid next end goes x.goes) is
-      (λ s (ps, p). subst (ArePairsWithin d) (sym (append_assoc k h.0 s)) (entry key.0 h.1 ps, (pair key.0 h.0 s h.1 ps key.1 h.2.0 p.0, omega (arith, h.2.1, p.1))))
+      (λ s (ps, p). subst (ArePairsWithin d) (sym (append_assoc k h.0 s)) (entry key.0 h.1 ps, within_pair d key.0 h.0 s h.1 ps key.1 h.2 p))
       (λ s o p y.
       let at : length k + (length h.0 + o) ≡ length (k ++ h.0) + o = omega (arith, length-append k h.0) in
       subst (λ (t : List ℕ). NoPairs d t (length (k ++ h.0) + o) p) (sym (append_assoc k h.0 s))
@@ -351,7 +351,7 @@ module _ (d : ℕ) (old now mid next : Walk) (end : ℕ) (can : CanReach old end
       s x.problem)
 
 pub pairs_end : (d : ℕ) (old now : Walk) (end : ℕ) (u : Unit {0}) → CanReach old end → EntriesPassed (ArePairsWithin d) (NoPairs d) old end now → end ≤ now.at → PassesEntries (ArePairsWithin d) (NoPairs d) old end (Ok u) now
-pairs_end d old now end u can g none = entries_end (ArePairsWithin d) (NoPairs d) old end now can g u none (no_entries, (no_pairs, omega arith))
+pairs_end d old now end u can g none = entries_end (ArePairsWithin d) (NoPairs d) old end now can g u none (no_entries, within_no_pairs d)
 
 -- ---- the complete input
 
@@ -368,7 +368,7 @@ pub ends_in_value : (l : Limits) (xs : List ℕ) (a n : ℕ) → a ≡ 0 → ext
 ends_in_value l xs a n zero_is size h =
     let y = subst (λ k. IsValueThen l.depth (slice_range xs k (length xs)) (slice_range xs n (length xs))) zero_is h in
     let whole : xs ≡ y.0 ++ drop n xs = sym (whole_input xs) ∙ (y.3 ∙ ap (λ t. y.0 ++ t) (take_rest xs n)) in
-    (y.1, (size, subst (λ (s : List ℕ). OutcomeWithin l.depth s (found y.1 (drop n xs))) (sym whole) (wire_found_within l.depth y.0 (drop n xs) y.1 y.2.0 y.2.1)))
+    (y.1, (size, subst (λ (s : List ℕ). OutcomeWithin l.depth s (found y.1 (drop n xs))) (sym whole) (wire_found_within l.depth y.0 (drop n xs) y.1 y.2)))
 
 pub takes_memory : (l : Limits) (xs : List ℕ) (a : ℕ) → a ≡ 0 → extent xs ≤ l.frame → HasTypeTag (slice_range xs a (length xs)) → DissectionAllocates l xs
 takes_memory l xs a zero_is size tag = (subst HasTypeTag (ap (λ k. slice_range xs k (length xs)) zero_is ∙ whole_input xs) tag, size)

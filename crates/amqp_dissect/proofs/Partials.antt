@@ -18,6 +18,7 @@ use Rattle.amqp_dissect.specs.Parts.{has_bytes, joined as bytes_of, HaveOffsets}
 use Rattle.amqp_dissect.specs.PartsOf.{piece, parts_of}
 use Rattle.amqp_dissect.specs.Truncated.{IsTruncated, IsReached, NoStart}
 use Rattle.amqp_dissect.specs.Walks.{ahead, end_of, PassesStart}
+use Rattle.amqp_value_core.proofs.GrammarLaws.{wire_of}
 
 -- all of the input is still to be gone over
 all_ahead : (w : Walk) (s : List ℕ) → w.input.now ≡ s → w.at ≡ 0 → ahead w (end_of w) ≡ s
@@ -28,7 +29,7 @@ pub reached_all : (d : ℕ) (s : List ℕ) (old new : Walk) (u : Unit {0}) → o
 reached_all d s old new u is zero_is less x = elim (cases_lt new.at (end_of old)) [
   | inl before ↦
       let h = x.value before in
-      let same : extent s ≡ length h.0 = ap extent (sym (all_ahead old s is zero_is) ∙ h.3) ∙ wire_extent h.0 (ahead new (end_of old)) h.1 h.2.0 in
+      let same : extent s ≡ length h.0 = ap extent (sym (all_ahead old s is zero_is) ∙ h.3) ∙ wire_extent h.0 (ahead new (end_of old)) h.1 (wire_of d h.0 h.1 h.2) in
       let long : length s ≡ length h.0 + length (ahead new (end_of old)) = ap length (sym (all_ahead old s is zero_is) ∙ h.3) ∙ length-append h.0 (ahead new (end_of old)) in
       absurd (omega (arith, less, same, long))
   | inr none ↦ omega (arith, none, x.goes.within, ap length is)

@@ -27,6 +27,7 @@ use Rattle.amqp_dissect.specs.PartsOf.{Piece, piece, part, entries_at, value_at,
 use Rattle.amqp_dissect.proofs.Windows.{window_prefix}
 use Rattle.amqp_dissect.proofs.Entries.{EntriesPassed, still, size_at_start}
 use Rattle.amqp_dissect.proofs.Pieces.{value_nothing, entries_nothing, array_first, array_last, key_only, pair_first, pair_last, tag_only, number_parts, header_parts, string_parts, container_parts, one_tag, one_number, one_length, one_framed}
+use Rattle.amqp_value_core.proofs.GrammarLaws.{wire_of}
 
 -- ---- two traversals in a row
 
@@ -287,7 +288,7 @@ module _ (Are : List ℕ → Type 0) (Fail : List ℕ → ℕ → Problem → Ty
       (λ s.
       subst (λ (t : List ℕ). entries_at amqp.FieldArray level (t ++ s) ≡ entries_at amqp.FieldArray level t ++ entries_at amqp.FieldArray level s) (sym w)
       (let one : length h.0 ≤ extent h.0 = subst (λ (t : List ℕ). length t ≤ extent t) w x.one in
-      array_first level h.0 s (wire_extent h.0 s h.1 h.2.0) (omega (arith, size, more)) ∙ ap (λ (t : List Piece). t ++ entries_at amqp.FieldArray level s) (sym (array_last level h.0 one))))
+      array_first level h.0 s (wire_extent h.0 s h.1 (wire_of d h.0 h.1 h.2)) (omega (arith, size, more)) ∙ ap (λ (t : List Piece). t ++ entries_at amqp.FieldArray level s) (sym (array_last level h.0 one))))
 
   pub values_stop : (s : Stop) → now.at ≤ next.at → WithMemory {T = Unit {0}} (Err s) (PutsValueParts (now.depth - d) now next) → WithMemory {T = Unit {0}} (Err s) (PutsParts (entries_at amqp.FieldArray (old.depth - d)) old next)
   values_stop OutOfMemory up x = tt
@@ -332,7 +333,7 @@ module _ (Are : List ℕ → Type 0) (Fail : List ℕ → ℕ → Problem → Ty
         put_more amqp.FieldTable level old now next p.goes.input p.goes.order (omega (arith, goes.order, v.order)) g (last_pair v.order x)
         (λ s.
         subst (λ (t : List ℕ). entries_at amqp.FieldTable level (t ++ s) ≡ entries_at amqp.FieldTable level t ++ entries_at amqp.FieldTable level s) (sym all)
-        (ap (entries_at amqp.FieldTable level) (append_assoc (short_field key.0) h.0 s) ∙ pair_first level key.0 h.0 s (wire_extent h.0 s h.1 h.2.0) one))
+        (ap (entries_at amqp.FieldTable level) (append_assoc (short_field key.0) h.0 s) ∙ pair_first level key.0 h.0 s (wire_extent h.0 s h.1 (wire_of d h.0 h.1 h.2)) one))
 
     pub pairs_stop : (s : Stop) → mid.at ≤ next.at → WithMemory {T = Unit {0}} (Err s) (PutsValueParts (mid.depth - d) mid next) → WithMemory {T = Unit {0}} (Err s) (PutsParts (entries_at amqp.FieldTable (old.depth - d)) old next)
     pairs_stop OutOfMemory up x = tt

@@ -10,8 +10,8 @@ use Rattle.amqp_value_core.specs.Values.{no_entries, short}
 use Rattle.amqp_value_core.specs.Grammar.{short_field, long_field, raw_short}
 use Rattle.amqp_value_core.specs.Nesting.{OutcomeWithin}
 use Rattle.amqp_value_core.specs.Outcomes.{no_byte, no_tag, more, malformed, lack, frame_lack, counted, Heavy}
-use Rattle.amqp_value_core.specs.Payloads.{RawPrefix, RawOutcome}
-use Rattle.amqp_value_core.proofs.GrammarLaws.{NeedsMoreOr-more, raw_to_value_within, raw_found, raw_whole, wire_found_within, short_bytes}
+use Rattle.amqp_value_core.specs.Payloads.{RawOutcome}
+use Rattle.amqp_value_core.proofs.GrammarLaws.{RawPrefix, raw_to_value_within, raw_found, raw_whole, wire_found_within, short_bytes}
 use Rattle.amq_protocol_types.specs.declared.parsing.errors.Err.TheVariants.{Incomplete, Error}
 use Rattle.amq_protocol_types.specs.declared.parsing.errors.Needed.TheVariants.{Size}
 use Rattle.amq_protocol_types.specs.declared.parsing.errors.ErrorKind.TheVariants.{MapRes, Eof}
@@ -65,7 +65,7 @@ mutual
   value_refused _ _ _ _ (no_type_tag d) = no_byte
   value_refused _ _ _ _ (unknown_type_tag d c b none) = no_tag c b none
   value_refused _ _ _ _ (cut d c type b n k some is) =
-      raw_to_value_within d c type b (more n) k (rw is (NeedsMoreOr-more n _ some))
+      raw_to_value_within d c type b (more n) k (some, is)
   value_refused _ _ _ _ (too_deep c type body rest k is fits) = deep_container c type body rest k is fits
   value_refused _ _ _ _ (in_array d c body rest o p k fits x) =
       rw (deep_eof (5 + o) p (omega arith))
@@ -81,18 +81,18 @@ mutual
       subst (IsRefusal (IsNoBody d s) (0 < length s)) (inside_eof o p)
       (ArrayBodyRead-refused d s [] s (refusal_of o p) (ArrayBodyRead-start d s) some (heavy d s (refusal_of o p) (value_refused d s o p x)))
   values_refused _ _ _ _ (after_value d w v s o p y x) = λ vs q.
-      let m = (ArrayBodyRead-step d (w ++ s) [] (w ++ s) v s (ArrayBodyRead-start d (w ++ s)) (wire_found_within d w s v y.0 y.1)).only vs q in
+      let m = (ArrayBodyRead-step d (w ++ s) [] (w ++ s) v s (ArrayBodyRead-start d (w ++ s)) (wire_found_within d w s v y)).only vs q in
       values_refused d s o p x m.0 m.1
 
   pairs_refused : (d : ℕ) (s : List ℕ) (o : ℕ) (p : Problem) → NoPairs d s o p → IsNoTable d s malformed
   pairs_refused _ _ _ _ (cut_key d n s h) =
       TableBodyRead-bad_key d (n ∷ s) no_entries (n ∷ s) (Incomplete (Size (n - length s))) (TableBodyRead-start d (n ∷ s)) (omega arith)
-      (rw (short_lack n s) (NeedsMoreOr-more (n - length s) _ (omega arith)))
+      (omega arith, short_lack n s)
   pairs_refused _ _ _ _ (key_not_utf8 d k s none) =
       TableBodyRead-bad_key d (short_field k ++ s) no_entries (short_field k ++ s) (Error MapRes) (TableBodyRead-start d (short_field k ++ s)) (omega arith) (refl, no_text_key k s none)
   pairs_refused _ _ _ _ (bad_pair d k s o p key x) =
       subst (IsRefusal (IsNoTable d (short_field k ++ s)) (0 < length (short_field k ++ s))) (inside_eof o p)
       (TableBodyRead-bad_value d (short_field k ++ s) no_entries (short_field k ++ s) k s (refusal_of o p) (TableBodyRead-start d (short_field k ++ s)) (raw_found amqp.ShortString (short_field k) s (short k) (raw_short k key)) (heavy d s (refusal_of o p) (value_refused d s o p x)))
   pairs_refused _ _ _ _ (after_pair d k w v s o p key y x) = λ ps q.
-      let m = (TableBodyRead-step d (short_field k ++ (w ++ s)) no_entries (short_field k ++ (w ++ s)) k (w ++ s) v s (TableBodyRead-start d (short_field k ++ (w ++ s))) (raw_found amqp.ShortString (short_field k) (w ++ s) (short k) (raw_short k key)) (wire_found_within d w s v y.0 y.1)).only ps q in
+      let m = (TableBodyRead-step d (short_field k ++ (w ++ s)) no_entries (short_field k ++ (w ++ s)) k (w ++ s) v s (TableBodyRead-start d (short_field k ++ (w ++ s))) (raw_found amqp.ShortString (short_field k) (w ++ s) (short k) (raw_short k key)) (wire_found_within d w s v y)).only ps q in
       pairs_refused d s o p x m.0 m.1

@@ -23,11 +23,11 @@ use Rattle.amqp_value_core.specs.Members.{greatest_depth, entries_depth, CanonBo
 use Rattle.amqp_value_core.specs.Layouts.{Layout, fixed}
 use Rattle.amqp_value_core.specs.Grammar.{short_field, long_field, Wire, Raw, raw_fixed, raw_short, raw_long, raw_octets, raw_array, raw_table}
 use Rattle.amqp_value_core.specs.Nesting.{WireWithin, OutcomeWithin}
-use Rattle.amqp_value_core.specs.Outcomes.{found, more, unknown, lack, Outcome}
+use Rattle.amqp_value_core.specs.Outcomes.{found, more, unknown, Outcome}
 use Rattle.amqp_value_core.specs.Payloads.{RawOutcome}
 use Rattle.amqp_value_core.specs.Canonical.{IsStrict, Canon, canon, CanonRaw, canon_fixed, canon_long, canon_octets, canon_array, canon_table, canon_no_values, canon_value, canon_no_pairs, canon_pair}
 use Rattle.amqp_value_core.proofs.Bytes.{bytes_before}
-use Rattle.amqp_value_core.proofs.GrammarLaws.{raw_prefix, one_large, one_reading, one_raw_reading, one_raw_outcome, raw_found, wire_found, wire_found_within, prefix_within, depth_within, text_within, text_is_canon, what_is_read, read_is_value, canon_is_wire, canon_fits, canon_is_text, short_bytes, one_outcome}
+use Rattle.amqp_value_core.proofs.GrammarLaws.{wire_of, one_large, one_reading, one_raw_reading, one_raw_outcome, raw_found, wire_found, wire_found_within, prefix_within, depth_within, text_within, text_is_canon, what_is_read, read_is_value, canon_is_wire, canon_fits, canon_is_text, short_bytes, one_outcome}
 use Rattle.amqp_value_core.specs.Inputs.{IsBytes, slice_bytes}
 use Rattle.amqp_value_core.specs.declared.input.SliceInput.{SliceInput}
 use Rattle.amq_protocol_types.specs.declared.parsing.limits.Limits.{Limits}
@@ -116,7 +116,7 @@ plain_payload _ _ _ (raw_table body ps es fits all mean) plain none strict = abs
 -- so a value with no alternate tag that is no container is canonical
 pub plain_at_start : (d : ℕ) (s : List ℕ) (r : ValueRef) (rest : List ℕ) → IsHead s (head.Plain r) rest → IsFirstSpelling s → CanonPrefix d s rest
 plain_at_start d s r rest (type, mid, (c, here, k), q) spelled =
-    let f = raw_prefix (Raw type) (lack type mid) mid rest (plain_tree r) q.2 in
+    let f = q.2 in
     let first = subst IsFirstSpelling here spelled in
     let strict : IsStrict type f.0 =
     strict_by type f.0 (λ e. strict_prefix f.0 rest (subst (λ (t : List ℕ). IsStrict amqp.Boolean t) f.2 (first.2 (boolean_letter c (k ∙ ap Some e))))) in
@@ -373,9 +373,8 @@ canon_found : (d : ℕ) (w rest : List ℕ) (v : Tree) → IsBytes w → Canon w
 canon_found d w rest v bytes x deep =
     let wire = canon_is_wire w v x in
     let fits = canon_fits w v x in
-    let p : WireWithin (depth v) w v =
-    subst (λ (t : List ℕ). WireWithin (depth v) t v) (sym (canon_is_text w v bytes x)) (text_within v (read_is_value w v bytes wire) fits.0 fits.1) in
-    wire_found_within d w rest v p.0 (omega (arith, p.1, deep))
+    wire_found_within d w rest v
+    (subst (λ (t : List ℕ). WireWithin d t v) (sym (canon_is_text w v bytes x)) (text_within d v deep (read_is_value w v bytes wire) fits.0 fits.1))
 
 module _ (l : Limits) (s : List ℕ) where
   -- a canonical encoding at the start, as deep as the limits allow
@@ -425,8 +424,8 @@ module _ (l : Limits) (s : List ℕ) where
   pub written_canon : IsBytes s → IsReadAsWritten l s → IsCanonicalWithin l s
   written_canon bytes (v, within, e) =
       let f = prefix_within l.depth s [] v within.1 in
-      let read = what_is_read f.0 v f.1.0 in
-      let is = read_is_value f.0 v (bytes_before f.0 [] (subst IsBytes f.2 bytes)) f.1.0 in
+      let read = what_is_read f.0 v (wire_of l.depth f.0 v f.1) in
+      let is = read_is_value f.0 v (bytes_before f.0 [] (subst IsBytes f.2 bytes)) (wire_of l.depth f.0 v f.1) in
       (v, subst (λ (t : List ℕ). Canon t v) (sym e) (text_is_canon v is read.0 read.1), within)
 
   -- so a length decides, and its absence

@@ -1,5 +1,5 @@
 -- What is after a type tag, one level deep.
-use Rattle.std.proofs.Common.{◌≡◌, ◌<◌, ◌-◌, ◌+◌, ℕ, zero, suc, List, [], ◌∷◌, ◌++◌, length, take, drop, get_or, MatchResult, Result, Ok, Err, refl, sym, ap, ◌∙◌, subst, arith, length-append}
+use Rattle.std.proofs.Common.{◌≡◌, ◌<◌, ◌-◌, ◌+◌, ℕ, List, [], ◌∷◌, ◌++◌, length, take, drop, get_or, MatchResult, Result, Ok, Err, refl, sym, ap, ◌∙◌, subst, arith, length-append}
 use Rattle.std.specs.Int.{w8}
 use Rattle.std.specs.Str.{IsUtf8}
 use Rattle.std.proofs.lemmas.Bool.{le-ltb}
@@ -11,10 +11,10 @@ use Rattle.amqp_value_core.specs.declared.types.amqp_type.AMQPType.TheVariants a
 use Rattle.amqp_value_core.specs.Values.{Tree, Trees, Entries, no_entries, short, array, table}
 use Rattle.amqp_value_core.specs.Inserting.{insert_all}
 use Rattle.amqp_value_core.specs.Grammar.{short_field, long_field, Wire, raw_short, raw_array, raw_table}
-use Rattle.amqp_value_core.specs.Nesting.{nesting, RawWithin, BodyWithin, OutcomeWithin, RawOutcomeWithin}
-use Rattle.amqp_value_core.specs.Outcomes.{Reading, found, more, unknown, malformed, lack, frame_lack, counted, NeedsMoreOr, PrefixBy, Outcome}
-use Rattle.amqp_value_core.specs.Payloads.{RawPrefix, RawOutcome}
-use Rattle.amqp_value_core.proofs.GrammarLaws.{put_mean, one_outcome_within, one_raw_reading, value_to_raw, raw_to_value_within, raw_whole, raw_found, wire_found, wire_found_within, array_body, table_body, short_bytes}
+use Rattle.amqp_value_core.specs.Nesting.{nesting, BodyWithin, OutcomeWithin, RawOutcomeWithin}
+use Rattle.amqp_value_core.specs.Outcomes.{Reading, found, more, unknown, malformed, lack, frame_lack, counted, Outcome}
+use Rattle.amqp_value_core.specs.Payloads.{RawOutcome}
+use Rattle.amqp_value_core.proofs.GrammarLaws.{RawPrefix, wire_within, put_mean, one_outcome_within, one_raw_reading, value_to_raw, raw_to_value_within, raw_whole, raw_found, wire_found, wire_found_within, array_body, table_body, short_bytes}
 use Rattle.amqp_value_core.specs.Inputs.{slice_bytes}
 use Rattle.amqp_value_core.specs.declared.input.SliceInput.{SliceInput}
 use Rattle.amq_protocol_types.specs.declared.parsing.errors.Err.TheVariants.{Incomplete, Error, Failure}
@@ -53,11 +53,7 @@ module _ (s mid : List ℕ) (type : AMQPType) (p : IsType s type mid) where
 
   -- bytes that are missing of the payload are missing of the value
   typed_lack : (n : ℕ) → RawOutcome type mid (more n) → AtAnyDepth s (more n)
-  typed_lack n x = λ d. typed d (more n) (by d (lack type mid) x)
-    where
-      by : (d k : ℕ) → NeedsMoreOr k (RawPrefix type mid (more n)) (more n) → NeedsMoreOr k (PrefixBy (RawWithin d type) mid (more n)) (more n)
-      by d zero f = absurd f
-      by d (suc k) e = e
+  typed_lack n x = λ d. typed d (more n) x
 
   -- the result for the payload is the value's
   pub head_result : (r : Result (SliceInput × Head) Refusal) → MatchResult r (λ x. RawHeadIs type mid x.1 (slice_bytes x.0)) (OnlyLacks (RawOutcome type mid) ⊥)
@@ -69,14 +65,10 @@ module _ (s mid : List ℕ) (type : AMQPType) (p : IsType s type mid) where
   head_result (Err (Failure k)) q = q
 
   -- what is at the start of the value, if there is an encoding
-  payload_at_start : (w left : List ℕ) (v : Tree) → Wire w v → s ≡ w ++ left → RawPrefix type mid (found v left)
+  payload_at_start : (w left : List ℕ) (v : Tree) → Wire w v → s ≡ w ++ left → RawOutcome type mid (found v left)
   payload_at_start w left v q e =
       let x : Outcome s (found v left) = subst (λ (t : List ℕ). Outcome t (found v left)) (sym e) (wire_found w left v q) in
-      by (lack type mid) (value_to_raw p.0 type mid (found v left) p.2 (subst (λ (t : List ℕ). Outcome t (found v left)) p.1 x))
-    where
-      by : (n : ℕ) → NeedsMoreOr n (RawPrefix type mid (found v left)) (found v left) → RawPrefix type mid (found v left)
-      by zero f = f
-      by (suc n) f = absurd cc
+      value_to_raw p.0 type mid (found v left) p.2 (subst (λ (t : List ℕ). Outcome t (found v left)) p.1 x)
 
 -- bytes that are missing of a LongLongInt are missing of a LongLongUInt
 pub unsigned_lacks : (s : List ℕ) (e : Refusal) → OnlyLacks (RawOutcome amqp.LongLongInt s) ⊥ e → OnlyLacks (RawOutcome amqp.LongLongUInt s) ⊥ e
@@ -165,19 +157,19 @@ module _ (d : ℕ) (s : List ℕ) (i : SliceInput) (rest : List ℕ) where
 pub only : (s : List ℕ) (h : Head) (rest w left : List ℕ) (v : Tree) → IsHead s h rest → Wire w v → s ≡ w ++ left → HeadMeans h v × (left ≡ rest)
 only s (head.Plain r) rest w left v (type, mid, p, q) x e =
     let d = nesting w v x in
-    let here : OutcomeWithin d s (found v left) = subst (λ (t : List ℕ). OutcomeWithin d t (found v left)) (sym e) (wire_found_within d w left v x (omega arith)) in
+    let here : OutcomeWithin d s (found v left) = subst (λ (t : List ℕ). OutcomeWithin d t (found v left)) (sym e) (wire_found_within d w left v (wire_within d w v x (omega arith))) in
     let same : found (plain_tree r) rest ≡ found v left = one_outcome_within d s _ _ (plain_read s r rest (type, mid, p, q) d) here in
     let one : plain_tree r ≡ v = cc in
     (subst (Denotes r) one (plain_stands r q.0), cc)
 only s (head.FieldArray i) rest w left v (type, mid, p, q) x e =
     let f = q.1 in
-    let raw : RawPrefix amqp.FieldArray mid (found v left) = subst (λ (t : AMQPType). RawPrefix t mid (found v left)) q.0 (payload_at_start s mid type p w left v x e) in
+    let raw : RawOutcome amqp.FieldArray mid (found v left) = subst (λ (t : AMQPType). RawOutcome t mid (found v left)) q.0 (payload_at_start s mid type p w left v x e) in
     let b = array_body (slice_bytes i) rest raw.0 left v f.fits raw.1 (sym f.framed ∙ raw.2) in
     let same = one_raw_reading amqp.FieldArray raw.0 (long_field (slice_bytes i)) left rest v (array b.0) raw.1 (raw_array (slice_bytes i) b.0 f.fits b.1) (sym raw.2 ∙ f.framed) in
     ((b.0, b.1, same.1), same.2)
 only s (head.FieldTable i) rest w left v (type, mid, p, q) x e =
     let f = q.1 in
-    let raw : RawPrefix amqp.FieldTable mid (found v left) = subst (λ (t : AMQPType). RawPrefix t mid (found v left)) q.0 (payload_at_start s mid type p w left v x e) in
+    let raw : RawOutcome amqp.FieldTable mid (found v left) = subst (λ (t : AMQPType). RawOutcome t mid (found v left)) q.0 (payload_at_start s mid type p w left v x e) in
     let b = table_body (slice_bytes i) rest raw.0 left v f.fits raw.1 (sym f.framed ∙ raw.2) in
     let es = insert_all no_entries b.0 in
     let same = one_raw_reading amqp.FieldTable raw.0 (long_field (slice_bytes i)) left rest v (table es) raw.1 (raw_table (slice_bytes i) b.0 es f.fits b.1 (put_mean b.0)) (sym raw.2 ∙ f.framed) in

@@ -12,7 +12,7 @@ use Rattle.amqp_value_core.specs.Members.{count_all, entries_count}
 use Rattle.amqp_value_core.specs.Layouts.{Layout, fixed}
 use Rattle.amqp_value_core.specs.Grammar.{short_field, long_field, Wire, wire, Raw, raw_fixed, raw_short, raw_long, raw_octets, raw_array, raw_table, ArrayBody, no_values, value, TableBody, no_pairs, pair}
 use Rattle.amqp_value_core.specs.Nesting.{nesting, raw_nesting, body_nesting, pairs_nesting}
-use Rattle.amqp_value_core.proofs.GrammarLaws.{put_mean, mean_within, no_empty_wire, same_large, one_reading, one_raw_reading, depth_within, body_nesting-le, pairs_nesting-le}
+use Rattle.amqp_value_core.proofs.GrammarLaws.{wire_within, put_mean, mean_within, no_empty_wire, same_large, one_reading, one_raw_reading, depth_within, body_nesting-le, pairs_nesting-le}
 use Rattle.amqp_value_core.specs.Inputs.{slice_bytes}
 use Rattle.amqp_value_core.specs.declared.input.SliceInput.{SliceInput}
 use Rattle.amqp_in_place.specs.declared.refs.ArrayRef.{ArrayRef}
@@ -402,5 +402,5 @@ module _ (s rest : List ℕ) (n l : ℕ) (h : HoldsFirst s rest n l) where
   pub measured_tree : OfEncoding s (λ w v p. (count v ≤ n) × (depth v ≤ l))
   measured_tree w left v p e = (
     omega (arith, count-le w v p, measured_values w left v p e),
-    omega (arith, depth_within (nesting w v p) w v (p, omega arith), measured_levels w left v p e),
+    omega (arith, depth_within (nesting w v p) w v (wire_within (nesting w v p) w v p (omega arith)), measured_levels w left v p e),
   )

@@ -1,13 +1,13 @@
 -- The place of a value that is read.
-use Rattle.std.proofs.Common.{◌≡◌, ◌^◌, ◌<◌, ℕ, zero, suc, List, [], ◌∷◌, ◌++◌, length, Some, refl, sym, ap, ◌∙◌, subst, append_assoc}
+use Rattle.std.proofs.Common.{◌≡◌, ◌^◌, ◌<◌, ℕ, List, [], ◌∷◌, ◌++◌, length, Some, refl, sym, ap, ◌∙◌, subst, append_assoc}
 use Rattle.amqp_value_core.specs.declared.types.amqp_type.AMQPType.{AMQPType}
 use Rattle.amqp_value_core.specs.declared.types.amqp_type.AMQPType.TheVariants as amqp
 use Rattle.amqp_value_core.specs.Ids.{kind}
 use Rattle.amqp_value_core.specs.Values.{Tree, long, octets}
 use Rattle.amqp_value_core.specs.Grammar.{short_field, long_field, Raw, raw_fixed, raw_short, raw_long, raw_octets, raw_array, raw_table}
-use Rattle.amqp_value_core.specs.Outcomes.{found, lack, NeedsMoreOr}
-use Rattle.amqp_value_core.specs.Payloads.{RawPrefix, RawOutcome}
-use Rattle.amqp_value_core.proofs.GrammarLaws.{prefix_within}
+use Rattle.amqp_value_core.specs.Outcomes.{found}
+use Rattle.amqp_value_core.specs.Payloads.{RawOutcome}
+use Rattle.amqp_value_core.proofs.GrammarLaws.{wire_of, prefix_within}
 use Rattle.amqp_value_core.specs.Inputs.{slice_bytes}
 use Rattle.amqp_value_core.specs.declared.input.SliceInput.{SliceInput}
 use Rattle.amqp_in_place.specs.declared.head.Head.{Head}
@@ -44,11 +44,7 @@ octets_bytes _ _ _ b (raw_table s ps es fits p mean) e = absurd cc
 
 -- what a payload is that is found
 payload_of : (type : AMQPType) (s rest : List ℕ) (v : Tree) → RawOutcome type s (found v rest) → (w : List ℕ) × Raw type w v × (s ≡ w ++ rest)
-payload_of type s rest v x = by (lack type s) x
-  where
-    by : (n : ℕ) → NeedsMoreOr n (RawPrefix type s (found v rest)) (found v rest) → RawPrefix type s (found v rest)
-    by zero f = f
-    by (suc n) f = absurd cc
+payload_of type s rest v x = x
 
 framed : (type other : AMQPType) (s mid body rest w : List ℕ) → IsType s other mid → mid ≡ w ++ rest → IsLongField other type w body → IsFramed type s body rest
 framed type other s mid body rest w (c, is, tag) e (one, same, few) =
@@ -63,7 +59,7 @@ plain_is_in s (at.ByteArray b) rest (type, mid, p, q) =
     framed amqp.ByteArray type s mid b.now rest x.0 p x.2 (octets_bytes type x.0 (octets b.now) b.now x.1 refl)
 plain_is_in s (at.FieldArray a) rest (type, mid, p, q) = absurd q.0
 plain_is_in s (at.FieldTable t) rest (type, mid, p, q) = absurd q.0
-plain_is_in s r rest is = let f = prefix_within 0 s rest (plain_tree r) (plain_read s r rest is 0) in (f.0, f.1.0, f.2)
+plain_is_in s r rest is = let f = prefix_within 0 s rest (plain_tree r) (plain_read s r rest is 0) in (f.0, wire_of 0 f.0 (plain_tree r) f.1, f.2)
 
 pub array_is_in : (s : List ℕ) (i : SliceInput) (rest : List ℕ) → IsHead s (head.FieldArray i) rest → IsFramed amqp.FieldArray s (slice_bytes i) rest
 array_is_in s i rest (type, mid, p, q) = framed amqp.FieldArray type s mid (slice_bytes i) rest (long_field (slice_bytes i)) p q.1.framed (q.0, refl, q.1.fits)

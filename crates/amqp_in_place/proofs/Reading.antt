@@ -1,10 +1,10 @@
 -- Checking bodies in place.
-use Rattle.std.proofs.Common.{◌≡◌, ◌<◌, ℕ, zero, suc, List, length, refl, arith}
+use Rattle.std.proofs.Common.{◌≡◌, ◌<◌, ℕ, List, length, refl, arith}
 use Rattle.amqp_value_core.specs.declared.types.amqp_type.AMQPType.TheVariants as amqp
 use Rattle.amqp_value_core.specs.Values.{Tree, Entries, short}
 use Rattle.amqp_value_core.specs.Nesting.{OutcomeWithin}
-use Rattle.amqp_value_core.specs.Outcomes.{Reading, found, unknown, malformed, lack, NeedsMoreOr, Heavy}
-use Rattle.amqp_value_core.specs.Payloads.{RawPrefix, RawOutcome}
+use Rattle.amqp_value_core.specs.Outcomes.{Reading, found, malformed, Heavy}
+use Rattle.amqp_value_core.specs.Payloads.{RawOutcome}
 use Rattle.amqp_value_core.specs.Outcomes.{Outcome}
 use Rattle.amqp_value_core.proofs.GrammarLaws.{unlimited, prefix_within}
 use Rattle.amqp_in_place.specs.InPlaceResults.{IsLeft}
@@ -48,19 +48,12 @@ bad_pair d s es rest k after e g x y =
 pub no_key_there : (d : ℕ) (s : List ℕ) (es : Entries) (rest : List ℕ) → TableBodyRead d s es rest → 0 < length rest → RawOutcome amqp.ShortString rest malformed → IsNoTable d s malformed
 no_key_there d s es rest g h x = TableBodyRead-bad_key d s es rest (Error MapRes) g h (refl, x)
 
-no_unknown : (s : List ℕ) → RawOutcome amqp.ShortString s unknown → ⊥
-no_unknown s x = by (lack amqp.ShortString s) x
-  where
-    by : (n : ℕ) → NeedsMoreOr n (RawPrefix amqp.ShortString s unknown) unknown → ⊥
-    by zero f = f
-    by (suc n) e = absurd cc
-
 pub bad_key : (d : ℕ) (s : List ℕ) (es : Entries) (rest : List ℕ) (e : Refusal) → TableBodyRead d s es rest → 0 < length rest
     → IsRefusal (RawOutcome amqp.ShortString rest) ⊥ e → IsNoTable d s malformed
 bad_key d s es rest (Incomplete Unknown) g h x = absurd x
 bad_key d s es rest (Incomplete (Size n)) g h x = TableBodyRead-bad_key d s es rest (Incomplete (Size n)) g h x
 bad_key d s es rest (Error Eof) g h x = no_key_there d s es rest g h x
-bad_key d s es rest (Error MapOpt) g h x = absurd (no_unknown rest x)
+bad_key d s es rest (Error MapOpt) g h x = absurd x
 bad_key d s es rest (Error MapRes) g h x = absurd x
 bad_key d s es rest (Error OutOfMemory) g h x = absurd x
 bad_key d s es rest (Error TooLarge) g h x = absurd x

@@ -6,7 +6,7 @@ use Rattle.amqp_value_core.specs.declared.types.amqp_type.AMQPType.TheVariants a
 use Rattle.amqp_value_core.specs.Values.{long}
 use Rattle.amqp_value_core.specs.Grammar.{long_field, wire, raw_long}
 use Rattle.amqp_value_core.specs.Outcomes.{Reading, more, unknown, Outcome}
-use Rattle.amqp_value_core.proofs.GrammarLaws.{found_prefix, prefix_within, unlimited}
+use Rattle.amqp_value_core.proofs.GrammarLaws.{wire_of, found_prefix, prefix_within, unlimited}
 use Rattle.amqp_value_core.specs.Inputs.{slice_bytes}
 use Rattle.amq_protocol_types.specs.parsing.Refusals.{Refusal}
 use Rattle.amq_protocol_types.specs.parsing.PayloadResults.{IsType}
@@ -35,7 +35,7 @@ frame_extent s mid body rest type p f is =
 pub skipped : (s : List ℕ) (h : Head) (rest : List ℕ) → IsHead s h rest → extent s + length rest ≡ length s
 skipped s (head.Plain r) rest is =
     let f = prefix_within 0 s rest (plain_tree r) (plain_read s r rest is 0) in
-    omega (arith, ap extent f.2, wire_extent f.0 rest (plain_tree r) f.1.0, ap length f.2, length-append f.0 rest)
+    omega (arith, ap extent f.2, wire_extent f.0 rest (plain_tree r) (wire_of 0 f.0 (plain_tree r) f.1), ap length f.2, length-append f.0 rest)
 skipped s (head.FieldArray i) rest (type, mid, p, q) = frame_extent s mid (slice_bytes i) rest type p q.1 (ap (λ t. extent_at (Some t) mid) q.0)
 skipped s (head.FieldTable i) rest (type, mid, p, q) = frame_extent s mid (slice_bytes i) rest type p q.1 (ap (λ t. extent_at (Some t) mid) q.0)
 

@@ -13,7 +13,7 @@ use Rattle.amqp_value_core.specs.Grammar.{short_field, Wire, raw_short, ArrayBod
 use Rattle.amqp_value_core.specs.Nesting.{nesting, OutcomeWithin}
 use Rattle.amqp_value_core.specs.Outcomes.{Reading, found, more, unknown, malformed, Outcome}
 use Rattle.amqp_value_core.specs.Payloads.{RawOutcome}
-use Rattle.amqp_value_core.proofs.GrammarLaws.{length-wire, found_prefix, one_outcome_within, one_raw_reading, one_raw_outcome, raw_found, wire_found_within, short_bytes}
+use Rattle.amqp_value_core.proofs.GrammarLaws.{wire_within, length-wire, found_prefix, one_outcome_within, one_raw_reading, one_raw_outcome, raw_found, wire_found_within, short_bytes}
 use Rattle.amqp_value_core.specs.Inputs.{slice_bytes}
 use Rattle.amqp_value_core.specs.declared.input.SliceInput.{SliceInput}
 use Rattle.amq_protocol_types.specs.declared.parsing.errors.Err.TheVariants.{Incomplete, Error, Failure}
@@ -59,7 +59,7 @@ pub never_refused : (s : List ℕ) (e : Refusal) → IsAtStart s → HeadRefuses
 never_refused s e a x =
     let d = nesting a.bytes a.value_there a.is_wire in
     let here : OutcomeWithin d s (found a.value_there a.left) =
-    subst (λ (t : List ℕ). OutcomeWithin d t (found a.value_there a.left)) (sym a.prefix) (wire_found_within d a.bytes a.left a.value_there a.is_wire (omega arith)) in
+    subst (λ (t : List ℕ). OutcomeWithin d t (found a.value_there a.left)) (sym a.prefix) (wire_found_within d a.bytes a.left a.value_there (wire_within d a.bytes a.value_there a.is_wire (omega arith))) in
     refusal_of_none (AtAnyDepth s) (λ o y other. other a.value_there a.left (one_outcome_within d s o (found a.value_there a.left) (y d) here)) e (head_refuses (AtAnyDepth s) e x)
 
 -- and means it

@@ -53,6 +53,7 @@ impl<'a> ArrayRef<'a> {
 
     /// Copies the array to an owned one, the one that `parse_value` returns. An empty array doesn't
     /// allocate. It uses stack for each level of nesting; docs/PROMISES.md has measurements.
+    #[tactic(auto, using(amqp_value_core::proofs::GrammarLaws::body_of))]
     pub fn to_owned(self, alloc: Global) -> Result<FieldArray, AllocError>
         ensures { MatchResult result
             (λ a. ArrayBody (array_body self.entry) (array_view a))

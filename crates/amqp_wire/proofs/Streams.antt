@@ -10,7 +10,7 @@ use Rattle.amqp_value_core.specs.Nesting.{WireWithin}
 use Rattle.amqp_value_core.specs.Inputs.{IsBytes}
 use Rattle.amqp_value_core.specs.Outcomes.{Reading, found, more, unknown, malformed, no_byte}
 use Rattle.amqp_value_core.proofs.Bytes.{bytes_after}
-use Rattle.amqp_value_core.proofs.GrammarLaws.{length-wire, one_reading, prefix_within, wire_found_within}
+use Rattle.amqp_value_core.proofs.GrammarLaws.{wire_of, length-wire, one_reading, prefix_within, wire_found_within}
 use Rattle.amq_protocol_types.specs.declared.parsing.errors.ErrorKind.{ErrorKind}
 use Rattle.amq_protocol_types.specs.declared.parsing.errors.ErrorKind.TheVariants.{MapOpt, MapRes, Eof, OutOfMemory, TooLarge}
 use Rattle.amq_protocol_types.specs.declared.stream.error.StreamError.{StreamError}
@@ -32,13 +32,13 @@ use Rattle.amqp_wire.proofs.Outcomes.{read_is, read_holds, too_large}
 found_begins : (l : Limits) (s rest : List ℕ) (v : Tree) → Within l s (found v rest) → BeginsWith l s (v ∷ []) rest
 found_begins l s rest v (few, x) =
     let f = prefix_within l.depth s rest v x in
-    let small : extent s ≡ length f.0 = ap extent f.2 ∙ wire_extent f.0 rest v f.1.0 in
+    let small : extent s ≡ length f.0 = ap extent f.2 ∙ wire_extent f.0 rest v (wire_of l.depth f.0 v f.1) in
     (f.0, rest, f.2, f.1, omega (arith, few, small), refl)
 
 -- and the other way round
 begins_found : (l : Limits) (s w rest : List ℕ) (v : Tree) → s ≡ w ++ rest → WireWithin l.depth w v → length w ≤ l.frame → Within l s (found v rest)
 begins_found l s w rest v e p few =
-    subst (λ (t : List ℕ). Within l t (found v rest)) (sym e) (omega (arith, few, wire_extent w rest v p.0), wire_found_within l.depth w rest v p.0 p.1)
+    subst (λ (t : List ℕ). Within l t (found v rest)) (sym e) (omega (arith, few, wire_extent w rest v (wire_of l.depth w v p)), wire_found_within l.depth w rest v p)
 
 -- if reading results in no value, none is there
 abbrev HasNoValue : Option Reading → Type 0
@@ -66,7 +66,7 @@ begins_unique l s a b [] [] p q e = sym p ∙ q
 begins_unique l s a b [] (v ∷ vs) p q e = absurd (omega (arith, e))
 begins_unique l s a b (u ∷ us) [] p q e = absurd (omega (arith, e))
 begins_unique l s a b (u ∷ us) (v ∷ vs) (w, rest, is, p, few, others) (x, left, is', q, few', others') e =
-    let same = one_reading w x rest left u v p.0 q.0 (sym is ∙ is') in
+    let same = one_reading w x rest left u v (wire_of l.depth w u p) (wire_of l.depth x v q) (sym is ∙ is') in
     begins_unique l left a b us vs (subst (λ (t : List ℕ). BeginsWith l t us a) same.2 others) others' (omega (arith, e))
 
 -- and if no value follows there are no more
@@ -74,7 +74,7 @@ begins_more : (l : Limits) (s a b : List ℕ) (us vs : List Tree) → BeginsWith
 begins_more l s a b us [] p none q lt = omega (arith, lt)
 begins_more l s a b [] (v ∷ vs) p none (x, left, is, q, few, others) lt = none x left v (sym p ∙ is) q few
 begins_more l s a b (u ∷ us) (v ∷ vs) (w, rest, is, p, few, others) none (x, left, is', q, few', others') lt =
-    let same = one_reading w x rest left u v p.0 q.0 (sym is ∙ is') in
+    let same = one_reading w x rest left u v (wire_of l.depth w u p) (wire_of l.depth x v q) (sym is ∙ is') in
     begins_more l left a b us vs (subst (λ (t : List ℕ). BeginsWith l t us a) same.2 others) none others' (omega (arith, lt))
 
 -- one value more
@@ -115,7 +115,7 @@ has_values l zero s bytes lt = absurd (omega (arith, lt))
 has_values l (suc n) s bytes lt = elim (value_or_none (read_within l s)) [
   | inl (v, rest, e) ↦
       let (w, r, is, p, few, same) = found_begins l s rest v (read_holds l s (found v rest) bytes e) in
-      let (vs, left, both) = has_values l n r (bytes_after w r (subst IsBytes is bytes)) (omega (arith, lt, ap length is, length-append w r, length-wire w v p.0)) in
+      let (vs, left, both) = has_values l n r (bytes_after w r (subst IsBytes is bytes)) (omega (arith, lt, ap length is, length-append w r, length-wire w v (wire_of l.depth w v p))) in
       (v ∷ vs, left, ((w, r, is, p, few, both.0), both.1))
   | inr none ↦ ([], s, (refl, none_begins l s bytes none))
 ]

@@ -1,4 +1,5 @@
-use Rattle.std.proofs.Common.{ℕ, List, [], ◌∷◌, ◌++◌, refl, sym, subst, rules, arith}
+use Rattle.amqp_value_core.proofs.GrammarLaws.{body_of, pairs_of}
+use Rattle.std.proofs.Common.{◌-◌, ℕ, List, [], ◌∷◌, ◌++◌, refl, sym, subst, rules, arith}
 use Rattle.std.specs.Str.{IsUtf8}
 use Rattle.amqp_value_core.specs.Values.{no_entries, array, table, trees_of}
 use Rattle.amqp_value_core.specs.Inserting.{insert}
@@ -123,7 +124,7 @@ value_within-returns-else-not-are_values-clause-outcome t c =
     let rest = slice_bytes c.in_ok-rest.rest in
     let h = subst (λ (h : Head). IsHead s h rest) c.in-FieldArray.is c.in_ok-rest.ensures in
     let x = c.are_values.ensures.yes (search rules) in
-    (array x.0, (x.0, rw c.of.ensures x.1.0, refl), array_read c.args.depth s c.in-FieldArray.body rest h x.0 (omega arith) x.1)
+    (array x.0, (x.0, rw c.of.ensures (body_of (c.args.depth - 1) (slice_bytes c.in-FieldArray.body) x.0 x.1), refl), array_read c.args.depth s c.in-FieldArray.body rest h x.0 (omega arith) x.1)
 
 pub value_within-returns-else-not-are_pairs-clause-outcome : goal.value_within-returns-else-not-are_pairs-clause-outcome
 value_within-returns-else-not-are_pairs-clause-outcome t c =
@@ -131,7 +132,7 @@ value_within-returns-else-not-are_pairs-clause-outcome t c =
     let rest = slice_bytes c.in_ok-rest.rest in
     let h = subst (λ (h : Head). IsHead s h rest) c.in-FieldTable.is c.in_ok-rest.ensures in
     let x = c.are_pairs.ensures.yes (search rules) in
-    (table x.0, (x.0, (x.1.0, rw c.of-in-FieldTable.ensures x.1.1.0, x.1.2), refl), table_read c.args.depth s c.in-FieldTable.body rest h x.0 (omega arith) x.1)
+    (table x.0, (x.0, (x.1.0, rw c.of-in-FieldTable.ensures (pairs_of (c.args.depth - 1) (slice_bytes c.in-FieldTable.body) x.1.0 x.1.1), x.1.2), refl), table_read c.args.depth s c.in-FieldTable.body rest h x.0 (omega arith) x.1)
 
 pub value_within-returns-in-Plain-clause-inside : goal.value_within-returns-in-Plain-clause-inside
 value_within-returns-in-Plain-clause-inside t c =
@@ -152,3 +153,13 @@ value_within-returns-else-not-are_pairs-clause-inside t c =
     let rest = slice_bytes c.in_ok-rest.rest in
     let h = subst (λ (h : Head). IsHead s h rest) c.in-FieldTable.is c.in_ok-rest.ensures in
     subst (λ (b : List ℕ). IsFramed amqp.FieldTable s b rest) (sym c.of-in-FieldTable.ensures) (table_is_in s c.in-FieldTable.body rest h)
+
+pub value_within-of-requires : goal.value_within-of-requires
+value_within-of-requires t c =
+    let x = c.are_values.ensures.yes (search rules) in
+    ∣ (x.0, body_of (c.args.depth - 1) (slice_bytes c.in-FieldArray.body) x.0 x.1) ∣₁
+
+pub value_within-of-requires-in-FieldTable : goal.value_within-of-requires-in-FieldTable
+value_within-of-requires-in-FieldTable t c =
+    let x = c.are_pairs.ensures.yes (search rules) in
+    ∣ (x.1.0, pairs_of (c.args.depth - 1) (slice_bytes c.in-FieldTable.body) x.1.0 x.1.1) ∣₁

@@ -1,4 +1,5 @@
-use Rattle.std.proofs.Common.{ℕ, List, sym, ◌∙◌, subst, rules, arith}
+use Rattle.amqp_value_core.proofs.GrammarLaws.{pairs_of}
+use Rattle.std.proofs.Common.{◌-◌, ℕ, List, sym, ◌∙◌, subst, rules, arith}
 use Rattle.amqp_value_core.specs.declared.types.amqp_type.AMQPType.TheVariants as amqp
 use Rattle.amqp_value_core.specs.Values.{table}
 use Rattle.amqp_value_core.specs.Grammar.{long_field}
@@ -32,7 +33,7 @@ returns-clause-within c =
     let h = c.in_ok-rest.ensures in
     let x = c.are_pairs.ensures.yes (search rules) in
     let read = untagged_read c.args.limits s c.in_ok-rest.body rest h.body h.fits x.0 (omega arith) x.1 in
-    (x.0, (x.1.0, rw c.of.ensures x.1.1.0, x.1.2), rw c.as_slice.ensures (subst (λ (t : List ℕ). UntaggedWithin c.args.limits amqp.FieldTable t (found (table x.0) rest)) c.new.ensures read))
+    (x.0, (x.1.0, rw c.of.ensures (pairs_of (c.args.limits.depth - 1) (slice_bytes c.in_ok-rest.body) x.1.0 x.1.1), x.1.2), rw c.as_slice.ensures (subst (λ (t : List ℕ). UntaggedWithin c.args.limits amqp.FieldTable t (found (table x.0) rest)) c.new.ensures read))
 
 pub returns-clause-one : goal.returns-clause-one
 returns-clause-one c = one_table c.of.result
@@ -40,3 +41,8 @@ returns-clause-one c = one_table c.of.result
 pub returns-clause-rest : goal.returns-clause-rest
 returns-clause-rest c =
     rw c.as_slice.ensures (long_field (slice_bytes c.in_ok-rest.body), sym c.new.ensures ∙ c.in_ok-rest.ensures.body.framed)
+
+pub of-requires : goal.of-requires
+of-requires c =
+    let x = c.are_pairs.ensures.yes (search rules) in
+    ∣ (x.1.0, pairs_of (c.args.limits.depth - 1) (slice_bytes c.in_ok-rest.body) x.1.0 x.1.1) ∣₁

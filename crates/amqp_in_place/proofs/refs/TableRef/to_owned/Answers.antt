@@ -2,8 +2,15 @@ use Rattle.std.proofs.Common.{List, ℕ, ◌<◌, length, subst, arith}
 use Rattle.amqp_value_core.specs.Inputs.{slice_bytes}
 use Rattle.amq_protocol_types.specs.parsing.ParseResults.{IsRefusal}
 use Rattle.amq_protocol_types.specs.parsing.Bodies.{IsNoTable}
-use Rattle.amqp_in_place.proofs.Owning.{pairs_there}
+use Rattle.amqp_value_core.specs.Containers.{table_view}
+use Rattle.amqp_in_place.specs.Bodies.{HasEntries}
+use Rattle.amqp_in_place.proofs.Owning.{entries_of_table, pairs_there}
 use Rattle.amqp_in_place.proofs.refs.TableRef.to_owned.Goals as goal
+
+pub returns-in-Ok : goal.returns-in-Ok
+returns-in-Ok c =
+    let es = table_view c.in-Ok.table in
+    subst (λ (t : List ℕ). HasEntries t es) c.body-body.ensures.body (entries_of_table c.input_len.result (slice_bytes c.body-body.result) es c.in-Ok.ensures)
 
 pub returns-in-Err-Failure : goal.returns-in-Err-Failure
 returns-in-Err-Failure c =
