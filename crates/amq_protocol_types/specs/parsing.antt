@@ -1,6 +1,6 @@
--- the errors of parsers
+-- the errors of parsers (17 lines)
 pub mod Refusals
--- what `parse_value` returns: the headline's words on reading
+-- what `parse_value` returns: the headline's words on reading (21 lines)
 pub mod ParseResults
 -- what the parsers of one type return
 pub mod PayloadResults

@@ -5,6 +5,7 @@ use Rattle.amq_protocol_types.specs.declared.parsing.errors.ErrorKind.{ErrorKind
 use Rattle.amq_protocol_types.specs.declared.parsing.errors.ErrorKind.TheVariants.{MapOpt, MapRes, Eof, OutOfMemory, TooLarge}
 use Rattle.amq_protocol_types.specs.declared.parsing.limits.Limits.{Limits}
 use Rattle.amq_protocol_types.specs.parsing.Limits.{RefusesWithin}
+use Rattle.amqp_value_core.specs.Outcomes.{no_byte}
 use Rattle.amqp_bench.specs.declared.fault.Fault.TheVariants.{Incomplete, Refused}
 use Rattle.amqp_in_place.specs.Canonicals.{IsCanonicalLen}
 use Rattle.amqp_bench.specs.Calls.{widest, IsFaultWithin}
@@ -14,12 +15,12 @@ pub refused_within : (l : Limits) (s : List ℕ) (kind : ErrorKind) → RefusesW
 refused_within l s TooLarge less = inl less
 refused_within l s MapOpt is = inr (inl is)
 refused_within l s Eof is = inr (inr is)
-refused_within l s MapRes is = absurd is.1
-refused_within l s OutOfMemory is = absurd is.1
+refused_within l s MapRes is = absurd is
+refused_within l s OutOfMemory is = absurd is
 
 -- a byte is missing if there is none
 pub none_came : (s : List ℕ) → s ≡ [] → IsFaultWithin widest s Incomplete
-none_came s is = subst (λ s. IsFaultWithin widest s Incomplete) (sym is) (1, (omega arith, refl))
+none_came s is = subst (λ s. IsFaultWithin widest s Incomplete) (sym is) (1, (omega arith, no_byte))
 
 -- a canonical encoding at the start has no more bytes than there are
 pub canonical_is_within : (l : Limits) (s : List ℕ) (n : ℕ) → IsCanonicalLen l s n → n ≤ length s

@@ -53,8 +53,8 @@ mutual
   raw_right d _ _ _ (raw_octets s fits) deep = refl
   raw_right zero _ _ _ (raw_array body vs fits all) deep = absurd (omega (arith, deep))
   raw_right (suc d) _ _ _ (raw_array body vs fits all) deep = ap (option_map (further 5)) (body_right d body vs all (omega (arith, deep)))
-  raw_right zero _ _ _ (raw_table body ps fits all) deep = absurd (omega (arith, deep))
-  raw_right (suc d) _ _ _ (raw_table body ps fits all) deep = ap (option_map (further 5)) (pairs_right d body ps all (omega (arith, deep)))
+  raw_right zero _ _ _ (raw_table body ps es fits all mean) deep = absurd (omega (arith, deep))
+  raw_right (suc d) _ _ _ (raw_table body ps es fits all mean) deep = ap (option_map (further 5)) (pairs_right d body ps all (omega (arith, deep)))
 
   body_right : (d : ℕ) (b : List ℕ) (vs : Trees) (p : ArrayBody b vs) → body_nesting b vs p ≤ d → AreValuesBy AnyKeys d b
   body_right d _ _ no_values deep = refl
@@ -79,7 +79,7 @@ plain_nesting _ _ _ (raw_short s is) plain = refl
 plain_nesting _ _ _ (raw_long s fits) plain = refl
 plain_nesting _ _ _ (raw_octets s fits) plain = refl
 plain_nesting _ _ _ (raw_array body vs fits all) plain = absurd plain
-plain_nesting _ _ _ (raw_table body ps fits all) plain = absurd plain
+plain_nesting _ _ _ (raw_table body ps es fits all mean) plain = absurd plain
 
 pub plain_reads : (w : List ℕ) (v : Tree) → Wire w v → IsPlain v → (depth : ℕ) → IsEncodingBy AnyKeys depth w
 plain_reads _ _ (wire c type b v is raw) plain depth =

@@ -6,7 +6,6 @@ use Rattle.amqp_value_core.specs.declared.types.amqp_type.AMQPType.TheVariants a
 use Rattle.amqp_value_core.specs.Strings.{IsShort}
 use Rattle.amqp_value_core.specs.Grammar.{short_field, long_field, Wire, wire, raw_array, raw_table, ArrayBody, no_values, value, TableBody, no_pairs, pair}
 use Rattle.amqp_value_core.specs.Values.{Tree, scalar, short, long, octets, array, table, Trees, no_trees, tree, Entries, no_entries, entry}
-use Rattle.amqp_value_core.specs.Inserting.{insert_all}
 use Rattle.amqp_c_common.specs.Spans.{part, SpanIsIn}
 use Rattle.amqp_c.specs.declared.container.Container.{Container}
 use Rattle.amqp_c.specs.Containers.{array_tag, table_tag, named, end_of, entry_of, up_to}
@@ -106,10 +105,7 @@ wire_of_body : (tag : ℕ) (b : List ℕ) (v : Tree) → length b < 2 ^ 32 → I
 wire_of_body tag b (array vs) fits x =
     subst (λ (t : ℕ). Wire (t ∷ long_field b) (array vs)) (sym x.0) (wire 65 amqp.FieldArray (long_field b) (array vs) refl (raw_array b vs fits x.1))
 wire_of_body tag b (table es) fits x =
-    let ps = x.1.0 in
-    subst (λ (t : ℕ). Wire (t ∷ long_field b) (table es)) (sym x.0)
-    (subst (λ (fs : Entries). Wire (70 ∷ long_field b) (table fs)) (sym x.1.2)
-    (wire 70 amqp.FieldTable (long_field b) (table (insert_all no_entries ps)) refl (raw_table b ps fits x.1.1)))
+    subst (λ (t : ℕ). Wire (t ∷ long_field b) (table es)) (sym x.0) (wire 70 amqp.FieldTable (long_field b) (table es) refl (raw_table b x.1.0 es fits x.1.1 x.1.2))
 wire_of_body tag b (scalar y) fits x = absurd x
 wire_of_body tag b (short y) fits x = absurd x
 wire_of_body tag b (long y) fits x = absurd x

@@ -12,11 +12,11 @@ use Rattle.amqp_c.specs.JsonTexts.{IsOrderedJsonFault}
 
 -- each error of reading is reported as it is
 pub refused_so : (l : Limits) (s : List ℕ) (buffer : ℕ) (e : Refusal) → RefusesWithin l s e → NeedsNoMemory e → IsOrderedJsonFault l s buffer (fault_of e)
-refused_so l s buffer (Incomplete Unknown) x none = absurd x.1
+refused_so l s buffer (Incomplete Unknown) x none = absurd x
 refused_so l s buffer (Incomplete (Size n)) x none = x
 refused_so l s buffer (Error kind.MapOpt) x none = x
 refused_so l s buffer (Error kind.Eof) x none = x
 refused_so l s buffer (Error kind.TooLarge) x none = x
-refused_so l s buffer (Error kind.MapRes) x none = absurd x.1
-refused_so l s buffer (Error kind.OutOfMemory) x none = absurd x.1
+refused_so l s buffer (Error kind.MapRes) x none = absurd x
+refused_so l s buffer (Error kind.OutOfMemory) x none = absurd x
 refused_so l s buffer (Failure k) x none = absurd none

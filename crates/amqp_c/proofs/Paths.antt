@@ -38,7 +38,7 @@ plain_raw _ _ _ x (raw_short k is) e = absurd cc
 plain_raw _ _ _ x (raw_long k fits) e = absurd cc
 plain_raw _ _ _ x (raw_octets k fits) e = absurd cc
 plain_raw _ _ _ x (raw_array body vs fits p) e = absurd cc
-plain_raw _ _ _ x (raw_table body ps fits p) e = absurd cc
+plain_raw _ _ _ x (raw_table body ps es fits p mean) e = absurd cc
 
 plain_wire : (w : List ℕ) (v : Tree) (x : Scalar) → Wire w v → v ≡ scalar x → IsPlainTag (id_of (type_of v))
 plain_wire _ _ x (wire c type b v tag raw) e = plain_raw type b v x raw e

@@ -11,9 +11,9 @@ use Rattle.amqp_value_core.specs.Values.{Tree, scalar, short, long, octets, arra
 use Rattle.amqp_value_core.specs.Inserting.{insert_all}
 use Rattle.amqp_value_core.specs.Layouts.{Layout, fixed}
 use Rattle.amqp_value_core.specs.Grammar.{long_field, Wire, wire, Raw, raw_fixed, raw_short, raw_long, raw_octets, raw_array, raw_table, ArrayBody}
-use Rattle.amqp_value_core.specs.Outcomes.{Reading, found, more, unknown, malformed, lack, lack_of, frame_lack, fields_lack, length_field, NeedsMoreOr, PrefixBy, Outcome}
-use Rattle.amqp_value_core.specs.Payloads.{RawPrefix, RawOutcome}
-use Rattle.amqp_value_core.proofs.GrammarLaws.{found_prefix, length-wire, raw_prefix, one_outcome, one_raw_reading, raw_to_value, value_to_raw, array_body, table_body}
+use Rattle.amqp_value_core.specs.Outcomes.{Reading, found, more, unknown, malformed, lack, lack_of, frame_lack, fields_lack, length_field, no_byte, no_tag, needs_more, Outcome}
+use Rattle.amqp_value_core.specs.Payloads.{RawOutcome}
+use Rattle.amqp_value_core.proofs.GrammarLaws.{found_prefix, length-wire, one_outcome, one_raw_reading, raw_to_value, value_to_raw, array_body, table_body, put_mean}
 use Rattle.amq_protocol_types.specs.declared.parsing.errors.Err.TheVariants.{Incomplete, Error, Failure}
 use Rattle.amq_protocol_types.specs.declared.parsing.errors.Needed.TheVariants.{Unknown, Size}
 use Rattle.amq_protocol_types.specs.declared.parsing.errors.ErrorKind.TheVariants as kind
@@ -76,28 +76,12 @@ never_faulty s rest v OutOfRange x y = y
 
 -- what is asked for is something
 some_lack : (s : List ℕ) (n : ℕ) → Outcome s (more n) → 0 < n
-some_lack [] n x = let e : n ≡ 1 = cc in omega (arith, e)
-some_lack (c ∷ b) n x = by (kind c) x
-  where
-    at : (m : ℕ) → NeedsMoreOr m (PrefixBy Wire (c ∷ b) (more n)) (more n) → 0 < n
-    at zero none = absurd none
-    at (suc m) is = let e : n ≡ suc m = cc in omega (arith, e)
-
-    by : (k : Option AMQPType) → MatchOption k (more n ≡ unknown) (λ type. NeedsMoreOr (lack type b) (PrefixBy Wire (c ∷ b) (more n)) (more n)) → 0 < n
-    by None is = absurd cc
-    by (Some type) y = at (lack type b) y
+some_lack _ _ no_byte = omega arith
+some_lack _ _ (needs_more c type b n k is) = omega arith
 
 -- an unknown type tag has no extent
 no_extent : (c : ℕ) (b : List ℕ) → Outcome (c ∷ b) unknown → extent (c ∷ b) ≡ 0
-no_extent c b x = by (kind c) x
-  where
-    at : (m : ℕ) → NeedsMoreOr m (PrefixBy Wire (c ∷ b) unknown) unknown → ⊥
-    at zero none = none
-    at (suc m) is = cc
-
-    by : (k : Option AMQPType) → MatchOption k (unknown ≡ unknown) (λ type. NeedsMoreOr (lack type b) (PrefixBy Wire (c ∷ b) unknown) unknown) → extent_at k b ≡ 0
-    by None is = refl
-    by (Some type) y = absurd (at (lack type b) y)
+no_extent _ _ (no_tag c b k) = ap (λ (o : Option AMQPType). extent_at o b) k
 
 -- if one is right, fewer bytes are there than a header counts
 pub cut_header : (s : List ℕ) (f : Fault) → HeaderFaults (Outcome s) f → IsHeaded s → ⊥
@@ -130,11 +114,8 @@ has_frame _ mid h = absurd cc
 -- if the field isn't complete more bytes are needed
 cut : (s mid : List ℕ) (type : AMQPType) → IsType s type mid → has_content type ≡ true → (o : Reading) → IsCutLengthPrefixed mid o → Outcome s o
 cut s mid type p h o x =
-    subst (λ (t : List ℕ). Outcome t o) (sym p.1) (raw_to_value p.0 type mid o p.2 (by (lack type mid) (has_frame type mid h)))
-  where
-    by : (k : ℕ) → k ≡ frame_lack w32 mid → NeedsMoreOr k (RawPrefix type mid o) o
-    by zero e = absurd (omega (arith, x.0))
-    by (suc k) e = x.1 ∙ ap more (sym e)
+    let needed : RawOutcome type mid o = subst (RawOutcome type mid) (sym x.1) (x.0, has_frame type mid h) in
+    subst (λ (t : List ℕ). Outcome t o) (sym p.1) (raw_to_value p.0 type mid o p.2 needed)
 
 pub cut_fault : (s mid : List ℕ) (type : AMQPType) → IsType s type mid → has_content type ≡ true → (e : Refusal) → IsRefusal (IsCutLengthPrefixed mid) ⊥ e → HeaderFaults (Outcome s) (fault_of e)
 cut_fault s mid type p h (Incomplete Unknown) x = absurd x
@@ -171,7 +152,7 @@ ContentIs body (array vs) = ArrayBody body vs
 ContentIs body (table es) = HasEntries body es
 ContentIs body _ = ⊥
 
-pub content_at_start : (type : AMQPType) (mid body rest : List ℕ) → IsLengthPrefixed mid body rest → has_content type ≡ true → (v : Tree) (left : List ℕ) → RawPrefix type mid (found v left)
+pub content_at_start : (type : AMQPType) (mid body rest : List ℕ) → IsLengthPrefixed mid body rest → has_content type ≡ true → (v : Tree) (left : List ℕ) → RawOutcome type mid (found v left)
     → ContentIs body v × (type_of v ≡ type) × (left ≡ rest)
 content_at_start amqp.LongString mid body rest f h v left raw =
     let same = one_raw_reading amqp.LongString raw.0 (long_field body) left rest v (long body) raw.1 (raw_long body f.fits) (sym raw.2 ∙ f.framed) in
@@ -186,8 +167,9 @@ content_at_start amqp.FieldArray mid body rest f h v left raw =
 content_at_start amqp.FieldTable mid body rest f h v left raw =
     let b = table_body body rest raw.0 left v f.fits raw.1 (sym f.framed ∙ raw.2) in
     let es = insert_all no_entries b.0 in
-    let same = one_raw_reading amqp.FieldTable raw.0 (long_field body) left rest v (table es) raw.1 (raw_table body b.0 f.fits b.1) (sym raw.2 ∙ f.framed) in
-    (subst (ContentIs body) (sym same.1) (b.0, b.1, refl), ap type_of same.1, same.2)
+    let means = put_mean b.0 in
+    let same = one_raw_reading amqp.FieldTable raw.0 (long_field body) left rest v (table es) raw.1 (raw_table body b.0 es f.fits b.1 means) (sym raw.2 ∙ f.framed) in
+    (subst (ContentIs body) (sym same.1) (b.0, b.1, means), ap type_of same.1, same.2)
 content_at_start _ mid body rest f h v left raw = absurd cc
 
 says_content : (s : List ℕ) (e : Entry) (body : List ℕ) (v : Tree) → HasNoNumber e → part s e.content ≡ body → ContentIs body v → DescribesValue s e v
@@ -199,9 +181,9 @@ says_content s e body (array vs) none at x = (subst (λ (t : List ℕ). ArrayBod
 says_content s e body (table es) none at x = (subst (λ (t : List ℕ). HasEntries t es) (sym at) x, none)
 
 -- what is found of a value is its payload, of the type that was read
-pub payload_at_start : (s mid : List ℕ) (type : AMQPType) → IsType s type mid → (v : Tree) (left : List ℕ) → Outcome s (found v left) → RawPrefix type mid (found v left)
+pub payload_at_start : (s mid : List ℕ) (type : AMQPType) → IsType s type mid → (v : Tree) (left : List ℕ) → Outcome s (found v left) → RawOutcome type mid (found v left)
 payload_at_start s mid type p v left x =
-    raw_prefix (Raw type) (lack type mid) mid left v (value_to_raw p.0 type mid (found v left) p.2 (subst (λ (t : List ℕ). Outcome t (found v left)) p.1 x))
+    value_to_raw p.0 type mid (found v left) p.2 (subst (λ (t : List ℕ). Outcome t (found v left)) p.1 x)
 
 -- the entry of a value whose field was read
 pub content_entry : (s mid body rest : List ℕ) (type : AMQPType) → IsType s type mid → IsLengthPrefixed mid body rest → has_content type ≡ true
@@ -257,7 +239,7 @@ scalar_at_start _ _ _ h r (raw_short k is) = absurd cc
 scalar_at_start _ _ _ h r (raw_long k fits) = absurd cc
 scalar_at_start _ _ _ h r (raw_octets k fits) = absurd cc
 scalar_at_start _ _ _ h r (raw_array body vs fits p) = absurd cc
-scalar_at_start _ _ _ h r (raw_table body ps fits p) = absurd cc
+scalar_at_start _ _ _ h r (raw_table body ps es fits p mean) = absurd cc
 
 -- so its payload is never malformed
 fixed_layout : (type : AMQPType) → has_content type ≡ false → read_as type ≡ Some type → (f : Layout) × (fixed type ≡ Some f)
@@ -276,15 +258,11 @@ fields_there f b none = by (nat_lt (length b) f.first) refl none
     by false is z = omega arith
 
 never_malformed : (mid : List ℕ) (type : AMQPType) → has_content type ≡ false → read_as type ≡ Some type → RawOutcome type mid malformed → ⊥
-never_malformed mid type h r x = by (lack type mid) refl x
-  where
-    by : (k : ℕ) → lack type mid ≡ k → NeedsMoreOr k (RawPrefix type mid malformed) malformed → ⊥
-    by zero is f =
-        let row = fixed_layout type h r in
-        let there = fields_there row.0 mid (sym (ap (λ (o : Option Layout). lack_of o (length_field type) mid) row.1) ∙ is) in
-        let b = take row.0.width mid in
-        f b (drop row.0.width mid) (scalar (row.0.denotes b)) (raw_fixed type row.0 b row.1 (length-take-le row.0.width mid there)) (sym (take-append-drop row.0.width mid))
-    by (suc k) is e = cc
+never_malformed mid type h r (whole, none) =
+    let row = fixed_layout type h r in
+    let there = fields_there row.0 mid (sym (ap (λ (o : Option Layout). lack_of o (length_field type) mid) row.1) ∙ whole) in
+    let b = take row.0.width mid in
+    none b (drop row.0.width mid) (scalar (row.0.denotes b)) (raw_fixed type row.0 b row.1 (length-take-le row.0.width mid there)) (sym (take-append-drop row.0.width mid))
 
 pub scalar_fault : (s mid : List ℕ) (type : AMQPType) → IsType s type mid → has_content type ≡ false → read_as type ≡ Some type → (e : Refusal) → IsRefusal (Outcome s) ⊥ e
     → HeaderFaults (Outcome s) (fault_of e)

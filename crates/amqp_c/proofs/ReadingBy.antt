@@ -6,9 +6,8 @@ use Rattle.amqp_value_core.specs.declared.types.amqp_type.AMQPType.{AMQPType}
 use Rattle.amqp_value_core.specs.declared.types.amqp_type.AMQPType.TheVariants as amqp
 use Rattle.amqp_value_core.specs.Ids.{kind}
 use Rattle.amqp_value_core.specs.Values.{Tree, scalar, short, long, octets, array, table, type_of}
-use Rattle.amqp_value_core.specs.Grammar.{Wire}
 use Rattle.amqp_value_core.specs.Nesting.{WireWithin, OutcomeWithin}
-use Rattle.amqp_value_core.specs.Outcomes.{found, more, unknown, lack, NeedsMoreOr, PrefixBy, Outcome}
+use Rattle.amqp_value_core.specs.Outcomes.{found, more, unknown, no_tag, Outcome}
 use Rattle.amqp_value_core.proofs.GrammarLaws.{prefix_within, wire_found}
 use Rattle.amq_protocol_types.specs.declared.parsing.header.Header.{Header}
 use Rattle.amq_protocol_types.specs.declared.parsing.header.Header.TheVariants as header
@@ -137,16 +136,7 @@ table_read l s (Err f) finds whole x = absurd (x whole)
 
 -- no byte is asked for after what is no type tag
 unknown_wants : (s : List ℕ) → Outcome s unknown → wanted s ≡ 0
-unknown_wants [] x = absurd cc
-unknown_wants (c ∷ b) x = by (kind c) x
-  where
-    at : (m : ℕ) → NeedsMoreOr m (PrefixBy Wire (c ∷ b) unknown) unknown → ⊥
-    at zero none = none
-    at (suc m) is = cc
-
-    by : (k : Option AMQPType) → MatchOption k (unknown ≡ unknown) (λ type. NeedsMoreOr (lack type b) (PrefixBy Wire (c ∷ b) unknown) unknown) → wanted_at k b ≡ 0
-    by None is = refl
-    by (Some type) y = absurd (at (lack type b) y)
+unknown_wants _ (no_tag c b k) = ap (λ (o : Option AMQPType). wanted_at o b) k
 
 -- a header lacks what is asked for, but if the value is too large
 lacks_wanted : (frame : ℕ) (s : List ℕ) (n : ℕ) (k : ProblemKind) (h : Header) → IsHeader frame s h → (frame < extent s → fault_at n k 0 ≡ fault_at n k (wanted s))

@@ -55,5 +55,5 @@ refused_so l s buffer (Incomplete (Size n)) x none = reported_as_it_is l s (Inco
 refused_so l s buffer (Error kind.MapOpt) x none = x
 refused_so l s buffer (Error kind.Eof) x none = x
 refused_so l s buffer (Error kind.TooLarge) x none = x
-refused_so l s buffer (Error kind.MapRes) x none = absurd x.1
-refused_so l s buffer (Error kind.OutOfMemory) x none = absurd x.1
+refused_so l s buffer (Error kind.MapRes) x none = absurd x
+refused_so l s buffer (Error kind.OutOfMemory) x none = absurd x

@@ -53,13 +53,13 @@ reported_text most t buffer (json.NotAValue at mismatch) u none = inr (λ v is.
 -- ---- from an encoding to the JSON text
 -- an error of reading in place isn't reported as one of memory
 pub needs_none : (l : Limits) (s : List ℕ) (e : Refusal) → RefusesWithin l s e → NeedsNoMemory e → fault_of e ≡ OutOfMemory → ⊥
-needs_none l s (Incomplete Unknown) x none is = x.1
+needs_none l s (Incomplete Unknown) x none is = x
 needs_none l s (Incomplete (Size n)) x none is = cc
 needs_none l s (Error kind.MapOpt) x none is = cc
 needs_none l s (Error kind.Eof) x none is = cc
 needs_none l s (Error kind.TooLarge) x none is = cc
-needs_none l s (Error kind.MapRes) x none is = x.1
-needs_none l s (Error kind.OutOfMemory) x none is = x.1
+needs_none l s (Error kind.MapRes) x none is = x
+needs_none l s (Error kind.OutOfMemory) x none is = x
 needs_none l s (Failure k) x none is = none
 
 -- a text that fits no bytes has none, and a buffer begins with it
@@ -80,13 +80,13 @@ found_one v u rest left e = cc
 
 -- a value that is read isn't rejected
 read_not_refused : (l : Limits) (s rest : List ℕ) (v : Tree) (e : Refusal) → Within l s (found v rest) → RefusesWithin l s e → NeedsNoMemory e → ⊥
-read_not_refused l s rest v (Incomplete Unknown) y x none = x.1
+read_not_refused l s rest v (Incomplete Unknown) y x none = x
 read_not_refused l s rest v (Incomplete (Size n)) y x none = let same : more n ≡ found v rest = one_outcome_within l.depth s (more n) (found v rest) x.1 y.1 in cc same
 read_not_refused l s rest v (Error kind.MapOpt) y x none = let same : unknown ≡ found v rest = one_outcome_within l.depth s unknown (found v rest) x.1 y.1 in cc same
 read_not_refused l s rest v (Error kind.Eof) y x none = let same : malformed ≡ found v rest = one_outcome_within l.depth s malformed (found v rest) x.1 y.1 in cc same
 read_not_refused l s rest v (Error kind.TooLarge) y x none = omega (arith, x, y.0)
-read_not_refused l s rest v (Error kind.MapRes) y x none = x.1
-read_not_refused l s rest v (Error kind.OutOfMemory) y x none = x.1
+read_not_refused l s rest v (Error kind.MapRes) y x none = x
+read_not_refused l s rest v (Error kind.OutOfMemory) y x none = x
 read_not_refused l s rest v (Failure k) y x none = none
 
 -- a text is written to a buffer that it fits

@@ -12,11 +12,11 @@ use Rattle.amqp_c_common.specs.Reading.{IsReadFault}
 
 -- each error is reported as it is
 pub reported_as_it_is : (l : Limits) (s : List ℕ) (e : Refusal) → RefusesWithin l s e → IsReadFault l s (fault_of e)
-reported_as_it_is l s (Incomplete Unknown) x = absurd x.1
+reported_as_it_is l s (Incomplete Unknown) x = absurd x
 reported_as_it_is l s (Incomplete (Size n)) x = x
 reported_as_it_is l s (Error kind.MapOpt) x = x
 reported_as_it_is l s (Error kind.Eof) x = x
 reported_as_it_is l s (Error kind.TooLarge) x = x
-reported_as_it_is l s (Error kind.MapRes) x = absurd x.1
-reported_as_it_is l s (Error kind.OutOfMemory) x = absurd x.1
+reported_as_it_is l s (Error kind.MapRes) x = absurd x
+reported_as_it_is l s (Error kind.OutOfMemory) x = absurd x
 reported_as_it_is l s (Failure k) x = failed_all l s k x

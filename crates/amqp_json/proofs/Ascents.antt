@@ -4,8 +4,10 @@ use Rattle.std.specs.Borrow.{Bor}
 use Rattle.amqp_value_core.specs.declared.types.amqp_type.AMQPType.TheVariants as amqp
 use Rattle.amqp_value_core.specs.Strings.{IsShort}
 use Rattle.amqp_value_core.specs.Values as values
-use Rattle.amqp_value_core.specs.Values.{Tree, scalar, array, table, Trees, no_trees, tree, Entries, no_entries, entry, insert_all, ComesBefore}
+use Rattle.amqp_value_core.specs.Values.{Tree, scalar, array, table, Trees, no_trees, tree, Entries, no_entries, entry, ComesBefore}
+use Rattle.amqp_value_core.specs.Inserting.{insert_all}
 use Rattle.amqp_value_core.specs.Grammar.{short_field, long_field, Wire, wire, raw_fixed, raw_short, raw_long, raw_octets, raw_array, raw_table, ArrayBody, no_values, value, TableBody, no_pairs, pair}
+use Rattle.amqp_value_core.proofs.GrammarLaws.{put_mean}
 use Rattle.amqp_value_core.specs.Maps.{IsRising}
 use Rattle.amqp_in_place.specs.declared.refs.ValueRef.{ValueRef}
 use Rattle.amqp_in_place.specs.declared.refs.ValueRef.TheVariants as at
@@ -164,11 +166,11 @@ array_order (Some r) s body rest (c, k, few, e) (vs, p, a) = (c ∷ long_field b
 
 pub table_in_order : {T : Type 0} (r : Option T) (s body rest : List ℕ) → IsFramed amqp.FieldTable s body rest → IfTableAscends r body → IfInOrder r s rest
 table_in_order None s body rest (c, k, few, e) (ps, p, n) =
-    let v = table (insert_all no_entries ps) in
-    (c ∷ long_field body, v, wire c amqp.FieldTable (long_field body) v k (raw_table body ps few p), e, n)
+    let es = insert_all no_entries ps in
+    (c ∷ long_field body, table es, wire c amqp.FieldTable (long_field body) (table es) k (raw_table body ps es few p (put_mean ps)), e, n)
 table_in_order (Some r) s body rest (c, k, few, e) (ps, p, a) =
-    let v = table (insert_all no_entries ps) in
-    (c ∷ long_field body, v, wire c amqp.FieldTable (long_field body) v k (raw_table body ps few p), e, a)
+    let es = insert_all no_entries ps in
+    (c ∷ long_field body, table es, wire c amqp.FieldTable (long_field body) (table es) k (raw_table body ps es few p (put_mean ps)), e, a)
 
 pub no_container : (r : ValueRef) → ((a : ArrayRef) → r ≡ at.FieldArray a → ⊥) → ((t : TableRef) → r ≡ at.FieldTable t → ⊥) → IsPlainRef r
 no_container (at.FieldArray a) n m = n a refl
@@ -182,7 +184,7 @@ leaf_raw _ _ (wire c type b v k (raw_short s is)) n m = tt
 leaf_raw _ _ (wire c type b v k (raw_long s few)) n m = tt
 leaf_raw _ _ (wire c type b v k (raw_octets s few)) n m = tt
 leaf_raw _ _ (wire c type b v k (raw_array body vs few all)) n m = absurd (n vs refl)
-leaf_raw _ _ (wire c type b v k (raw_table body ps few all)) n m = absurd (m (insert_all no_entries ps) refl)
+leaf_raw _ _ (wire c type b v k (raw_table body ps es few all mean)) n m = absurd (m es refl)
 
 pub leaf_order : (r : ValueRef) (s rest : List ℕ) → IsPlainRef r → IsViewIn s r rest → InOrder s rest
 leaf_order (at.FieldArray a) s rest leaf x = absurd leaf

@@ -8,9 +8,10 @@ use Rattle.amqp_value_core.specs.declared.types.amqp_type.AMQPType.{AMQPType}
 use Rattle.amqp_value_core.specs.Grammar.{short_field, Wire, wire, Raw, raw_fixed, raw_short, raw_long, raw_octets, raw_array, raw_table, ArrayBody, no_values, value, TableBody, no_pairs, pair}
 use Rattle.amqp_value_core.specs.Inputs.{IsBytes}
 use Rattle.amqp_value_core.specs.Strings.{IsShort}
-use Rattle.amqp_value_core.specs.Values.{Tree, scalar, Trees, Entries, no_entries, entry, insert, insert_all, readable}
+use Rattle.amqp_value_core.specs.Values.{Tree, scalar, Trees, Entries, no_entries, entry, readable}
+use Rattle.amqp_value_core.specs.Inserting.{insert, insert_all}
 use Rattle.amqp_value_core.proofs.Bytes.{bytes_before, bytes_after, byte_at}
-use Rattle.amqp_value_core.proofs.GrammarLaws.{pairs_rise, what_is_read, raw_value}
+use Rattle.amqp_value_core.proofs.GrammarLaws.{of_mean, what_is_read, raw_value}
 use Rattle.amqp_json.specs.Written.{HasJson, AllHaveJson, EntriesHaveJson}
 
 inserted : (k : List ℕ) (v : Tree) (es : Entries) → IsShort k → HasJson v → EntriesHaveJson es → EntriesHaveJson (insert k v es)
@@ -36,8 +37,8 @@ mutual
   raw_has _ _ _ reads bytes (raw_long s fits) = byte_at s (bytes_after (to_be_bytes w32 (length s)) s bytes)
   raw_has _ _ _ reads bytes (raw_octets s fits) = byte_at s (bytes_after (to_be_bytes w32 (length s)) s bytes)
   raw_has _ _ _ reads bytes (raw_array body vs fits all) = body_has body vs (bytes_after (to_be_bytes w32 (length body)) body bytes) all
-  raw_has _ _ _ reads bytes (raw_table body ps fits all) =
-      (pairs_rise ps, all_inserted ps no_entries (pairs_have body ps (bytes_after (to_be_bytes w32 (length body)) body bytes) all) tt)
+  raw_has _ _ _ reads bytes (raw_table body ps es fits all mean) =
+      (mean.rising, of_mean EntriesHaveJson ps es mean (all_inserted ps no_entries (pairs_have body ps (bytes_after (to_be_bytes w32 (length body)) body bytes) all) tt))
 
   body_has : (body : List ℕ) (vs : Trees) → IsBytes body → ArrayBody body vs → AllHaveJson vs
   body_has _ _ bytes no_values = tt

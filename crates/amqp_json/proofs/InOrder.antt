@@ -1,7 +1,7 @@
 -- In a canonical encoding the keys of each table ascend.
 use Rattle.std.proofs.Common.{◌≡◌, ℕ, List, [], ◌++◌, IsTrue, refl, sym, ap, ap₂, ◌∙◌, subst, append-nil}
 use Rattle.amqp_value_core.specs.declared.types.amqp_type.AMQPType.{AMQPType}
-use Rattle.amqp_value_core.specs.Canonical.{IsCanon, IsCanonRaw, IsCanonBody, IsCanonPairs}
+use Rattle.amqp_value_core.specs.Canonical.{Canon, canon, CanonRaw, canon_fixed, canon_long, canon_octets, canon_array, canon_table, CanonBody, canon_no_values, canon_value, CanonPairs, canon_no_pairs, canon_pair}
 use Rattle.amqp_value_core.specs.Layouts.{Layout}
 use Rattle.amqp_value_core.specs.Values.{Tree, scalar, long, octets, array, table, Trees, tree, Entries, entry, readable}
 use Rattle.amqp_value_core.specs.Grammar.{Wire, wire, Raw, raw_fixed, raw_short, raw_long, raw_octets, raw_array, raw_table, ArrayBody, no_values, value, TableBody, no_pairs, pair}
@@ -10,7 +10,7 @@ use Rattle.amqp_value_core.specs.Inputs.{IsBytes}
 use Rattle.amqp_value_core.specs.Outcomes.{Outcome, found}
 use Rattle.amqp_value_core.proofs.Bytes.{bytes_before}
 use Rattle.amqp_value_core.specs.Texts.{text, Fits}
-use Rattle.amqp_value_core.proofs.GrammarLaws.{no_empty_wire, same_large, one_key, one_reading, canon_rises, text_is_canon, what_is_read, read_is_value, found_prefix}
+use Rattle.amqp_value_core.proofs.GrammarLaws.{no_empty_wire, same_large, one_key, one_reading, canon_rises, rising_mean, text_is_canon, what_is_read, read_is_value, found_prefix}
 use Rattle.amqp_in_place.specs.Written.{written, raw_written, values_written, pairs_written}
 use Rattle.amqp_json.specs.Ascending.{Ascends, AllAscend, EntriesAscend, InOrder, OutOfOrder}
 use Rattle.amqp_json.proofs.Ascents.{written_rises}
@@ -29,7 +29,7 @@ mutual
   raw_written_once _ _ _ _ _ (raw_octets s fits) (raw_octets t fits2) e = ap octets (same_large s t e)
   raw_written_once _ _ _ _ _ (raw_array body vs fits all) (raw_array body2 us fits2 all2) e =
       ap array (values_written_once body body2 vs us all all2 (same_large body body2 e))
-  raw_written_once _ _ _ _ _ (raw_table body ps fits all) (raw_table body2 qs fits2 all2) e =
+  raw_written_once _ _ _ _ _ (raw_table body ps es fits all mean) (raw_table body2 qs es2 fits2 all2 mean2) e =
       ap table (pairs_written_once body body2 ps qs all all2 (same_large body body2 e))
 
   written_once : (w u : List ℕ) (v z : Tree) (p : Wire w v) (q : Wire u z) → w ≡ u → written w v p ≡ written u z q
@@ -58,30 +58,42 @@ mutual
 -- ---- keys ascend
 
 mutual
-  canon_ascends : (w : List ℕ) (v : Tree) (p : Wire w v) → IsCanon w v p → Ascends (written w v p)
-  canon_ascends _ _ (wire c type b v k p) is = raw_ascends type b v p is.2
+  canon_ascends : (w : List ℕ) (v : Tree) → Canon w v → (p : Wire w v) × Ascends (written w v p)
+  canon_ascends _ _ (canon c type b v k not_U not_L raw) =
+      let (p, up) = raw_ascends type b v raw in
+      (wire c type b v k p, up)
 
-  raw_ascends : (type : AMQPType) (b : List ℕ) (v : Tree) (p : Raw type b v) → IsCanonRaw type b v p → Ascends (raw_written type b v p)
-  raw_ascends _ _ _ (raw_fixed type f b row len) is = tt
-  raw_ascends _ _ _ (raw_short s few) is = tt
-  raw_ascends _ _ _ (raw_long s fits) is = tt
-  raw_ascends _ _ _ (raw_octets s fits) is = tt
-  raw_ascends _ _ _ (raw_array body vs fits all) is = body_ascends body vs all is
-  raw_ascends _ _ _ (raw_table body ps fits all) is = ((written_rises body ps all).0 (canon_rises body ps all is), pairs_ascend body ps all is)
+  raw_ascends : (type : AMQPType) (b : List ℕ) (v : Tree) → CanonRaw type b v → (p : Raw type b v) × Ascends (raw_written type b v p)
+  raw_ascends _ _ _ (canon_fixed type f b row len strict) = (raw_fixed type f b row len, tt)
+  raw_ascends _ _ _ (canon_long s fits) = (raw_long s fits, tt)
+  raw_ascends _ _ _ (canon_octets s fits) = (raw_octets s fits, tt)
+  raw_ascends _ _ _ (canon_array body vs fits all) =
+      let (p, up) = body_ascends body vs all in
+      (raw_array body vs fits p, up)
+  raw_ascends _ _ _ (canon_table body es fits all) =
+      let (p, up) = pairs_ascend body es all in
+      let rises = canon_rises body es all in
+      (raw_table body es es fits p (rising_mean es rises), ((written_rises body es p).0 rises, up))
 
-  body_ascends : (body : List ℕ) (vs : Trees) (p : ArrayBody body vs) → IsCanonBody body vs p → AllAscend (values_written body vs p)
-  body_ascends _ _ no_values is = tt
-  body_ascends _ _ (value w rest v vs first others) is = (canon_ascends w v first is.0, body_ascends rest vs others is.1)
+  body_ascends : (body : List ℕ) (vs : Trees) → CanonBody body vs → (p : ArrayBody body vs) × AllAscend (values_written body vs p)
+  body_ascends _ _ canon_no_values = (no_values, tt)
+  body_ascends _ _ (canon_value w rest v vs first others) =
+      let (p, up) = canon_ascends w v first in
+      let (q, more) = body_ascends rest vs others in
+      (value w rest v vs p q, (up, more))
 
-  pairs_ascend : (body : List ℕ) (ps : Entries) (p : TableBody body ps) → IsCanonPairs body ps p → EntriesAscend (pairs_written body ps p)
-  pairs_ascend _ _ no_pairs is = tt
-  pairs_ascend _ _ (pair k w rest v ps key first others) is = (canon_ascends w v first is.1, pairs_ascend rest ps others is.2)
+  pairs_ascend : (body : List ℕ) (es : Entries) → CanonPairs body es → (p : TableBody body es) × EntriesAscend (pairs_written body es p)
+  pairs_ascend _ _ canon_no_pairs = (no_pairs, tt)
+  pairs_ascend _ _ (canon_pair k w rest v es key first before others) =
+      let (p, up) = canon_ascends w v first in
+      let (q, more) = pairs_ascend rest es others in
+      (pair k w rest v es key p q, (up, more))
 
 pub canonical_in_order : (v : Tree) (rest : List ℕ) → IsValue v → Fits v → IsTrue (readable v) → OutOfOrder (text v) rest → ⊥
 canonical_in_order v rest is fits reads (w, u, q, e, falls) =
-    let (p, canon) = text_is_canon v is fits reads in
+    let (p, rises) = canon_ascends (text v) v (text_is_canon v is fits reads) in
     let same = one_reading (text v) w [] rest v u p q (append-nil (text v) ∙ e) in
-    falls (subst Ascends (written_once (text v) w v u p q same.0) (canon_ascends (text v) v p canon))
+    falls (subst Ascends (written_once (text v) w v u p q same.0) rises)
 
 -- so they do in bytes that are the canonical encoding of a value, and that are read
 pub found_in_order : (s rest left : List ℕ) (v u : Tree) → IsBytes s → s ≡ text v → v ≡ u → Outcome s (found u rest) → OutOfOrder s left → ⊥

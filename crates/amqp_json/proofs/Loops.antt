@@ -8,10 +8,11 @@ use Rattle.json.specs.Json.{Parse, parse_map, after_end_array, read_key, items, 
 use Rattle.json.proofs.Grammar.{read_key-shorter}
 use Rattle.serde_json.specs.Read.{converted}
 use Rattle.amqp_value_core.specs.Values.{Tree, scalar, long, octets, array, Trees, no_trees, tree, Entries, no_entries, entry}
+use Rattle.amqp_value_core.specs.Inserting.{insert_all}
 use Rattle.amqp_value_core.specs.Grammar.{Wire, wire, raw_array, raw_table, raw_long, raw_octets, ArrayBody, no_values, value, TableBody, no_pairs, pair, short_field, long_field}
 use Rattle.amqp_value_core.specs.Strings.{IsShort}
 use Rattle.amqp_value_core.specs.Texts.{text}
-use Rattle.amqp_value_core.proofs.GrammarLaws.{text_is_wire}
+use Rattle.amqp_value_core.proofs.GrammarLaws.{put_mean, text_is_wire}
 use Rattle.amqp_json.specs.Meaning.{entry_key, with_entry, meaning, meanings, pairs_in, table_of}
 use Rattle.amqp_json.specs.Puts.{PutsEncodingOf, PutsValues, PutsPairs, PutsScalar, next_token, pairs_read}
 use Rattle.amqp_json.proofs.Turns.{map_twice, map_same, item_read, item_refused, items_over, member_read, member_refused, members_over, key_refused, next_is}
@@ -163,7 +164,7 @@ module _ (at : ℕ) (old mid end new : List ℕ) (place : at ≡ length old + 1)
   pub table_put : (P : Entries → Type 0) (Q : Tree → Type 0) → ((ps : Entries) → P ps → Q (table_of ps)) → mid ≡ old ++ 70 ∷ zeros → PutsPairs P mid end → PutsEncodingOf Q old new
   table_put P Q f headed (w, ps, more, all, is) =
       let done = length_filled 70 at old mid end new w place headed more filled in
-      (70 ∷ long_field w, table_of ps, done.1, wire 70 _ (long_field w) (table_of ps) refl (raw_table w ps (subst (λ n. n < 2 ^ 32) done.0 fits) all), f ps is)
+      (70 ∷ long_field w, table_of ps, done.1, wire 70 _ (long_field w) (table_of ps) refl (raw_table w ps (insert_all no_entries ps) (subst (λ n. n < 2 ^ 32) done.0 fits) all (put_mean ps)), f ps is)
 
 -- ---- what isn't a container
 

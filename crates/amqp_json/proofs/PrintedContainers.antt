@@ -7,7 +7,8 @@ use Rattle.json.specs.Tree.{json_tokens, items_tokens, members_tokens}
 use Rattle.json.specs.Print.{print, print_from}
 use Rattle.amqp_value_core.specs.Maps.{IsRising}
 use Rattle.amqp_value_core.specs.Values as values
-use Rattle.amqp_value_core.specs.Values.{table, insert_all, Tree, Trees, no_trees, tree, Entries, no_entries, entry}
+use Rattle.amqp_value_core.specs.Values.{table, Tree, Trees, no_trees, tree, Entries, no_entries, entry}
+use Rattle.amqp_value_core.specs.Inserting.{insert_all}
 use Rattle.amqp_value_core.specs.Grammar.{Wire, wire, ArrayBody, TableBody}
 use Rattle.amqp_value_core.proofs.GrammarLaws.{rising_pairs}
 use Rattle.amqp_in_place.specs.declared.refs.ArrayRef.{ArrayRef}

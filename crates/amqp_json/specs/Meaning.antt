@@ -15,7 +15,8 @@ use Rattle.amqp_value_core.specs.declared.types.amqp_type.AMQPType.{AMQPType}
 use Rattle.amqp_value_core.specs.declared.types.amqp_type.AMQPType.TheVariants as amqp
 use Rattle.amqp_value_core.specs.Json as core
 use Rattle.amqp_value_core.specs.Values as values
-use Rattle.amqp_value_core.specs.Values.{Tree, scalar, long, octets, table, Trees, no_trees, tree, Entries, no_entries, entry, insert_all}
+use Rattle.amqp_value_core.specs.Values.{Tree, scalar, long, octets, table, Trees, no_trees, tree, Entries, no_entries, entry}
+use Rattle.amqp_value_core.specs.Inserting.{insert_all}
 use Rattle.amqp_json.specs.Names.{type_named}
 
 -- the key begins with one `$` and not with two (past its end `slice_index` is 0)

@@ -43,7 +43,8 @@ RawOutcomeWithin depth type s o = RawOutcomeBy (RawWithin depth type) type s o
 abbrev pub OutcomeWithin : ℕ → List ℕ → Reading → Type 0
 OutcomeWithin depth s o = OutcomeBy (WireWithin depth) s o
 
--- how deep containers nest in an encoding, with every entry that is written: a container counts 1 more than what nests deepest in its body, all that isn't a container 0
+-- how deep containers nest in an encoding, with every entry that is written, as a number: a container
+-- counts 1 more than what nests deepest in its body, all that isn't a container 0
 abbrev mutual
   pub nesting : (w : List ℕ) (v : Tree) → Wire w v → ℕ
   nesting _ _ (wire c type b v is raw) = raw_nesting type b v raw

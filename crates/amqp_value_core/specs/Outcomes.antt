@@ -13,12 +13,13 @@ pub data Reading : Type 0 where
   found : Tree → List ℕ → Reading
   -- that many more bytes are needed for the field that is being read
   more : ℕ → Reading
-  -- the first byte isn't a type tag
+  -- the first byte isn't a type tag; the parsers return the error `MapOpt`
   unknown : Reading
-  -- the outermost length-prefixed field is complete, and no prefix is an encoding
+  -- the outermost length-prefixed field is complete, and no prefix is an encoding; the parsers return
+  -- the error `Eof`
   malformed : Reading
 
--- the width of the length field of a type that has one
+-- the width of the length field of a type that has one (`HasLength`; that of any other isn't used)
 abbrev pub length_field : AMQPType → Width
 length_field amqp.ShortString = w8
 length_field _ = w32
@@ -31,13 +32,15 @@ counted w b = from_be_bytes w (take (byte_len w) b)
 abbrev pub short_of : ℕ → List ℕ → ℕ
 short_of n s = n - length s
 
--- how many more bytes are needed of a length field, and once it is complete of what it counts
+-- how many more bytes are needed: of the length field until it is complete, and then of the field and
+-- what it counts
 abbrev pub frame_lack : Width → List ℕ → ℕ
 frame_lack w b =
     if nat_lt (length b) (byte_len w) then short_of (byte_len w) b
     else short_of (byte_len w + counted w b) b
 
--- how many more bytes a layout's first field needs, and once it is complete all its fields
+-- how many more bytes are needed: of a layout's first field until it is complete, and then of all its
+-- fields
 abbrev pub fields_lack : Layout → List ℕ → ℕ
 fields_lack f b = if nat_lt (length b) f.first then short_of f.first b else short_of f.width b
 

@@ -33,7 +33,7 @@ abbrev mutual
 abbrev pub text : Tree → List ℕ
 text v = after_id v (payload v)
 
--- how long the canonical encoding is
+-- how long the canonical encoding is; laws give it as sums
 abbrev pub size : Tree → ℕ
 size v = length (text v)
 

@@ -15,7 +15,8 @@ pub data Scalar : Type 0 where
   decimal : ℕ → ℕ → Scalar
   void : Scalar
 
--- a value is a tree, and equal values are equal trees
+-- A value is a tree, and equal values are equal trees. Not each tree is a value: `IsValue` in
+-- *InMemory* says which are.
 mutual
   pub data Tree : Type 0 where
     scalar : Scalar → Tree
