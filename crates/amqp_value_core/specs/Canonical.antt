@@ -1,6 +1,6 @@
--- Canonical encodings: those that are known by their bytes alone as the ones that are written. They
--- have the rules of *Grammar*, but no alternate tag, 0 or 1 for a boolean's byte, and each key of a
--- table above the one before it, so that its pairs are its entries.
+-- Canonical encodings, by their bytes alone. The rules are those of *Grammar* without the alternate tags
+-- `U` (85) and `L` (76) and without short strings. A boolean's byte is 0 or 1. Each key of a table is
+-- above the one before it, so the pairs are the table's entries.
 use Rattle.std.specs.Prelude.{ℕ, ◌^◌, ◌<◌, ◌≡◌, ◌≢◌, Some, List, [], ◌∷◌, ◌++◌, length}
 use Rattle.amqp_value_core.specs.declared.types.amqp_type.AMQPType.{AMQPType}
 use Rattle.amqp_value_core.specs.declared.types.amqp_type.AMQPType.TheVariants as amqp
@@ -20,7 +20,7 @@ mutual
   pub data Canon : List ℕ → Tree → Type 0 where
     canon : (c : ℕ) → (type : AMQPType) → (b : List ℕ) → (v : Tree) → kind c ≡ Some type → c ≢ 85 → c ≢ 76 → CanonRaw type b v → Canon (c ∷ b) v
 
-  -- b is the payload in it
+  -- b is the payload of v in such an encoding
   pub data CanonRaw : AMQPType → List ℕ → Tree → Type 0 where
     canon_fixed : (type : AMQPType) → (f : Layout) → (b : List ℕ) → fixed type ≡ Some f → length b ≡ f.width → IsStrict type b → CanonRaw type b (scalar (f.denotes b))
     canon_long : (s : List ℕ) → length s < 2 ^ 32 → CanonRaw amqp.LongString (long_field s) (long s)

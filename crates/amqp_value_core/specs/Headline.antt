@@ -6,8 +6,7 @@ use Rattle.amqp_value_core.specs.Inputs.{IsBytes}
 use Rattle.amqp_value_core.specs.Texts.{text, size, Fits}
 use Rattle.amqp_value_core.specs.Canonical.{Canon}
 
--- what v is that was read from an encoding of n bytes: it can be written again, and is no larger
--- than that
+-- v can be written again, and is no larger than the n bytes from which it was read
 pub record IsWritableIn (n : ℕ) (v : Tree) : Type 0 where
   -- each length in it fits its field, and each value in it has a type tag that is read
   pub fits : Fits v
@@ -22,10 +21,11 @@ pub record IsWritableIn (n : ℕ) (v : Tree) : Type 0 where
 abbrev pub IsShortest : Tree → Type 0
 IsShortest v = (w : List ℕ) → IsBytes w → Wire w v → Wire (text v) v × (length (text v) ≤ length w)
 
--- among values that have encodings the canonical one of v is that of no other
+-- what is written for v is written for no other value: of two values that have encodings
 abbrev pub TellsApart : Tree → Type 0
 TellsApart v = (u : Tree) (w x : List ℕ) → IsBytes w → IsBytes x → Wire w v → Wire x u → (text v ≡ text u) ↔ (v ≡ u)
 
--- w is canonical for v by its bytes (`Canon`) exactly when it is `text v`, and v is readable
+-- w is canonical for v by its bytes (`Canon`) exactly when it is `text v`, and v is readable (for a v that
+-- fits)
 abbrev pub IsCanonical : Tree → Type 0
 IsCanonical v = (w : List ℕ) → IsBytes w → Canon w v ↔ (IsTrue (readable v) × (w ≡ text v))

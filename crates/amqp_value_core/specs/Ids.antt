@@ -33,7 +33,7 @@ letters =
 abbrev pub kind : ℕ → Option AMQPType
 kind c = lookup (nat_eq c) letters
 
--- the type tag that is written for a type
+-- the type tag that is written for a type; that of a short string, `_`, isn't read
 abbrev pub id_of : AMQPType → ℕ
 id_of amqp.Boolean = 116
 id_of amqp.ShortShortInt = 98

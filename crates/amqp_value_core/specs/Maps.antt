@@ -18,7 +18,8 @@ abbrev pub value_at : List ℕ → Entries → Option Tree
 value_at k no_entries = None
 value_at k (entry j v es) = if same_bytes k j then Some v else value_at k es
 
--- the value of the last pair with the key, if a pair has it
+-- the value of the last pair with the key, if a pair has it: of a later pair first (`option_or a b` is
+-- b only if a is None)
 abbrev pub last_at : List ℕ → Entries → Option Tree
 last_at k no_entries = None
 last_at k (entry j v ps) = option_or (last_at k ps) (if same_bytes k j then Some v else None)

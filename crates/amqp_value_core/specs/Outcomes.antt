@@ -54,15 +54,16 @@ lack_of None w b = frame_lack w b
 abbrev pub lack : AMQPType → List ℕ → ℕ
 lack type b = lack_of (fixed type) (length_field type) b
 
--- reading a payload of the type from s results in o, if P holds of payloads and their values: a
--- payload is at the start, more bytes are needed, or the bytes are all there and none is
+-- reading a payload of the type from s results in o, where P says which bytes are a payload of which
+-- value: one is at the start, more bytes are needed, or the bytes are all there and none is
 abbrev pub RawOutcomeBy : (List ℕ → Tree → Type 0) → AMQPType → List ℕ → Reading → Type 0
 RawOutcomeBy P type s (found v rest) = (b : List ℕ) × P b v × (s ≡ b ++ rest)
 RawOutcomeBy P type s (more n) = (0 < n) × (lack type s ≡ n)
 RawOutcomeBy P type s malformed = (lack type s ≡ 0) × ((b rest : List ℕ) (v : Tree) → P b v → s ≡ b ++ rest → ⊥)
 RawOutcomeBy P type s unknown = ⊥
 
--- what reading a value from some bytes results in, if P holds of encodings and their values
+-- what reading a value from some bytes results in, where P says which bytes encode which value; it is
+-- one result (law `one_outcome`)
 pub data OutcomeBy (P : List ℕ → Tree → Type 0) : List ℕ → Reading → Type 0 where
   -- there is no byte, and one is needed
   no_byte : OutcomeBy P [] (more 1)
@@ -89,11 +90,11 @@ HasLength amqp.FieldArray = Unit {0}
 HasLength amqp.FieldTable = Unit {0}
 HasLength _ = ⊥
 
--- a payload of the type allocates: its length counts at least one byte, and all have come
+-- reading a payload of the type may allocate: its length counts at least one byte, and all have come
 abbrev pub RawHeavy : AMQPType → List ℕ → Type 0
 RawHeavy type s = HasLength type × (lack type s ≡ 0) × (0 < counted (length_field type) s)
 
--- a value allocates
+-- reading a value may allocate
 abbrev pub Heavy : List ℕ → Type 0
 Heavy [] = ⊥
 Heavy (c ∷ b) = MatchOption (kind c) ⊥ (λ type. RawHeavy type b)

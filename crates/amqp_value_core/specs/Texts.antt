@@ -1,4 +1,4 @@
--- The canonical encoding of a value: the one that is written for it.
+-- What is written for a value: its canonical encoding (*Canonical*), if it is readable and fits.
 use Rattle.std.specs.Prelude.{ℕ, ◌^◌, ◌<◌, List, [], ◌∷◌, ◌++◌, length}
 use Rattle.amqp_value_core.specs.Values.{Tree, scalar, short, long, octets, array, table, Trees, no_trees, tree, Entries, no_entries, entry, type_of}
 use Rattle.amqp_value_core.specs.Ids.{id_of}
@@ -9,9 +9,8 @@ use Rattle.amqp_value_core.specs.Grammar.{short_field, long_field}
 abbrev pub after_id : Tree → List ℕ → List ℕ
 after_id v b = id_of (type_of v) ∷ b
 
--- the canonical encoding without its type tag; a container's joins the canonical encodings of its
--- entries, after their length: in an array's order, and in the order of a table's keys, each key
--- before its value
+-- what is written after the type tag; of a container the length of its body, and then what is written
+-- for its values, in an array's order, or for its entries, each key before its value
 abbrev mutual
   pub payload : Tree → List ℕ
   payload (scalar x) = spelled x
@@ -29,11 +28,11 @@ abbrev mutual
   pairs no_entries = []
   pairs (entry k v es) = short_field k ++ (after_id v (payload v) ++ pairs es)
 
--- a type tag and the payload
+-- all that is written: a type tag and the payload
 abbrev pub text : Tree → List ℕ
 text v = after_id v (payload v)
 
--- how long the canonical encoding is; laws give it as sums
+-- how many bytes that are; the law `sizes` gives it as a sum
 abbrev pub size : Tree → ℕ
 size v = length (text v)
 

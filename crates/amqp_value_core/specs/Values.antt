@@ -32,7 +32,8 @@ mutual
     no_trees : Trees
     tree : Tree → Trees → Trees
 
-  -- the entries of a table, each a key and a value: in the order of the keys' bytes
+  -- pairs of a key and a value: the entries of a table, in the order of their keys' bytes, or pairs as
+  -- they are written, in any order
   pub data Entries : Type 0 where
     no_entries : Entries
     entry : List ℕ → Tree → Entries → Entries
@@ -94,8 +95,8 @@ abbrev mutual
   entries_count no_entries = 0
   entries_count (entry k v es) = count v + entries_count es
 
--- whether a value that is written can be read: no value in it is a short string, whose type tag
--- isn't read; keys don't count
+-- whether what is written for a value can be read: no value in it is a short string, whose type tag
+-- isn't read; a key isn't a value
 abbrev mutual
   pub readable : Tree → Bool
   readable (short s) = false
@@ -111,7 +112,7 @@ abbrev mutual
   entries_readable no_entries = true
   entries_readable (entry k v es) = readable v && entries_readable es
 
--- the key comes before each key of the entries, if their keys are ascending
+-- the key comes before the first key of the entries, and so before each if their keys ascend
 abbrev pub ComesBefore : List ℕ → Entries → Type 0
 ComesBefore k no_entries = Unit {0}
 ComesBefore k (entry j u es) = slice_cmp nat_cmp k j ≡ Less

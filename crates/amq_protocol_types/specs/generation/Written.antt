@@ -20,11 +20,11 @@ pub record WritesWhatIs (Is : List ℕ → Type 0) (before : OutputState) (resul
   pub never_too_long : (w : List ℕ) → Is w → IsErrOf result LengthTooLong → ⊥
   pub succeeds : (w : List ℕ) → Is w → IfSome before.capacity (λ capacity. length w ≤ capacity → IsOk result)
 
--- so it is with a value's encodings
+-- of a value's encodings: what it was read from is room enough
 abbrev pub WritesWhatWasRead : Tree → OutputState → Result (Unit {0}) GenError → Type 0
 WritesWhatWasRead v before result = WritesWhatIs (λ w. Wire w v) before result
 
--- and with its payloads
+-- and of its payloads
 abbrev pub WritesPayloadRead : AMQPType → Tree → OutputState → Result (Unit {0}) GenError → Type 0
 WritesPayloadRead type v before result = WritesWhatIs (λ b. Raw type b v) before result
 

@@ -39,8 +39,8 @@ HasOneOutcomeWithin l s =
     (extent s ≤ l.frame → (o : Reading) × Within l s o × ((p : Reading) → Within l s p → p ≡ o))
     × ((o : Reading) → l.frame < extent s → Within l s o → ⊥)
 
--- more bytes join the rest after a value, are that many fewer that are needed, and leave an error
--- as it is
+-- more bytes come after the rest of a value, lower the number that is needed, and leave an error as it
+-- is
 abbrev pub KeepsOutcomeWithin : Limits → List ℕ → Type 0
 KeepsOutcomeWithin l s =
     ((o : Reading) (t : List ℕ) → Within l s o → StillWaits o t → Within l (s ++ t) (with_more o t))

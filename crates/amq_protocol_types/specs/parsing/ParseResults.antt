@@ -17,16 +17,16 @@ Refuses s (Error Eof) = Outcome s malformed
 Refuses s (Failure kind) = (kind ≡ OutOfMemory) × Heavy s
 Refuses s _ = ⊥
 
--- an error is right, if `IsError` states which kinds of `Error` are, `Is` what reading the input
--- results in, and memory may run out only if `heavy` holds
+-- an error is right of a parser of which `IsError` says which kinds of `Error` it returns, `Is` what
+-- reading its input results in, and `heavy` whether that may allocate
 abbrev pub RefusesAs : (ErrorKind → Type 0) → (Reading → Type 0) → Type 0 → Refusal → Type 0
 RefusesAs IsError Is heavy (Incomplete Unknown) = ⊥
 RefusesAs IsError Is heavy (Incomplete (Size n)) = Is (more n)
 RefusesAs IsError Is heavy (Error kind) = IsError kind
 RefusesAs IsError Is heavy (Failure kind) = (kind ≡ OutOfMemory) × heavy
 
--- an error is right as it is of reading a value, if `Is` states what reading the input results in, and
--- `heavy` whether that allocates
+-- an error is right of a parser with the errors of a value's, where `Is` says what reading its input
+-- results in, and `heavy` whether that may allocate
 abbrev pub IsRefusal : (Reading → Type 0) → Type 0 → Refusal → Type 0
 IsRefusal Is heavy (Incomplete (Size n)) = Is (more n)
 IsRefusal Is heavy (Error MapOpt) = Is unknown
@@ -38,7 +38,7 @@ IsRefusal Is heavy _ = ⊥
 abbrev pub HasOneOutcome : List ℕ → Type 0
 HasOneOutcome s = (o : Reading) × Outcome s o × ((p : Reading) → Outcome s p → p ≡ o)
 
--- more bytes join the rest after a value, are that many fewer that are needed, and leave an error
--- as it is
+-- more bytes come after the rest of a value, lower the number that is needed, and leave an error as it
+-- is
 abbrev pub KeepsOutcome : List ℕ → Type 0
 KeepsOutcome s = (o : Reading) (t : List ℕ) → Outcome s o → StillWaits o t → Outcome (s ++ t) (with_more o t)

@@ -9,13 +9,15 @@ ghost use Rattle.std.specs.Str.{byte};
 ghost use Rattle.std.specs.Int.{w8, w16, w32, w64, cast_unsigned};
 ghost use Rattle.amqp_value_core.specs.Values.{boolean, number, decimal, void, scalar, short, long, octets, array, trees_of, no_trees, table, entries_of, no_entries, depth, count, readable};
 ghost use Rattle.amqp_value_core.specs.Inserting.{insert};
-ghost use Rattle.amqp_value_core.specs.Maps.{has_key, value_at};
+ghost use Rattle.amqp_value_core.specs.Maps.{has_key, value_at, Mean};
 ghost use Rattle.amqp_value_core.specs.Ids.{kind, id_of};
 ghost use Rattle.amqp_value_core.specs.Names.{read_as};
 ghost use Rattle.amqp_value_core.specs.Outcomes.{found, more, unknown, malformed, Outcome, Heavy, RawHeavy};
 ghost use Rattle.amqp_value_core.specs.Payloads.{RawOutcome};
 ghost use Rattle.amqp_value_core.specs.Decode.{compute_outcome, compute_raw_outcome};
 ghost use Rattle.amqp_value_core.specs.Texts.{text, size};
+ghost use Rattle.amqp_value_core.specs.Canonical.{Canon};
+ghost use Rattle.amqp_value_core.specs.InMemory.{IsValue};
 ghost use Rattle.amqp_value_core.specs.Hexadecimal.{hex};
 
 use amqp_value_core::types::AMQPType;
@@ -194,12 +196,35 @@ pub fn an_empty_table()
     ensures writes { text (table no_entries) ≡ hex "'F' 00000000" }
 {}
 
-/// Of equal keys the last one's value stays, and the key is written once.
+/// Of equal keys the last one's value stays, whatever key is between, and the key is written once.
 pub fn equal_keys()
     ensures reads { compute_outcome (hex "'F' 00000008 01 'a' 't' 01 01 'a' 't' 00")
         ≡ found (table (entries_of ((codes "a", scalar (boolean false)) ∷ []))) [] }
     ensures writes { text (table (entries_of ((codes "a", scalar (boolean false)) ∷ [])))
         ≡ hex "'F' 00000004 01 'a' 't' 00" }
+    ensures between { compute_outcome (hex "'F' 0000000b 01 'a' 't' 01 01 'b' 'V' 01 'a' 't' 00")
+        ≡ found (table (entries_of ((codes "a", scalar (boolean false)) ∷ (codes "b", scalar void) ∷ []))) [] }
+    ensures mean { Mean (entries_of ((codes "a", scalar (boolean true)) ∷ (codes "b", scalar void) ∷ (codes "a", scalar (boolean false)) ∷ []))
+        (entries_of ((codes "a", scalar (boolean false)) ∷ (codes "b", scalar void) ∷ [])) }
+    ensures not_the_first { ¬ Mean (entries_of ((codes "a", scalar (boolean true)) ∷ (codes "a", scalar (boolean false)) ∷ []))
+        (entries_of ((codes "a", scalar (boolean true)) ∷ [])) }
+    ensures not_twice { ¬ Mean (entries_of ((codes "a", scalar void) ∷ (codes "a", scalar void) ∷ []))
+        (entries_of ((codes "a", scalar void) ∷ (codes "a", scalar void) ∷ [])) }
+{}
+
+/// An encoding is canonical by its bytes: with ascending keys, no alternate tag, and 1 for true.
+pub fn canonical_by_bytes()
+    ensures table { Canon (hex "'F' 00000006 01 'a' 'V' 01 'b' 'V'") (table (entries_of ((codes "a", scalar void) ∷ (codes "b", scalar void) ∷ []))) }
+    ensures alternate { ¬ Canon (hex "'U' 0005") (scalar (number AMQPType.ShortInt 5)) }
+    ensures seven { ¬ Canon (hex "'t' 07") (scalar (boolean true)) }
+    ensures short_string { ¬ Canon (hex "'A' 00000003 '_' 01 'x'") (array (trees_of (short (codes "x") ∷ []))) }
+{}
+
+/// A value in memory has ascending keys, and numbers of their types.
+pub fn values_in_memory()
+    ensures number { ¬ IsValue (scalar (number AMQPType.ShortShortInt 256)) }
+    ensures no_number { ¬ IsValue (scalar (number AMQPType.FieldTable 7)) }
+    ensures descending { ¬ IsValue (table (entries_of ((codes "b", scalar void) ∷ (codes "a", scalar void) ∷ []))) }
 {}
 
 /// Keys are read in any order, and written in that of their bytes.
