@@ -5,11 +5,11 @@ pub use Rattle.amq_protocol_types.proofs.lemmas.parsing.Waits.{more_wanted, want
 -- a value within a depth has at most as many bytes as its header counts
 pub use Rattle.amq_protocol_types.proofs.lemmas.parsing.Again.{wire_extent}
 -- when the bytes of a value are all there
-pub use Rattle.amq_protocol_types.proofs.lemmas.parsing.Whole.{found_all, failed_all}
+pub use Rattle.amq_protocol_types.proofs.lemmas.parsing.Whole.{found_all, failed_all, whole_wants_none}
 -- what is ASCII is UTF-8
 pub use Rattle.amq_protocol_types.proofs.lemmas.parsing.Copies.{ascii_is_utf8}
 -- what an error of one reading means for another
-pub use Rattle.amq_protocol_types.proofs.lemmas.parsing.Refused.{IsRefusal-weaker, no_type_outcome, unknown_within}
+pub use Rattle.amq_protocol_types.proofs.lemmas.parsing.Refused.{IsRefusal-weaker, no_type_by, no_type_outcome, unknown_within}
 -- payloads: of types of fixed width, and of a container once its body is read
 pub use Rattle.amq_protocol_types.proofs.lemmas.parsing.Payloads.{unsigned_outcome, void_found}
 pub use Rattle.amq_protocol_types.proofs.lemmas.parsing.Frames.{long_found, octets_found, array_found, array_refused, array_too_deep, table_found, table_refused, table_too_deep}

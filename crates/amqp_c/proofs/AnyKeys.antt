@@ -1,5 +1,5 @@
 -- Encodings in which keys may be any bytes: those of values, and those that are read by these rules.
-use Rattle.std.proofs.Common.{◌≡◌, ◌≤◌, ◌+◌, ◌-◌, ℕ, zero, suc, Option, Some, None, List, [], ◌∷◌, ◌++◌, length, take, drop, Result, Ok, Err, MatchResult, refl, sym, ap, ap₂, ◌∙◌, subst, arith, inl, inr, append-nil, append_assoc, length-append}
+use Rattle.std.proofs.Common.{◌≡◌, ◌≢◌, ◌≤◌, ◌+◌, ◌-◌, ℕ, zero, suc, Option, Some, None, List, [], ◌∷◌, ◌++◌, length, take, drop, Result, Ok, Err, MatchResult, refl, sym, ap, ap₂, ◌∙◌, subst, arith, inl, inr, append-nil, append_assoc, length-append}
 use Rattle.std.specs.Prelude.{option_map}
 use Rattle.std.specs.Int.{Width, byte_len, from_be_bytes}
 use Rattle.std.proofs.lemmas.Bool.{cases_lt, lt-ltb, le-ltb}
@@ -10,8 +10,9 @@ use Rattle.amqp_value_core.specs.Layouts.{Layout, fixed}
 use Rattle.amqp_value_core.specs.Outcomes.{found, length_field, counted}
 use Rattle.amqp_value_core.specs.Values.{Tree, array, table, Trees, Entries}
 use Rattle.amqp_value_core.specs.Grammar.{short_field, Wire, wire, Raw, raw_fixed, raw_short, raw_long, raw_octets, raw_array, raw_table, ArrayBody, no_values, value, TableBody, no_pairs, pair}
-use Rattle.amqp_value_core.specs.Nesting.{nesting, raw_nesting, body_nesting, pairs_nesting}
-use Rattle.amqp_value_core.proofs.GrammarLaws.{prefix_within}
+use Rattle.amqp_value_core.specs.Ids.{kind}
+use Rattle.amqp_value_core.specs.Nesting.{raw_nesting, WireWithin, within_wire, RawWithin, within_plain, within_array, within_table, BodyWithin, within_no_values, within_value, PairsWithin, within_no_pairs, within_pair}
+use Rattle.amqp_value_core.proofs.GrammarLaws.{prefix_within, raw_of, wire_within}
 use Rattle.amq_protocol_types.specs.declared.parsing.limits.Limits.{Limits}
 use Rattle.amq_protocol_types.specs.parsing.Headers.{extent, extent_at, extent_of, raw_extent}
 use Rattle.amq_protocol_types.specs.parsing.Limits.{Within}
@@ -39,33 +40,40 @@ fixed_right d amqp.FieldTable f b row = absurd cc
 fixed_right d _ f b row = refl
 
 -- nor in an encoding within the depth
+-- a payload has as many bytes as it counts
+payload_size : (c : ℕ) (type : AMQPType) (b : List ℕ) (v : Tree) → kind c ≡ Some type → Raw type b v → raw_extent type b ≡ length b
+payload_size c type b v is raw =
+    let whole : extent (c ∷ b) ≡ suc (length b) = ap extent (sym (append-nil (c ∷ b))) ∙ wire_extent (c ∷ b) [] v (wire c type b v is raw) in
+    omega (arith, whole, ap (λ (o : Option AMQPType). extent_at o b) is)
+
+plain_right : (d : ℕ) (type : AMQPType) (b : List ℕ) (v : Tree) → type ≢ amqp.FieldArray → type ≢ amqp.FieldTable → Raw type b v → inside AnyKeys d type b ≡ None
+plain_right d _ _ _ no_array no_table (raw_fixed type f b row wide) = fixed_right d type f b row
+plain_right d _ _ _ no_array no_table (raw_short s is) = refl
+plain_right d _ _ _ no_array no_table (raw_long s fits) = refl
+plain_right d _ _ _ no_array no_table (raw_octets s fits) = refl
+plain_right d _ _ _ no_array no_table (raw_array body vs fits all) = absurd (no_array refl)
+plain_right d _ _ _ no_array no_table (raw_table body ps es fits all mean) = absurd (no_table refl)
+
 mutual
-  wire_right : (d : ℕ) (w : List ℕ) (v : Tree) (p : Wire w v) → nesting w v p ≤ d → IsEncodingBy AnyKeys d w
-  wire_right d _ _ (wire c type b v is raw) deep =
-      let whole : extent (c ∷ b) ≡ suc (length b) = ap extent (sym (append-nil (c ∷ b))) ∙ wire_extent (c ∷ b) [] v (wire c type b v is raw) in
-      let size : raw_extent type b ≡ length b = omega (arith, whole, ap (λ (o : Option AMQPType). extent_at o b) is) in
-      encoding_is AnyKeys d c type b is size (raw_right d type b v raw deep)
+  wire_right : (d : ℕ) (w : List ℕ) (v : Tree) → WireWithin d w v → IsEncodingBy AnyKeys d w
+  wire_right _ _ _ (within_wire d c type b v is raw) =
+      encoding_is AnyKeys d c type b is (payload_size c type b v is (raw_of d type b v raw)) (raw_right d type b v raw)
 
-  raw_right : (d : ℕ) (type : AMQPType) (b : List ℕ) (v : Tree) (p : Raw type b v) → raw_nesting type b v p ≤ d → inside AnyKeys d type b ≡ None
-  raw_right d _ _ _ (raw_fixed type f b row wide) deep = fixed_right d type f b row
-  raw_right d _ _ _ (raw_short s is) deep = refl
-  raw_right d _ _ _ (raw_long s fits) deep = refl
-  raw_right d _ _ _ (raw_octets s fits) deep = refl
-  raw_right zero _ _ _ (raw_array body vs fits all) deep = absurd (omega (arith, deep))
-  raw_right (suc d) _ _ _ (raw_array body vs fits all) deep = ap (option_map (further 5)) (body_right d body vs all (omega (arith, deep)))
-  raw_right zero _ _ _ (raw_table body ps es fits all mean) deep = absurd (omega (arith, deep))
-  raw_right (suc d) _ _ _ (raw_table body ps es fits all mean) deep = ap (option_map (further 5)) (pairs_right d body ps all (omega (arith, deep)))
+  raw_right : (d : ℕ) (type : AMQPType) (b : List ℕ) (v : Tree) → RawWithin d type b v → inside AnyKeys d type b ≡ None
+  raw_right _ _ _ _ (within_plain d type b v no_array no_table p) = plain_right d type b v no_array no_table p
+  raw_right _ _ _ _ (within_array d body vs fits all) = ap (option_map (further 5)) (body_right d body vs all)
+  raw_right _ _ _ _ (within_table d body ps es fits all mean) = ap (option_map (further 5)) (pairs_right d body ps all)
 
-  body_right : (d : ℕ) (b : List ℕ) (vs : Trees) (p : ArrayBody b vs) → body_nesting b vs p ≤ d → AreValuesBy AnyKeys d b
-  body_right d _ _ no_values deep = refl
-  body_right d _ _ (value w rest v vs first others) deep =
-      values_join AnyKeys d w rest (one_value AnyKeys d w (wire_right d w v first (omega (arith, deep)))) (body_right d rest vs others (omega (arith, deep)))
+  body_right : (d : ℕ) (b : List ℕ) (vs : Trees) → BodyWithin d b vs → AreValuesBy AnyKeys d b
+  body_right _ _ _ (within_no_values d) = refl
+  body_right _ _ _ (within_value d w rest v vs first others) =
+      values_join AnyKeys d w rest (one_value AnyKeys d w (wire_right d w v first)) (body_right d rest vs others)
 
-  pairs_right : (d : ℕ) (b : List ℕ) (ps : Entries) (p : TableBody b ps) → pairs_nesting b ps p ≤ d → ArePairsBy AnyKeys d b
-  pairs_right d _ _ no_pairs deep = refl
-  pairs_right d _ _ (pair k w rest v ps key first others) deep =
+  pairs_right : (d : ℕ) (b : List ℕ) (ps : Entries) → PairsWithin d b ps → ArePairsBy AnyKeys d b
+  pairs_right _ _ _ (within_no_pairs d) = refl
+  pairs_right _ _ _ (within_pair d k w rest v ps key first others) =
       subst (ArePairsBy AnyKeys d) (append_assoc (short_field k) w rest)
-      (pairs_join AnyKeys d (short_field k ++ w) rest (one_pair AnyKeys d k w refl (wire_right d w v first (omega (arith, deep)))) (pairs_right d rest ps others (omega (arith, deep))))
+      (pairs_join AnyKeys d (short_field k ++ w) rest (one_pair AnyKeys d k w refl (wire_right d w v first)) (pairs_right d rest ps others))
 
 -- a value that is no container
 abbrev pub IsPlain : Tree → Type 0
@@ -83,16 +91,7 @@ plain_nesting _ _ _ (raw_table body ps es fits all mean) plain = absurd plain
 
 pub plain_reads : (w : List ℕ) (v : Tree) → Wire w v → IsPlain v → (depth : ℕ) → IsEncodingBy AnyKeys depth w
 plain_reads _ _ (wire c type b v is raw) plain depth =
-    wire_right depth (c ∷ b) v (wire c type b v is raw) (omega (arith, plain_nesting type b v raw plain))
-
--- an encoding that is read from the start within limits
-pub prefix_reads : (l : Limits) (s rest w : List ℕ) (v : Tree) → Within l s (found v rest) → w ≡ take (length s - length rest) s
-    → (depth : ℕ) → l.depth ≤ depth → IsEncodingBy AnyKeys depth w
-prefix_reads l s rest w v x is depth deep =
-    let f = prefix_within l.depth s rest v x.1 in
-    let count : length s - length rest ≡ length f.0 = omega (arith, ap length f.2, length-append f.0 rest) in
-    let same : f.0 ≡ w = sym (is ∙ (ap₂ (λ (n : ℕ) (t : List ℕ). take n t) count f.2 ∙ take_at f.0 rest (length f.0) refl)) in
-    subst (IsEncodingBy AnyKeys depth) same (wire_right depth f.0 v f.1.0 (omega (arith, f.1.1, deep)))
+    wire_right depth (c ∷ b) v (wire_within depth (c ∷ b) v (wire c type b v is raw) (omega (arith, plain_nesting type b v raw plain)))
 
 -- ---- what is read if keys may be any bytes
 
@@ -142,6 +141,22 @@ deeper rules d zero type b none =
 deeper rules d (suc n) type b none =
     let same : suc (n + d) ≡ suc n + d = omega arith in
     subst (λ (m : ℕ). inside rules m type b ≡ None) same (inside_deeper rules (n + d) type b (deeper rules d n type b none))
+
+-- an encoding within a depth has none if containers may nest deeper
+wire_deeper : (d depth : ℕ) (w : List ℕ) (v : Tree) → WireWithin d w v → d ≤ depth → IsEncodingBy AnyKeys depth w
+wire_deeper _ depth _ _ (within_wire d c type b v is raw) deep =
+    let same : depth - d + d ≡ depth = omega (arith, deep) in
+    let none : inside AnyKeys depth type b ≡ None = subst (λ (m : ℕ). inside AnyKeys m type b ≡ None) same (deeper AnyKeys d (depth - d) type b (raw_right d type b v raw)) in
+    encoding_is AnyKeys depth c type b is (payload_size c type b v is (raw_of d type b v raw)) none
+
+-- so an encoding that is read from the start within limits
+pub prefix_reads : (l : Limits) (s rest w : List ℕ) (v : Tree) → Within l s (found v rest) → w ≡ take (length s - length rest) s
+    → (depth : ℕ) → l.depth ≤ depth → IsEncodingBy AnyKeys depth w
+prefix_reads l s rest w v x is depth deep =
+    let f = prefix_within l.depth s rest v x.1 in
+    let count : length s - length rest ≡ length f.0 = omega (arith, ap length f.2, length-append f.0 rest) in
+    let same : f.0 ≡ w = sym (is ∙ (ap₂ (λ (n : ℕ) (t : List ℕ). take n t) count f.2 ∙ take_at f.0 rest (length f.0) refl)) in
+    subst (IsEncodingBy AnyKeys depth) same (wire_deeper l.depth depth f.0 v f.1 deep)
 
 -- the bytes of a payload alone have as many as it
 extent_less : (o : Option Layout) (w : Width) (b : List ℕ) (n : ℕ) → n ≡ extent_of o w b → n ≤ length b → extent_of o w (take n b) ≡ n

@@ -7,7 +7,7 @@ use Rattle.std.specs.Cmp.Lexicographic.{bytes_decides}
 use Rattle.amqp_value_core.specs.Values.{Tree, Entries}
 use Rattle.amqp_value_core.specs.Maps.{same_bytes, last_at, value_at}
 use Rattle.amqp_value_core.specs.Grammar.{short_field, Wire, TableBody, no_pairs, pair}
-use Rattle.amqp_value_core.proofs.GrammarLaws.{last_stays, length-wire, one_key as key_and_rest}
+use Rattle.amqp_value_core.proofs.GrammarLaws.{length-wire, one_key as key_and_rest}
 use Rattle.amq_protocol_types.specs.parsing.Headers.{extent}
 use Rattle.amq_protocol_types.proofs.ParsingLaws.{wire_extent}
 use Rattle.amqp_in_place.specs.Bodies.{HasEntries}
@@ -236,7 +236,7 @@ pub found_of : (s all key : List ℕ) (r : Result (Option Entry) Fault) → ((ps
     → (es : Entries) → HasEntries all es → GivesFound s (value_at key es) r
 found_of s all key r gives faithful es (ps, p, is) =
     let (qs, are, same) = laid key all ps p in
-    subst (λ (o : Option Tree). GivesFound s o r) (sym (ap (value_at key) is ∙ last_stays key ps)) (found_by s (last_of key qs) (last_at key ps) r (gives qs are) same faithful)
+    subst (λ (o : Option Tree). GivesFound s o r) (sym (is.last key)) (found_by s (last_of key qs) (last_at key ps) r (gives qs are) same faithful)
 
 -- what is found is true to the values
 pub found_true : (s : List ℕ) (c : Cursor) (key : List ℕ) (r : Result (Option Entry) Fault) → IfOk r (λ o. IfSome o (IsFoundIn s c key)) → IfOk r (λ o. IfSome o (IsTrueTo s))

@@ -18,11 +18,11 @@ use Rattle.amq_protocol_types.specs.declared.parsing.errors.Err.TheVariants.{Inc
 use Rattle.amq_protocol_types.specs.declared.parsing.errors.Needed.TheVariants.{Unknown, Size}
 use Rattle.amq_protocol_types.specs.declared.parsing.errors.ErrorKind.TheVariants as kind
 use Rattle.amq_protocol_types.specs.parsing.Refusals.{Refusal}
-use Rattle.amq_protocol_types.specs.parsing.PayloadResults.{IsType}
+use Rattle.amq_protocol_types.specs.parsing.PayloadResults.{IsType, IsNoType, OnlyLacks}
 use Rattle.amq_protocol_types.specs.parsing.Bodies.{IsLengthPrefixed, IsCutLengthPrefixed}
 use Rattle.amq_protocol_types.specs.parsing.ParseResults.{IsRefusal}
 use Rattle.amq_protocol_types.specs.parsing.Headers.{extent_of, extent_at, extent, wanted}
-use Rattle.amq_protocol_types.proofs.ParsingLaws.{wire_extent, wanted_more, wanted_within}
+use Rattle.amq_protocol_types.proofs.ParsingLaws.{wire_extent, wanted_more, wanted_within, no_type_by}
 use Rattle.amqp_in_place.specs.Bodies.{HasEntries}
 use Rattle.amqp_c.specs.declared.entry.Entry.{Entry}
 use Rattle.amqp_c_common.specs.declared.fault.Fault.{Fault}
@@ -80,8 +80,8 @@ some_lack _ _ no_byte = omega arith
 some_lack _ _ (needs_more c type b n k is) = omega arith
 
 -- an unknown type tag has no extent
-no_extent : (c : ℕ) (b : List ℕ) → Outcome (c ∷ b) unknown → extent (c ∷ b) ≡ 0
-no_extent _ _ (no_tag c b k) = ap (λ (o : Option AMQPType). extent_at o b) k
+no_extent : (s : List ℕ) → Outcome s unknown → extent s ≡ 0
+no_extent _ (no_tag c b k) = ap (λ (o : Option AMQPType). extent_at o b) k
 
 -- if one is right, fewer bytes are there than a header counts
 pub cut_header : (s : List ℕ) (f : Fault) → HeaderFaults (Outcome s) f → IsHeaded s → ⊥
@@ -90,7 +90,7 @@ cut_header (c ∷ b) (More n) x h =
     let is : wanted (c ∷ b) ≡ n = wanted_more Wire (c ∷ b) n x in
     let some : 0 < wanted (c ∷ b) = omega (arith, is, some_lack (c ∷ b) n x) in
     omega (arith, wanted_within (c ∷ b) (omega arith) some, some, h.1)
-cut_header (c ∷ b) UnknownTag x h = omega (arith, no_extent c b x, h.0)
+cut_header (c ∷ b) UnknownTag x h = omega (arith, no_extent (c ∷ b) x, h.0)
 cut_header (c ∷ b) Malformed x h = x
 cut_header (c ∷ b) TooLarge x h = x
 cut_header (c ∷ b) Invalid x h = x
@@ -116,6 +116,21 @@ cut : (s mid : List ℕ) (type : AMQPType) → IsType s type mid → has_content
 cut s mid type p h o x =
     let needed : RawOutcome type mid o = subst (RawOutcome type mid) (sym x.1) (x.0, has_frame type mid h) in
     subst (λ (t : List ℕ). Outcome t o) (sym p.1) (raw_to_value p.0 type mid o p.2 needed)
+
+-- what reads no type isn't malformed, and its error is one of the header
+no_type_whole : (s : List ℕ) → IsNoType s malformed → ⊥
+no_type_whole [] is = cc
+no_type_whole (c ∷ b) is = let e : malformed ≡ unknown = is.0 in cc
+
+pub no_type_fault : (s : List ℕ) (e : Refusal) → IsRefusal (IsNoType s) ⊥ e → HeaderFaults (Outcome s) (fault_of e)
+no_type_fault s (Incomplete Unknown) x = absurd x
+no_type_fault s (Incomplete (Size n)) x = no_type_by Wire s (more n) x
+no_type_fault s (Error kind.MapOpt) x = no_type_by Wire s unknown x
+no_type_fault s (Error kind.Eof) x = absurd (no_type_whole s x)
+no_type_fault s (Error kind.MapRes) x = absurd x
+no_type_fault s (Error kind.OutOfMemory) x = absurd x
+no_type_fault s (Error kind.TooLarge) x = absurd x
+no_type_fault s (Failure k) x = absurd x.1
 
 pub cut_fault : (s mid : List ℕ) (type : AMQPType) → IsType s type mid → has_content type ≡ true → (e : Refusal) → IsRefusal (IsCutLengthPrefixed mid) ⊥ e → HeaderFaults (Outcome s) (fault_of e)
 cut_fault s mid type p h (Incomplete Unknown) x = absurd x
@@ -263,6 +278,13 @@ never_malformed mid type h r (whole, none) =
     let there = fields_there row.0 mid (sym (ap (λ (o : Option Layout). lack_of o (length_field type) mid) row.1) ∙ whole) in
     let b = take row.0.width mid in
     none b (drop row.0.width mid) (scalar (row.0.denotes b)) (raw_fixed type row.0 b row.1 (length-take-le row.0.width mid there)) (sym (take-append-drop row.0.width mid))
+
+-- more bytes of a payload are needed for the value
+pub lacks_only : (s mid : List ℕ) (type : AMQPType) → IsType s type mid → (e : Refusal) → OnlyLacks (RawOutcome type mid) ⊥ e → IsRefusal (Outcome s) ⊥ e
+lacks_only s mid type p (Incomplete Unknown) x = x
+lacks_only s mid type p (Incomplete (Size n)) x = subst (λ (t : List ℕ). Outcome t (more n)) (sym p.1) (raw_to_value p.0 type mid (more n) p.2 x)
+lacks_only s mid type p (Error k) x = absurd x
+lacks_only s mid type p (Failure k) x = x
 
 pub scalar_fault : (s mid : List ℕ) (type : AMQPType) → IsType s type mid → has_content type ≡ false → read_as type ≡ Some type → (e : Refusal) → IsRefusal (Outcome s) ⊥ e
     → HeaderFaults (Outcome s) (fault_of e)

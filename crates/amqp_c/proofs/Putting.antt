@@ -7,7 +7,7 @@ use Rattle.amqp_value_core.specs.Grammar.{Wire}
 use Rattle.amqp_value_core.specs.Outcomes.{found}
 use Rattle.amqp_value_core.specs.Texts.{text}
 use Rattle.amqp_value_core.specs.Values.{Tree, Scalar, number, scalar, long, octets}
-use Rattle.amqp_value_core.proofs.GrammarLaws.{text_is_wire, prefix_within}
+use Rattle.amqp_value_core.proofs.GrammarLaws.{text_is_wire, prefix_within, wire_of}
 use Rattle.amq_protocol_types.specs.declared.parsing.limits.Limits.{Limits}
 use Rattle.amq_protocol_types.specs.parsing.Headers.{extent}
 use Rattle.amq_protocol_types.specs.parsing.Limits.{Within}
@@ -128,10 +128,10 @@ prefix l s rest w v x is =
     let f = prefix_within l.depth s rest v x.1 in
     let count : length s - length rest ≡ length f.0 = omega (arith, ap length f.2, length-append f.0 rest) in
     let same : f.0 ≡ w = sym (is ∙ (ap₂ (λ (n : ℕ) (t : List ℕ). take n t) count f.2 ∙ take_at f.0 rest (length f.0) refl)) in
-    ((rest, x, f.2 ∙ ap (λ (t : List ℕ). t ++ rest) same), subst (λ (t : List ℕ). Wire t v) same f.1.0)
+    ((rest, x, f.2 ∙ ap (λ (t : List ℕ). t ++ rest) same), subst (λ (t : List ℕ). Wire t v) same (wire_of l.depth f.0 v f.1))
 
 -- and it is no longer than the limit
 pub within_frame : (l : Limits) (s rest : List ℕ) (v : Tree) → l.frame < 2 ^ 32 → Within l s (found v rest) → length (take (length s - length rest) s) < 2 ^ 32
 within_frame l s rest v few x =
     let f = prefix_within l.depth s rest v x.1 in
-    omega (arith, few, x.0, ap extent f.2, wire_extent f.0 rest v f.1.0, ap length f.2, length-append f.0 rest, length-take-le (length s - length rest) s (omega arith))
+    omega (arith, few, x.0, ap extent f.2, wire_extent f.0 rest v (wire_of l.depth f.0 v f.1), ap length f.2, length-append f.0 rest, length-take-le (length s - length rest) s (omega arith))

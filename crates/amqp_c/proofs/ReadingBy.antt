@@ -8,7 +8,7 @@ use Rattle.amqp_value_core.specs.Ids.{kind}
 use Rattle.amqp_value_core.specs.Values.{Tree, scalar, short, long, octets, array, table, type_of}
 use Rattle.amqp_value_core.specs.Nesting.{WireWithin, OutcomeWithin}
 use Rattle.amqp_value_core.specs.Outcomes.{found, more, unknown, no_tag, Outcome}
-use Rattle.amqp_value_core.proofs.GrammarLaws.{prefix_within, wire_found}
+use Rattle.amqp_value_core.proofs.GrammarLaws.{prefix_within, wire_found, wire_of}
 use Rattle.amq_protocol_types.specs.declared.parsing.header.Header.{Header}
 use Rattle.amq_protocol_types.specs.declared.parsing.header.Header.TheVariants as header
 use Rattle.amq_protocol_types.specs.declared.parsing.limits.Limits.{Limits}
@@ -16,7 +16,7 @@ use Rattle.amq_protocol_types.specs.parsing.Bodies.{IsLengthPrefixed}
 use Rattle.amq_protocol_types.specs.parsing.Headers.{extent, extent_at, raw_extent, wanted, wanted_at}
 use Rattle.amq_protocol_types.specs.parsing.Limits.{Within, IsHeader}
 use Rattle.amq_protocol_types.specs.parsing.Untagged.{tagged}
-use Rattle.amq_protocol_types.proofs.ParsingLaws.{wanted_more}
+use Rattle.amq_protocol_types.proofs.ParsingLaws.{wanted_more, whole_wants_none}
 use Rattle.amqp_in_place.specs.declared.problems.Problem as in_place
 use Rattle.amqp_in_place.specs.declared.problems.ProblemKind.{ProblemKind}
 use Rattle.amqp_in_place.specs.declared.problems.ProblemKind.TheVariants as problem
@@ -79,7 +79,7 @@ pub value_read : (l : Limits) (s : List ℕ) (done : Result Entry Fault) → Fin
     → IfOk done (IsEntryAtStart s) → IfOk done (EntryIsIn (length s)) → MatchResult done (IsValueTaken l s) (FaultsWithin l s)
 value_read l s done (v, rest, x) faithful =
     let f = prefix_within l.depth s rest v x.1 in
-    value_taken l s rest v done x (faithful v rest (subst (λ (t : List ℕ). Outcome t (found v rest)) (sym f.2) (wire_found f.0 rest v f.1.0)))
+    value_taken l s rest v done x (faithful v rest (subst (λ (t : List ℕ). Outcome t (found v rest)) (sym f.2) (wire_found f.0 rest v (wire_of l.depth f.0 v f.1))))
 
 -- a table has the extent that its length counts
 prefixed_first : (s : List ℕ) (e : Entry) → IsPrefixedTable s e → IsFirstTable s e
@@ -127,7 +127,7 @@ pub table_read : (l : Limits) (s : List ℕ) (done : Result Entry Fault) → Fin
 table_read l s (Ok e) (v, left, x) whole (body, rest, f, is) =
     let t = tagged amqp.FieldTable s in
     let w = prefix_within l.depth t left v x.1 in
-    let there : Outcome t (found v left) = subst (λ (u : List ℕ). Outcome u (found v left)) (sym w.2) (wire_found w.0 left v w.1.0) in
+    let there : Outcome t (found v left) = subst (λ (u : List ℕ). Outcome u (found v left)) (sym w.2) (wire_found w.0 left v (wire_of l.depth w.0 v w.1)) in
     let c = content_at_start amqp.FieldTable s body rest f refl v left (payload_at_start t s amqp.FieldTable (70, refl, refl) v left there) in
     taken_is l s body rest left e v f is x c.0 c.1 c.2
 table_read l s (Err f) finds whole x = absurd (x whole)
@@ -142,7 +142,7 @@ unknown_wants _ (no_tag c b k) = ap (λ (o : Option AMQPType). wanted_at o b) k
 lacks_wanted : (frame : ℕ) (s : List ℕ) (n : ℕ) (k : ProblemKind) (h : Header) → IsHeader frame s h → (frame < extent s → fault_at n k 0 ≡ fault_at n k (wanted s))
     → fault_at n k (header_lack h) ≡ fault_at n k (wanted s)
 lacks_wanted frame s n k (header.Lacks m) is large = ap (fault_at n k) is.2
-lacks_wanted frame s n k header.Whole is large = ap (fault_at n k) (sym is.1.0)
+lacks_wanted frame s n k header.Whole is large = ap (fault_at n k) (sym (whole_wants_none s is.1))
 lacks_wanted frame s n k header.Unknown is large = ap (fault_at n k) (sym (unknown_wants s is.0))
 lacks_wanted frame s n k header.TooLarge is large = large is
 

@@ -6,7 +6,7 @@ use Rattle.amqp_value_core.specs.Values.{Tree}
 use Rattle.amqp_value_core.specs.Outcomes.{found}
 use Rattle.amqp_value_core.specs.Texts.{text}
 use Rattle.amqp_value_core.proofs.Bytes.{bytes_before}
-use Rattle.amqp_value_core.proofs.GrammarLaws.{canon_is_text, prefix_within, read_is_value, text_is_canon, what_is_read}
+use Rattle.amqp_value_core.proofs.GrammarLaws.{canon_is_text, prefix_within, read_is_value, text_is_canon, what_is_read, wire_of}
 use Rattle.amq_protocol_types.specs.declared.parsing.limits.Limits.{Limits}
 use Rattle.amq_protocol_types.specs.parsing.Limits.{Within}
 use Rattle.amqp_in_place.specs.Canonicals.{IsCanonicalLen}
@@ -37,8 +37,8 @@ module _ (l : Limits) (given s : List ℕ) (k : ℕ) (bytes : IsBytes s) (same :
   other_spelled v rest none within left =
       let after = left_is given rest left in
       let f = prefix_within l.depth s rest v within.1 in
-      let read = what_is_read f.0 v f.1.0 in
-      let is = read_is_value f.0 v (bytes_before f.0 rest (subst IsBytes f.2 bytes)) f.1.0 in record {
+      let read = what_is_read f.0 v (wire_of l.depth f.0 v f.1) in
+      let is = read_is_value f.0 v (bytes_before f.0 rest (subst IsBytes f.2 bytes)) (wire_of l.depth f.0 v f.1) in record {
         meaning = v;
         read = subst (λ (t : List ℕ). Within l s (found v t)) after within;
         inside = omega arith;

@@ -5,7 +5,7 @@ use Rattle.amqp_value_core.specs.Values.{Tree}
 use Rattle.amqp_value_core.specs.Outcomes.{found}
 use Rattle.amqp_value_core.specs.Texts.{text}
 use Rattle.amqp_value_core.proofs.Bytes.{bytes_before}
-use Rattle.amqp_value_core.proofs.GrammarLaws.{canon_is_text, prefix_within, bounded_wire}
+use Rattle.amqp_value_core.proofs.GrammarLaws.{canon_is_text, prefix_within, bounded_wire, wire_of}
 use Rattle.amqp_value_core.specs.Inputs.{IsBytes}
 use Rattle.amq_protocol_types.specs.declared.parsing.errors.Err.TheVariants.{Incomplete, Error, Failure}
 use Rattle.amq_protocol_types.specs.declared.parsing.errors.Needed.TheVariants.{Unknown, Size}
@@ -26,7 +26,7 @@ use Rattle.amqp_c_alloc.specs.CanonicalCalls.{IsValueReadWithin, IsCanonicalWrit
 is_read : (l : Limits) (s rest : List ℕ) (v : Tree) → Within l s (found v rest) → IsValueReadWithin l s v rest
 is_read l s rest v x =
     let f = prefix_within l.depth s rest v x.1 in
-    (x, omega (arith, (bounded_wire f.0 v f.1.0).size, ap length f.2, length-append f.0 rest))
+    (x, omega (arith, (bounded_wire f.0 v (wire_of l.depth f.0 v f.1)).size, ap length f.2, length-append f.0 rest))
 
 -- what is put is the canonical encoding of the value that was read
 pub put_value : (l : Limits) (s bytes old new rest : List ℕ) (v : Tree) (r : Result ℕ Fault) → Within l s (found v rest) → bytes ≡ text v

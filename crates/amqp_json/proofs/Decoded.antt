@@ -5,7 +5,7 @@ use Rattle.amqp_value_core.specs.Values.{Tree}
 use Rattle.amqp_value_core.specs.Outcomes.{found}
 use Rattle.amqp_value_core.specs.Inputs.{IsBytes}
 use Rattle.amqp_value_core.proofs.Bytes.{bytes_before}
-use Rattle.amqp_value_core.proofs.GrammarLaws.{prefix_within}
+use Rattle.amqp_value_core.proofs.GrammarLaws.{prefix_within, wire_of}
 use Rattle.amq_protocol_types.specs.declared.parsing.limits.Limits.{Limits}
 use Rattle.amq_protocol_types.specs.parsing.Limits.{Within}
 use Rattle.amqp_json.specs.Conversions.{IsJsonOf, IsOrderedJsonOf, IsJsonWritten, IsNotWritten}
@@ -19,7 +19,7 @@ use Rattle.amqp_json.proofs.ReadBack.{text_is_read}
 pub within_has_json : (l : Limits) (s rest : List ℕ) (v : Tree) → IsBytes s → Within l s (found v rest) → HasJson v
 within_has_json l s rest v bytes x =
     let prefix = prefix_within l.depth s rest v x.1 in
-    has_json prefix.0 v (bytes_before prefix.0 rest (subst IsBytes prefix.2 bytes)) prefix.1.0
+    has_json prefix.0 v (bytes_before prefix.0 rest (subst IsBytes prefix.2 bytes)) (wire_of l.depth prefix.0 v prefix.1)
 
 pub decoded : (l : Limits) (s rest t : List ℕ) (v : Tree) → IsBytes s → Within l s (found v rest) → t ≡ json_text v → IsJsonOf l s t rest
 decoded l s rest t v bytes x is =

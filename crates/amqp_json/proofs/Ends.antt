@@ -11,7 +11,7 @@ use Rattle.amqp_value_core.specs.Grammar.{Wire}
 use Rattle.amqp_value_core.specs.Texts.{text}
 use Rattle.amqp_value_core.specs.InMemory.{IsValue}
 use Rattle.amqp_value_core.specs.Outcomes.{Reading, found, more, unknown, malformed, Outcome}
-use Rattle.amqp_value_core.proofs.GrammarLaws.{one_outcome, one_reading, prefix_within, wire_found, text_is_wire, what_is_read}
+use Rattle.amqp_value_core.proofs.GrammarLaws.{one_outcome, one_reading, prefix_within, wire_found, text_is_wire, what_is_read, wire_of}
 use Rattle.amqp_json.specs.Conversions.{IsEncodingOf, IsRefused}
 use Rattle.amqp_json.specs.Meaning.{meaning, meant}
 use Rattle.amqp_json.specs.Puts.{IsEncodedAsItComes, OnRefusal}
@@ -34,7 +34,7 @@ same_value s rest v u is o =
 pub as_written : (l : Limits) (t s b : List ℕ) → IsEncodedAsItComes t s → b ≡ s → IsReadAsWritten l b → IsEncodingOf t s
 as_written l t s b (v, means, is) slice (u, within, same) =
     let f = prefix_within l.depth b [] u within.1 in
-    let one = one_reading s f.0 [] [] v u is f.1.0 (append-nil s ∙ sym slice ∙ f.2) in
+    let one = one_reading s f.0 [] [] v u is (wire_of l.depth f.0 u f.1) (append-nil s ∙ sym slice ∙ f.2) in
     (v, means, sym slice ∙ same ∙ ap text (sym one.1))
 
 -- the canonical encoding of the value of an encoding is one too

@@ -8,9 +8,8 @@ use Rattle.json.specs.Print.{print, print_from}
 use Rattle.amqp_value_core.specs.Maps.{IsRising}
 use Rattle.amqp_value_core.specs.Values as values
 use Rattle.amqp_value_core.specs.Values.{table, Tree, Trees, no_trees, tree, Entries, no_entries, entry}
-use Rattle.amqp_value_core.specs.Inserting.{insert_all}
 use Rattle.amqp_value_core.specs.Grammar.{Wire, wire, ArrayBody, TableBody}
-use Rattle.amqp_value_core.proofs.GrammarLaws.{rising_pairs}
+use Rattle.amqp_value_core.proofs.GrammarLaws.{one_mean, rising_mean}
 use Rattle.amqp_in_place.specs.declared.refs.ArrayRef.{ArrayRef}
 use Rattle.amqp_in_place.specs.declared.refs.TableRef.{TableRef}
 use Rattle.amqp_in_place.specs.Refs.{array_body, table_body, Denotes}
@@ -96,7 +95,7 @@ table_put a p c None r x is rises puts = puts
 table_put a p c (Some e) r x is rises puts = λ v denotes.
     let means : Denotes (at.FieldTable x) v = subst (λ (y : ValueRef). Denotes y v) is denotes in
     let (es, has, same) = means in
-    let pairs : es ≡ has.0 = has.2 ∙ rising_pairs has.0 (rises has.0 has.1) in
+    let pairs : es ≡ has.0 = one_mean has.0 has.0 es has.0 refl has.2 (rising_mean has.0 (rises has.0 has.1)) in
     subst (λ (u : Tree). PutsJson a p c e (written u)) (sym (same ∙ ap table pairs)) (puts has.0 has.1)
 
 -- ---- what is left is no longer

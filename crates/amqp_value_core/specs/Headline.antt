@@ -21,11 +21,11 @@ pub record IsWritableIn (n : ℕ) (v : Tree) : Type 0 where
 abbrev pub IsShortest : Tree → Type 0
 IsShortest v = (w : List ℕ) → IsBytes w → Wire w v → Wire (text v) v × (length (text v) ≤ length w)
 
--- what is written for v is written for no other value: of two values that have encodings
+-- of two values that have encodings the same is written exactly if they are equal
 abbrev pub TellsApart : Tree → Type 0
 TellsApart v = (u : Tree) (w x : List ℕ) → IsBytes w → IsBytes x → Wire w v → Wire x u → (text v ≡ text u) ↔ (v ≡ u)
 
--- w is canonical for v by its bytes (`Canon`) exactly when it is `text v`, and v is readable (for a v that
--- fits)
+-- w is canonical for v by its bytes (`Canon`) exactly when it is `text v`, and v is readable; so of each v
+-- that was written
 abbrev pub IsCanonical : Tree → Type 0
 IsCanonical v = (w : List ℕ) → IsBytes w → Canon w v ↔ (IsTrue (readable v) × (w ≡ text v))

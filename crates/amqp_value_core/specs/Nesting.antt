@@ -10,8 +10,8 @@ use Rattle.amqp_value_core.specs.Outcomes.{Reading, RawOutcomeBy, OutcomeBy}
 use Rattle.amqp_value_core.specs.Grammar.{short_field, long_field, Wire, Raw, ArrayBody, TableBody, wire, raw_fixed, raw_short, raw_long, raw_octets, raw_array, raw_table, no_values, value, no_pairs, pair}
 
 mutual
-  -- w is an encoding of v in which containers nest at most `depth` deep, with every entry that is
-  -- written
+  -- w is an encoding of v in which containers nest at most `depth` deep, also in pairs of a table whose
+  -- key comes again
   pub data WireWithin : ℕ → List ℕ → Tree → Type 0 where
     within_wire : (depth : ℕ) → (c : ℕ) → (type : AMQPType) → (b : List ℕ) → (v : Tree) → kind c ≡ Some type → RawWithin depth type b v → WireWithin depth (c ∷ b) v
 
@@ -19,7 +19,7 @@ mutual
   pub data RawWithin : ℕ → AMQPType → List ℕ → Tree → Type 0 where
     -- of what isn't a container: any
     within_plain : (depth : ℕ) → (type : AMQPType) → (b : List ℕ) → (v : Tree) → type ≢ amqp.FieldArray → type ≢ amqp.FieldTable → Raw type b v → RawWithin depth type b v
-    -- of a container: one whose values nest 1 less
+    -- of a container: if each of its values nests at most 1 less deep, so none within 0
     within_array : (depth : ℕ) → (body : List ℕ) → (vs : Trees) → length body < 2 ^ 32 → BodyWithin depth body vs → RawWithin (suc depth) amqp.FieldArray (long_field body) (array vs)
     within_table : (depth : ℕ) → (body : List ℕ) → (ps : Entries) → (es : Entries) → length body < 2 ^ 32 → PairsWithin depth body ps → Mean ps es
         → RawWithin (suc depth) amqp.FieldTable (long_field body) (table es)
@@ -35,8 +35,8 @@ mutual
     within_pair : (depth : ℕ) → (k : List ℕ) → (w : List ℕ) → (rest : List ℕ) → (v : Tree) → (ps : Entries) → IsShort k → WireWithin depth w v → PairsWithin depth rest ps
         → PairsWithin depth (short_field k ++ (w ++ rest)) (entry k v ps)
 
--- reading a payload of the type, or a value, results in o if containers nest at most `depth`
--- deep
+-- reading a payload of the type, or a value, results in o, where only encodings count in which
+-- containers nest at most `depth` deep; a complete one that nests deeper is malformed
 abbrev pub RawOutcomeWithin : ℕ → AMQPType → List ℕ → Reading → Type 0
 RawOutcomeWithin depth type s o = RawOutcomeBy (RawWithin depth type) type s o
 

@@ -11,7 +11,8 @@ use Rattle.amqp_value_core.specs.Grammar.{Wire}
 pub data Reading : Type 0 where
   -- a value, and the bytes after its encoding
   found : Tree → List ℕ → Reading
-  -- that many more bytes are needed for the field that is being read
+  -- that many more bytes are needed: for the first field of the outermost payload or its length, and
+  -- then for the whole payload
   more : ℕ → Reading
   -- the first byte isn't a type tag; the parsers return the error `MapOpt`
   unknown : Reading
@@ -61,6 +62,8 @@ RawOutcomeBy P type s (found v rest) = (b : List ℕ) × P b v × (s ≡ b ++ re
 RawOutcomeBy P type s (more n) = (0 < n) × (lack type s ≡ n)
 RawOutcomeBy P type s malformed = (lack type s ≡ 0) × ((b rest : List ℕ) (v : Tree) → P b v → s ≡ b ++ rest → ⊥)
 RawOutcomeBy P type s unknown = ⊥
+
+-- `(x : A) × B` reads: there is an x with B. `(x : A) → B` reads: for each x, B.
 
 -- what reading a value from some bytes results in, where P says which bytes encode which value; it is
 -- one result (law `one_outcome`)

@@ -32,7 +32,7 @@ abbrev mutual
 abbrev pub text : Tree → List ℕ
 text v = after_id v (payload v)
 
--- how many bytes that are; the law `sizes` gives it as a sum
+-- how many bytes those are; the law `sizes` gives it as a sum
 abbrev pub size : Tree → ℕ
 size v = length (text v)
 

@@ -112,7 +112,8 @@ abbrev mutual
   entries_readable no_entries = true
   entries_readable (entry k v es) = readable v && entries_readable es
 
--- the key comes before the first key of the entries, and so before each if their keys ascend
+-- the key comes before the first key of the entries, and so before each if their keys ascend: at the
+-- first byte that differs it has the smaller one, or it is a proper prefix
 abbrev pub ComesBefore : List ℕ → Entries → Type 0
 ComesBefore k no_entries = Unit {0}
 ComesBefore k (entry j u es) = slice_cmp nat_cmp k j ≡ Less

@@ -1,4 +1,5 @@
--- The tree that an `AMQPValue` denotes.
+-- The tree that an `AMQPValue` denotes: its variant, with each content as its number or its bytes, and
+-- each value in it as its tree, in the order of the array or of the table's keys.
 use Rattle.std.specs.Prelude.{map}
 use Rattle.std.specs.Int.{w8, w16, w32, w64, cast_unsigned}
 use Rattle.amqp_value_core.specs.declared.types.amqp_type.AMQPType.TheVariants as amqp

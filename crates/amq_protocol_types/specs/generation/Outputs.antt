@@ -12,9 +12,9 @@ pub record OutputState : Type 0 where
   pub written : Option (List ℕ)
   -- its position
   pub position : ℕ
-  -- how many more bytes fit; `None` if the capacity is open
+  -- how many more bytes fit; `None` if no number is fixed, as of a vector or a device
   pub capacity : Option ℕ
-  -- that many further bytes can't be rejected
+  -- so many further bytes are sure to be taken
   pub promise : ℕ
   -- how often its device failed
   pub faults : ℕ
@@ -27,6 +27,7 @@ HasFailed before after = (before.faults < after.faults) ⊎ (after.faults ≡ 2 
 
 -- some bytes were written, and only they
 pub record Wrote (lengths : Type 0) (bytes : List ℕ) (before after : OutputState) : Type 0 where
+  -- if the output reports its bytes, they are those before and then these
   pub appended : Appends before.written after.written bytes
   pub moved : after.position ≡ before.position + length bytes
   -- what was after the position is cut by as many
@@ -44,19 +45,23 @@ pub record Stays (before after : OutputState) : Type 0 where
 
 -- when each error may come
 pub record MayFail (is_buffer : Bool) (lengths : Type 0) (bytes : List ℕ) (before after : OutputState) (e : GenError) : Type 0 where
+  -- the capacity is fixed, and the bytes don't fit it
   pub too_small : e ≡ BufferTooSmall → (capacity : ℕ) × (before.capacity ≡ Some capacity) × (capacity < length bytes)
+  -- not each length fits its field
   pub too_long : e ≡ LengthTooLong → lengths → ⊥
+  -- its device failed
   pub failed : (kind : ErrorKind) → e ≡ IoError kind → HasFailed before after
+  -- the position after the bytes wouldn't be below 2^64
   pub offset : e ≡ InvalidOffset → 2 ^ 64 ≤ before.position + length bytes
   -- only a buffer may run out of memory; by `no_other` its capacity is open
   pub memory : e ≡ OutOfMemory → IsTrue is_buffer
   pub no_other : IsSome before.capacity → (e ≡ BufferTooSmall) ⊎ (e ≡ LengthTooLong)
 
 -- A call wrote `bytes`, or was rejected. `lengths` means that each length in what it writes fits its
--- field.
+-- field, `is_buffer` that the output is a buffer: it reports its bytes, and what is rejected adds none.
 pub record Writes (is_buffer : Bool) (lengths : Type 0) (bytes : List ℕ) (before : OutputState) (result : Result (Unit {0}) GenError) (after : OutputState) : Type 0 where
   pub wrote : OnOk result (Wrote lengths bytes before after)
-  -- an error leaves a buffer as it was
+  -- an error leaves the position of a buffer, the bytes before it and the capacity as they were
   pub stays : IsTrue is_buffer → OnErr result (Stays before after)
   -- with fixed capacity it succeeds whenever each length fits its field, and the bytes fit the capacity
   pub succeeds : lengths → IfSome before.capacity (λ capacity. length bytes ≤ capacity → IsOk result)

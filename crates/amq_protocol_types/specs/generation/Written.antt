@@ -20,11 +20,11 @@ pub record WritesWhatIs (Is : List ℕ → Type 0) (before : OutputState) (resul
   pub never_too_long : (w : List ℕ) → Is w → IsErrOf result LengthTooLong → ⊥
   pub succeeds : (w : List ℕ) → Is w → IfSome before.capacity (λ capacity. length w ≤ capacity → IsOk result)
 
--- of a value's encodings: what it was read from is room enough
+-- so of a value's encodings: if it has any, a capacity of as many bytes as any of them is enough
 abbrev pub WritesWhatWasRead : Tree → OutputState → Result (Unit {0}) GenError → Type 0
 WritesWhatWasRead v before result = WritesWhatIs (λ w. Wire w v) before result
 
--- and of its payloads
+-- and of its payloads of a type
 abbrev pub WritesPayloadRead : AMQPType → Tree → OutputState → Result (Unit {0}) GenError → Type 0
 WritesPayloadRead type v before result = WritesWhatIs (λ b. Raw type b v) before result
 
@@ -32,7 +32,7 @@ WritesPayloadRead type v before result = WritesWhatIs (λ b. Raw type b v) befor
 pub record IsReadBackAndCanonical (v : Tree) : Type 0 where
   -- it is a value in memory
   pub value : IsValue v
-  -- its encoding is read as it, whatever follows, or rejected if the value isn't readable
+  -- what was written is read as it, whatever follows, or rejected if the value isn't readable
   pub read_back : (rest : List ℕ) → Outcome (text v ++ rest) (read_back v rest)
   pub canonical : IsCanonical v
 

@@ -30,8 +30,8 @@ abbrev pub wanted_at : Option AMQPType → List ℕ → ℕ
 wanted_at None b = 0
 wanted_at (Some type) b = lack type b
 
--- how many more bytes are needed for the field that is being read; 0 if the bytes of the payload
--- are all there, or there is no type tag
+-- how many more bytes are needed for the field that is being read: 1 if there is no byte; 0 if the
+-- first isn't a type tag, or the bytes of the payload are all there
 abbrev pub wanted : List ℕ → ℕ
 wanted [] = 1
 wanted (c ∷ b) = wanted_at (kind c) b

@@ -23,8 +23,8 @@ use Rattle.amq_protocol_types.specs.parsing.Headers.{extent, wanted, IsWholeValu
 abbrev pub Within : Limits → List ℕ → Reading → Type 0
 Within l s o = (extent s ≤ l.frame) × OutcomeWithin l.depth s o
 
--- an error of reading s within limits is right: those of reading without a limit, and that the value
--- is too large
+-- an error of reading s within limits is right: `TooLarge` if the value has more bytes than the limit
+-- `frame` allows, `Eof` also if containers nest too deep, and the others as without limits
 abbrev pub RefusesWithin : Limits → List ℕ → Refusal → Type 0
 RefusesWithin l s (Error TooLarge) = l.frame < extent s
 RefusesWithin l s (Incomplete (Size n)) = Within l s (more n)
@@ -88,7 +88,7 @@ pub record IsReadWithin (l : Limits) (n : ℕ) (v : Tree) : Type 0 where
   pub shortest : IsShortestWithin l.depth v
   pub injective : TellsApartWithin l.depth v
 
--- what a header determines, if none may have more than `frame` bytes
+-- what a header determines, if no value may have more than `frame` bytes
 abbrev pub IsHeader : ℕ → List ℕ → Header → Type 0
 IsHeader frame s header.Unknown = Outcome s unknown × (extent s ≤ frame)
 IsHeader frame s header.TooLarge = frame < extent s

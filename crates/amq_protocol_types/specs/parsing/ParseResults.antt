@@ -8,7 +8,7 @@ use Rattle.amq_protocol_types.specs.declared.parsing.errors.ErrorKind.{ErrorKind
 use Rattle.amq_protocol_types.specs.declared.parsing.errors.ErrorKind.TheVariants.{MapOpt, Eof, OutOfMemory}
 use Rattle.amq_protocol_types.specs.parsing.Refusals.{Refusal}
 
--- an error of reading a value from s is right: that many more bytes are needed, the first byte isn't a
+-- reading a value from s may return the error: that many more bytes are needed, the first byte isn't a
 -- type tag, no prefix is an encoding, or an allocation failed
 abbrev pub Refuses : List ℕ → Refusal → Type 0
 Refuses s (Incomplete (Size n)) = Outcome s (more n)
@@ -17,16 +17,15 @@ Refuses s (Error Eof) = Outcome s malformed
 Refuses s (Failure kind) = (kind ≡ OutOfMemory) × Heavy s
 Refuses s _ = ⊥
 
--- an error is right of a parser of which `IsError` says which kinds of `Error` it returns, `Is` what
--- reading its input results in, and `heavy` whether that may allocate
+-- a parser may return the error: `IsError` says which kinds of `Error`, `Is` what reading its input
+-- results in, and `heavy` whether that may allocate
 abbrev pub RefusesAs : (ErrorKind → Type 0) → (Reading → Type 0) → Type 0 → Refusal → Type 0
 RefusesAs IsError Is heavy (Incomplete Unknown) = ⊥
 RefusesAs IsError Is heavy (Incomplete (Size n)) = Is (more n)
 RefusesAs IsError Is heavy (Error kind) = IsError kind
 RefusesAs IsError Is heavy (Failure kind) = (kind ≡ OutOfMemory) × heavy
 
--- an error is right of a parser with the errors of a value's, where `Is` says what reading its input
--- results in, and `heavy` whether that may allocate
+-- so if its errors are those of a value's parser: `MapOpt` for `unknown`, and `Eof` for `malformed`
 abbrev pub IsRefusal : (Reading → Type 0) → Type 0 → Refusal → Type 0
 IsRefusal Is heavy (Incomplete (Size n)) = Is (more n)
 IsRefusal Is heavy (Error MapOpt) = Is unknown

@@ -11,7 +11,8 @@ use Rattle.amq_protocol_types.specs.declared.parsing.errors.ErrorKind.TheVariant
 use Rattle.amq_protocol_types.specs.parsing.Refusals.{Refusal}
 use Rattle.amq_protocol_types.specs.parsing.ParseResults.{RefusesAs}
 
--- an error is right that comes only if more bytes are needed, or if an allocation failed
+-- a parser may return the error, if its only errors are that more bytes are needed, and that an
+-- allocation failed
 abbrev pub OnlyLacks : (Reading → Type 0) → Type 0 → Refusal → Type 0
 OnlyLacks Is heavy e = RefusesAs (λ _. ⊥) Is heavy e
 
@@ -21,7 +22,7 @@ abbrev pub bad_kind : AMQPType → ErrorKind
 bad_kind amqp.ShortString = MapRes
 bad_kind _ = Eof
 
--- an error of reading a payload of the type from s is right
+-- reading a payload of the type from s may return the error
 abbrev pub RawRefuses : AMQPType → List ℕ → Refusal → Type 0
 RawRefuses type s e = RefusesAs (λ kind. (kind ≡ bad_kind type) × RawOutcome type s malformed) (RawOutcome type s) (RawHeavy type s) e
 

@@ -1,7 +1,9 @@
 use Rattle.std.proofs.Common.{List, ℕ, length, Ok, subst, sym}
 use Rattle.amqp_value_core.specs.Outcomes.{Outcome, found}
-use Rattle.amqp_c.specs.CallResults.{GivesFirst}
+use Rattle.amqp_c.specs.CallResults.{GivesFirst, HeaderFaults}
+use Rattle.amqp_c_common.specs.Spans.{part}
 use Rattle.amqp_c.specs.Entries.{IsEntryAtStart, EntryIsIn}
+use Rattle.amqp_c.proofs.Prefixes.{cut_header}
 use Rattle.amqp_c.proofs.Stepping.{first_given, tagged_placed, faithful_placed}
 use Rattle.amqp_c.proofs.cursor.first_of.Goals as goal
 
@@ -34,3 +36,10 @@ returns-clause-faithful c =
     (faithful_placed s c.args.left c.args.key e c.requires.left (subst (λ (t : List ℕ). EntryIsIn (length t) e) is c.in-Ok.ensures.inside) at_start.1
     (λ v rest x. subst (λ (t : List ℕ). GivesFirst t v rest (Ok e)) is
     (c.in-Ok.ensures.faithful v rest (subst (λ (t : List ℕ). Outcome t (found v rest)) (sym is) x))))
+
+pub returns-in_default-clause-cut : goal.returns-in_default-clause-cut
+returns-in_default-clause-cut c = λ whole.
+    let is = c.part.ensures in
+    let s = part c.args.bytes.now c.args.left in
+    let f = c.in_default.field-0 in
+    cut_header s f (subst (λ (t : List ℕ). HeaderFaults (Outcome t) f) is c.in_default.ensures.refused) whole

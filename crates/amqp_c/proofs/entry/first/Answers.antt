@@ -1,12 +1,13 @@
 use Rattle.std.proofs.Common.{◌≡◌, ◌+◌, ◌-◌, ℕ, true, false, List, length, refl, sym, ap, ◌∙◌, subst, arith, length-append}
 use Rattle.std.proofs.lemmas.Result.{err_from_is_err_and}
 use Rattle.amqp_value_core.specs.Inputs.{slice_bytes}
-use Rattle.amq_protocol_types.specs.parsing.PayloadResults.{IsType}
+use Rattle.amq_protocol_types.specs.parsing.PayloadResults.{IsType, IsNoType}
+use Rattle.amq_protocol_types.specs.parsing.ParseResults.{IsRefusal}
 use Rattle.amqp_value_core.specs.Grammar.{long_field}
 use Rattle.amqp_c_common.specs.ReturnCodes.{fault_of}
 use Rattle.amqp_c.specs.declared.entry.Entry.{Entry}
 use Rattle.amqp_c.specs.Heads.{has_content}
-use Rattle.amqp_c.proofs.Prefixes.{is_tagged, never_faulty, cut_fault, scalar_fault, frame_extent, frame_length, found_extent, content_entry, scalar_entry, found_shorter}
+use Rattle.amqp_c.proofs.Prefixes.{is_tagged, never_faulty, no_type_fault, cut_fault, scalar_fault, frame_extent, frame_length, found_extent, content_entry, scalar_entry, found_shorter}
 use Rattle.amqp_c.proofs.entry.first.Goals as goal
 
 pub returns-in_err-rest-clause-refused : goal.returns-in_err-rest-clause-refused
@@ -107,3 +108,16 @@ returns-clause-faithful c = λ v left y.
     } in
     let is = scalar_entry s mid x.1 c.in_ok-payload.amqp_type x.0 p (sym c.has_content.ensures ∙ c.if-has_content.false) c.in_ok-payload.ensures.read_back x.2 e refl x.3 refl c.tag_of-tag.ensures x.4 x.5 v left y in
     (is.0, refl, omega (arith, ap length is.1, x.3))
+
+pub returns-in_err-payload-clause-refused : goal.returns-in_err-payload-clause-refused
+returns-in_err-payload-clause-refused c =
+    let s = c.args.bytes.now in
+    let e = c.in_err-payload.field-0.0 in
+    let r = err_from_is_err_and c.from_residual.result c.from_residual.ensures.1 in
+    rw (r.1, r.2) (no_type_fault s e (subst (λ (t : List ℕ). IsRefusal (IsNoType t) ⊥ e) c.new.ensures c.in_err-payload.ensures.id))
+
+pub returns-in_err-payload-clause-faithful : goal.returns-in_err-payload-clause-faithful
+returns-in_err-payload-clause-faithful c = λ v rest x.
+    let s = c.args.bytes.now in
+    let e = c.in_err-payload.field-0.0 in
+    absurd (never_faulty s rest v (fault_of e) x (no_type_fault s e (subst (λ (t : List ℕ). IsRefusal (IsNoType t) ⊥ e) c.new.ensures c.in_err-payload.ensures.id)))
