@@ -33,8 +33,7 @@ pub mod Headline
 pub mod Contents
 -- the tree that a value in memory denotes (25 lines)
 pub mod View
-
--- What other contracts cite.
+-- ---- what other contracts cite
 
 -- what types are called
 pub mod Names
@@ -59,8 +58,7 @@ pub mod Equality
 pub mod Decided
 pub mod Getters
 pub mod Json
-
--- What only proofs and worked examples use.
+-- ---- what only proofs and worked examples use
 
 -- what holds of all that are in a container
 pub mod Members

@@ -1,12 +1,11 @@
-use Rattle.std.proofs.Common.{◌≡◌, ℕ, List, [], ◌∷◌, rules, refl, subst, arith, ap, sym}
+use Rattle.std.proofs.Common.{◌≡◌, ℕ, List, [], ◌∷◌, rules, refl, subst, arith}
 use Rattle.std.specs.Str.{is_utf8, chars}
 use lib.Utf8.{encode}
 use Rattle.amqp_value_core.specs.declared.types.amqp_type.AMQPType.{AMQPType}
 use Rattle.amqp_value_core.specs.declared.types.amqp_type.AMQPType.TheVariants as amqp
 use Rattle.amqp_value_core.specs.Canonical.{IsStrict, canon, CanonRaw, canon_fixed, canon_long, canon_octets, canon_array, canon_table}
 use Rattle.amqp_value_core.specs.Values.{Tree}
-use Rattle.amqp_value_core.specs.Hexadecimal.{hex}
-use Rattle.amqp_value_core.proofs.GrammarLaws.{text_is_canon, is_canonical}
+use Rattle.amqp_value_core.proofs.GrammarLaws.{text_is_canon, canon_fits}
 use Rattle.test_codec.proofs.worked.encodings.canonical_by_bytes.Goals as goal
 
 pub returns-clause-table : goal.returns-clause-table
@@ -28,4 +27,4 @@ pub returns-clause-seven : goal.returns-clause-seven
 returns-clause-seven c (canon _ type b v k not_U not_L raw) = not_seven type b v raw (cc k) refl
 
 pub returns-clause-short_string : goal.returns-clause-short_string
-returns-clause-short_string c x = (is_canonical _ (hex "'A' 00000003 '_' 01 'x'") (search rules)).0 x .0
+returns-clause-short_string c x = cc (canon_fits _ _ x).1
