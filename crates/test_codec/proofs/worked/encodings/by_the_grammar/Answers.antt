@@ -23,3 +23,9 @@ returns-clause-refused_key c = outcome_holds (hex "'F' 00000003 01 ff 'V'") (sea
 pub returns-clause-refused_text : goal.returns-clause-refused_text
 unfolding is_utf8 chars encode
 returns-clause-refused_text c = raw_outcome_holds amqp.ShortString (hex "01 ff") (search rules)
+
+pub returns-clause-lacks : goal.returns-clause-lacks
+returns-clause-lacks c = outcome_holds (hex "'A' 0000000a 'z'") (search rules)
+
+pub returns-clause-unknown : goal.returns-clause-unknown
+returns-clause-unknown c = outcome_holds (hex "'z' 'V'") (search rules)
