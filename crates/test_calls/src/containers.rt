@@ -15,52 +15,64 @@ use std::fmt::Debug;
 pub fn answer<R: Eprint>(rt: &R, alloc: Global, call: &str, words: &[&str]) -> Answer {
     match (call, words) {
         ("push", [array, value]) => {
-            let (array, value) = (value_of(alloc, *array)?, value_of(alloc, *value)?);
-            let AMQPValue::FieldArray(mut array) = array else {
-                return Err(Trouble::Unknown);
-            };
-            let pushed = call!(rt; array.push(value));
-            changed(alloc, pushed, array_text(alloc, &array)?.as_str())
+            push(
+                rt,
+                alloc,
+                value_of(alloc, *array)?,
+                value_of(alloc, *value)?,
+            )
         }
-        ("insert", [table, key, value]) => {
-            let mut table = table_of(alloc, *table)?;
-            let (key, value) = (short_string(alloc, *key)?, value_of(alloc, *value)?);
-            let inserted = match call!(rt; table.insert(key, value)) {
-                Ok(same) => Ok(table_text(alloc, same)?),
-                Err(error) => Err(error),
-            };
-            let text = table_text(alloc, &table)?;
-            match inserted {
-                Ok(same) if same.as_str() == text.as_str() => changed(
-                    alloc,
-                    Ok::<(), ()>(()),
-                    &text,
-                ),
-                Ok(other) => Ok(format!(in alloc; "ok {text} and {other} returned")?),
-                Err(error) => changed(alloc, Err(error), &text),
-            }
-        }
-        ("place", [table, key, value]) => {
-            let mut table = table_of(alloc, *table)?;
-            let (key, value) = (short_string(alloc, *key)?, value_of(alloc, *value)?);
-            let placed = call!(rt; table.place(key, value));
-            changed(alloc, placed, table_text(alloc, &table)?.as_str())
-        }
-        ("contains_key", [table, key]) => {
-            let (table, key) = (table_of(alloc, *table)?, text_of(alloc, *key)?);
-            let is_there = call!(rt; table.contains_key(key.as_str()));
-            Ok(format!(in alloc; "{is_there}")?)
-        }
+        ("insert", [table, key, value]) => insert(rt, alloc, *table, *key, *value),
+        ("place", [table, key, value]) => place(rt, alloc, *table, *key, *value),
+        ("contains_key", [table, key]) => contains_key(rt, alloc, *table, *key),
         ("walk", [table]) => walk(alloc, &table_of(alloc, *table)?),
-        ("from_values", values) => {
-            let mut items = Vec::new(alloc);
-            for value in values {
-                items.push(value_of(alloc, *value)?)?;
-            }
-            Ok(array_text(alloc, &FieldArray::from(items))?)
-        }
+        ("from_values", values) => from_values(alloc, values),
         _ => made(rt, alloc, call, words),
     }
+}
+
+fn push<R: Eprint>(rt: &R, alloc: Global, array: AMQPValue, value: AMQPValue) -> Answer {
+    let AMQPValue::FieldArray(mut array) = array else {
+        return Err(Trouble::Unknown);
+    };
+    let pushed = call!(rt; array.push(value));
+    changed(alloc, pushed, array_text(alloc, &array)?.as_str())
+}
+
+fn insert<R: Eprint>(rt: &R, alloc: Global, table: &str, key: &str, value: &str) -> Answer {
+    let mut table = table_of(alloc, table)?;
+    let (key, value) = (short_string(alloc, key)?, value_of(alloc, value)?);
+    let inserted = match call!(rt; table.insert(key, value)) {
+        Ok(same) => Ok(table_text(alloc, same)?),
+        Err(error) => Err(error),
+    };
+    let text = table_text(alloc, &table)?;
+    match inserted {
+        Ok(same) if same.as_str() == text.as_str() => changed(alloc, Ok::<(), ()>(()), &text),
+        Ok(other) => Ok(format!(in alloc; "ok {text} and {other} returned")?),
+        Err(error) => changed(alloc, Err(error), &text),
+    }
+}
+
+fn place<R: Eprint>(rt: &R, alloc: Global, table: &str, key: &str, value: &str) -> Answer {
+    let mut table = table_of(alloc, table)?;
+    let (key, value) = (short_string(alloc, key)?, value_of(alloc, value)?);
+    let placed = call!(rt; table.place(key, value));
+    changed(alloc, placed, table_text(alloc, &table)?.as_str())
+}
+
+fn contains_key<R: Eprint>(rt: &R, alloc: Global, table: &str, key: &str) -> Answer {
+    let (table, key) = (table_of(alloc, table)?, text_of(alloc, key)?);
+    let is_there = call!(rt; table.contains_key(key.as_str()));
+    Ok(format!(in alloc; "{is_there}")?)
+}
+
+fn from_values(alloc: Global, values: &[&str]) -> Answer {
+    let mut items = Vec::new(alloc);
+    for value in values {
+        items.push(value_of(alloc, *value)?)?;
+    }
+    Ok(array_text(alloc, &FieldArray::from(items))?)
 }
 
 /// What a table made of entries is.

@@ -24,34 +24,42 @@ pub fn answer<R: Eprint>(rt: &R, alloc: Global, call: &str, words: &[&str]) -> A
     };
     let bytes = bytes_of(alloc, *word)?;
     let bytes = bytes.as_slice();
-    Ok(match call {
-        "dissect" => match call!(rt; dissect(alloc, bytes, LIMITS)) {
-            Ok(Dissection { parts, offset, end }) => {
-                let parts = parts_text(alloc, parts.as_slice())?;
-                format!(in alloc; "{parts}{end:?} at {offset}")?
-            }
-            Err(error) => format!(in alloc; "{error:?}")?,
-        },
-        "dissect_partial" => match call!(rt; dissect_partial(alloc, bytes, LIMITS)) {
-            Ok(
-                Partial {
-                    parts,
-                    reached,
-                    problem,
-                    end,
-                    offset,
-                },
-            ) => {
-                let parts = parts_text(alloc, parts.as_slice())?;
-                format!(in alloc; "{parts}{reached} {problem:?}; {end:?} at {offset}")?
-            }
-            Err(error) => format!(in alloc; "{error:?}")?,
-        },
+    match call {
+        "dissect" => whole(rt, alloc, bytes),
+        "dissect_partial" => partial(rt, alloc, bytes),
         _ => match call!(rt; escape(alloc, bytes)) {
-            Ok(text) => format!(in alloc; "\"{text}\"")?,
-            Err(error) => format!(in alloc; "{error:?}")?,
+            Ok(text) => Ok(format!(in alloc; "\"{text}\"")?),
+            Err(error) => Ok(format!(in alloc; "{error:?}")?),
         },
-    })
+    }
+}
+
+fn whole<R: Eprint>(rt: &R, alloc: Global, bytes: &[u8]) -> Answer {
+    match call!(rt; dissect(alloc, bytes, LIMITS)) {
+        Ok(Dissection { parts, offset, end }) => {
+            let parts = parts_text(alloc, parts.as_slice())?;
+            Ok(format!(in alloc; "{parts}{end:?} at {offset}")?)
+        }
+        Err(error) => Ok(format!(in alloc; "{error:?}")?),
+    }
+}
+
+fn partial<R: Eprint>(rt: &R, alloc: Global, bytes: &[u8]) -> Answer {
+    match call!(rt; dissect_partial(alloc, bytes, LIMITS)) {
+        Ok(
+            Partial {
+                parts,
+                reached,
+                problem,
+                end,
+                offset,
+            },
+        ) => {
+            let parts = parts_text(alloc, parts.as_slice())?;
+            Ok(format!(in alloc; "{parts}{reached} {problem:?}; {end:?} at {offset}")?)
+        }
+        Err(error) => Ok(format!(in alloc; "{error:?}")?),
+    }
 }
 
 fn parts_text(alloc: Global, parts: &[Part<'_>]) -> Result<String, AllocError> {

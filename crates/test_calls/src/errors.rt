@@ -59,21 +59,27 @@ fn error_of(alloc: Global, words: &[&str]) -> Result<Error, Trouble> {
 
 /// The error of this name that holds something.
 fn error_with(alloc: Global, name: &str, word: &str) -> Result<Error, Trouble> {
-    Ok(match name {
-        "GenError::IoError" => Error::from(GenError::IoError(kind_of(word)?)),
-        "StreamError::Read" => Error::from(StreamError::Read(kind_of(word)?)),
-        "StreamError::Refused" => match parser_error(alloc, word)? {
-            Err::Error(error) => Error::from(StreamError::Refused(error)),
-            _ => return Err(Trouble::Unknown),
-        },
-        "ParserError::Error" => Error::from(parser_error(alloc, word)?),
-        "ParserError::Incomplete" => Error::from(incomplete(Needed::Size(number(word)?))),
-        "ShortStringError" => Error::from(too_long(alloc, number(word)?)?),
-        "TryCopyError::TooLong" => {
-            Error::from(TryCopyError::TooLong(too_long(alloc, number(word)?)?))
-        }
-        _ => return Err(Trouble::Unknown),
-    })
+    match name {
+        "GenError::IoError" => Ok(Error::from(GenError::IoError(kind_of(word)?))),
+        "StreamError::Read" => Ok(Error::from(StreamError::Read(kind_of(word)?))),
+        "StreamError::Refused" => refused(parser_error(alloc, word)?),
+        "ParserError::Error" => Ok(Error::from(parser_error(alloc, word)?)),
+        "ParserError::Incomplete" => Ok(Error::from(incomplete(Needed::Size(number(word)?)))),
+        "ShortStringError" => Ok(Error::from(too_long(alloc, number(word)?)?)),
+        "TryCopyError::TooLong" => too_long_to_copy(alloc, number(word)?),
+        _ => Err(Trouble::Unknown),
+    }
+}
+
+fn refused(error: ParserError) -> Result<Error, Trouble> {
+    match error {
+        Err::Error(error) => Ok(Error::from(StreamError::Refused(error))),
+        _ => Err(Trouble::Unknown),
+    }
+}
+
+fn too_long_to_copy(alloc: Global, length: usize) -> Result<Error, Trouble> {
+    Ok(Error::from(TryCopyError::TooLong(too_long(alloc, length)?)))
 }
 
 fn incomplete(needed: Needed) -> ParserError {

@@ -8,6 +8,7 @@ use super::parse::error_text;
 use super::values::{table_text, value_text};
 use super::words::{bytes_of, digits, number};
 use super::{Answer, Trouble, json};
+use amq_protocol_types::parsing::ParserError;
 use amqp_in_place::rabbitmq::{self, Warned, warnings, warnings_in_table};
 use amqp_in_place::{
     Limits, Measure, Problem, Rules, TableRef, ValueRef, canonical_len, canonical_table_len,
@@ -104,13 +105,26 @@ pub fn answer<R: Eprint>(rt: &R, alloc: Global, call: &str, words: &[&str]) -> A
 fn by_limits<R: Eprint>(rt: &R, alloc: Global, request: Request<'_>) -> Answer {
     let mut text = within(rt, alloc, request, WIDE)?;
     let whole = String::from_str(alloc, text.as_str())?;
+    let last = String::from_str(alloc, text.as_str())?;
     let tried = if request.bytes.len() < 1000 {
         SHORT
     } else {
         LONG
     };
+    by_frames(rt, alloc, request, tried, &mut text, last)?;
+    by_depths(rt, alloc, request, tried, &mut text, whole)?;
+    Ok(text)
+}
+
+fn by_frames<R: Eprint>(
+    rt: &R,
+    alloc: Global,
+    request: Request<'_>,
+    tried: Tried,
+    text: &mut String,
+    mut last: String,
+) -> Result<(), Trouble> {
     let most = request.bytes.len().saturating_add(tried.beyond);
-    let mut last = String::from_str(alloc, whole.as_str())?;
     for fewer in 0..tried.frames {
         let Some(frame) = most.checked_sub(fewer) else {
             break;
@@ -120,21 +134,40 @@ fn by_limits<R: Eprint>(rt: &R, alloc: Global, request: Request<'_>) -> Answer {
             Err(_) => return Err(Trouble::Unknown),
         };
         let answer = within(rt, alloc, request, Limits { frame, ..WIDE })?;
-        if answer.as_str() != last.as_str() {
-            write!(text, "; frame {frame} {answer}")?;
-            last = answer;
-        }
+        push_change(text, &mut last, "frame", frame, answer)?;
     }
-    last = whole;
+    Ok(())
+}
+
+fn by_depths<R: Eprint>(
+    rt: &R,
+    alloc: Global,
+    request: Request<'_>,
+    tried: Tried,
+    text: &mut String,
+    mut last: String,
+) -> Result<(), Trouble> {
     for fewer in 0..=tried.depth {
         let depth = tried.depth.saturating_sub(fewer);
         let answer = within(rt, alloc, request, Limits { depth, ..WIDE })?;
-        if answer.as_str() != last.as_str() {
-            write!(text, "; depth {depth} {answer}")?;
-            last = answer;
-        }
+        push_change(text, &mut last, "depth", depth, answer)?;
     }
-    Ok(text)
+    Ok(())
+}
+
+/// Adds an answer to the text if it isn't the last one, with the limit that it is of.
+fn push_change(
+    text: &mut String,
+    last: &mut String,
+    limit: &str,
+    value: u32,
+    answer: String,
+) -> Result<(), AllocError> {
+    if answer.as_str() != last.as_str() {
+        write!(text, "; {limit} {value} {answer}")?;
+        *last = answer;
+    }
+    Ok(())
 }
 
 /// What a call answers within limits.
@@ -146,46 +179,14 @@ fn within<R: Eprint>(rt: &R, alloc: Global, request: Request<'_>, limits: Limits
         levels,
     } = request;
     match call {
-        "read_in_place" => match call!(rt; read_in_place(bytes, limits)) {
-            Ok((value, rest)) => read_text(rt, alloc, value, rest),
-            Err(error) => error_text(alloc, error),
-        },
-        "read_table_in_place" => match call!(rt; read_table_in_place(bytes, limits)) {
-            Ok((table, rest)) => table_read_text(rt, alloc, table, rest),
-            Err(error) => error_text(alloc, error),
-        },
-        "measure_value" => match call!(rt; measure_value(bytes, limits)) {
-            Ok(measure) => measure_text(alloc, measure),
-            Err(error) => error_text(alloc, error),
-        },
-        "measure_table" => match call!(rt; measure_table(bytes, limits)) {
-            Ok(measure) => measure_text(alloc, measure),
-            Err(error) => error_text(alloc, error),
-        },
-        "canonical_len" => {
-            let len = call!(rt; canonical_len(bytes, limits));
-            let is_whole = call!(rt; is_canonical(bytes, limits));
-            Ok(format!(in alloc; "{len:?} {is_whole}")?)
-        }
-        "canonical_table_len" => {
-            let len = call!(rt; canonical_table_len(bytes, limits));
-            let is_whole = call!(rt; is_canonical_table(bytes, limits));
-            Ok(format!(in alloc; "{len:?} {is_whole}")?)
-        }
-        "first_problem" => problems_text(
-            alloc,
-            call!(rt; first_problem(bytes, Rules::Reading, limits)),
-            call!(rt; first_problem(bytes, Rules::AnyKeys, limits)),
-            call!(rt; first_problem(bytes, Rules::RabbitMq, limits)),
-            call!(rt; rabbitmq::first_problem(bytes, limits)),
-        ),
-        "first_problem_in_table" => problems_text(
-            alloc,
-            call!(rt; first_problem_in_table(bytes, Rules::Reading, limits)),
-            call!(rt; first_problem_in_table(bytes, Rules::AnyKeys, limits)),
-            call!(rt; first_problem_in_table(bytes, Rules::RabbitMq, limits)),
-            call!(rt; rabbitmq::first_problem_in_table(bytes, limits)),
-        ),
+        "read_in_place" => read(rt, alloc, bytes, limits),
+        "read_table_in_place" => read_table(rt, alloc, bytes, limits),
+        "measure_value" => measured(alloc, call!(rt; measure_value(bytes, limits))),
+        "measure_table" => measured(alloc, call!(rt; measure_table(bytes, limits))),
+        "canonical_len" => canonical(rt, alloc, bytes, limits),
+        "canonical_table_len" => canonical_table(rt, alloc, bytes, limits),
+        "first_problem" => problems(rt, alloc, bytes, limits),
+        "first_problem_in_table" => problems_in_table(rt, alloc, bytes, limits),
         "warnings" => warnings_text(
             alloc,
             call!(rt; warnings(alloc, bytes, limits, frame_max, levels)),
@@ -197,6 +198,52 @@ fn within<R: Eprint>(rt: &R, alloc: Global, request: Request<'_>, limits: Limits
         "json_of_encoding" => json::of_encoding(rt, alloc, bytes, limits),
         _ => Err(Trouble::Unknown),
     }
+}
+
+fn read<R: Eprint>(rt: &R, alloc: Global, bytes: &[u8], limits: Limits) -> Answer {
+    match call!(rt; read_in_place(bytes, limits)) {
+        Ok((value, rest)) => read_text(rt, alloc, value, rest),
+        Err(error) => error_text(alloc, error),
+    }
+}
+
+fn read_table<R: Eprint>(rt: &R, alloc: Global, bytes: &[u8], limits: Limits) -> Answer {
+    match call!(rt; read_table_in_place(bytes, limits)) {
+        Ok((table, rest)) => table_read_text(rt, alloc, table, rest),
+        Err(error) => error_text(alloc, error),
+    }
+}
+
+fn canonical<R: Eprint>(rt: &R, alloc: Global, bytes: &[u8], limits: Limits) -> Answer {
+    let len = call!(rt; canonical_len(bytes, limits));
+    let is_whole = call!(rt; is_canonical(bytes, limits));
+    Ok(format!(in alloc; "{len:?} {is_whole}")?)
+}
+
+fn canonical_table<R: Eprint>(rt: &R, alloc: Global, bytes: &[u8], limits: Limits) -> Answer {
+    let len = call!(rt; canonical_table_len(bytes, limits));
+    let is_whole = call!(rt; is_canonical_table(bytes, limits));
+    Ok(format!(in alloc; "{len:?} {is_whole}")?)
+}
+
+fn problems<R: Eprint>(rt: &R, alloc: Global, bytes: &[u8], limits: Limits) -> Answer {
+    problems_text(
+        alloc,
+        call!(rt; first_problem(bytes, Rules::Reading, limits)),
+        call!(rt; first_problem(bytes, Rules::AnyKeys, limits)),
+        call!(rt; first_problem(bytes, Rules::RabbitMq, limits)),
+        call!(rt; rabbitmq::first_problem(bytes, limits)),
+    )
+}
+
+fn problems_in_table<R: Eprint>(rt: &R, alloc: Global, bytes: &[u8], limits: Limits) -> Answer {
+    problems_text(
+        alloc,
+        call!(rt; first_problem_in_table(bytes, Rules::Reading, limits)),
+        call!(rt; first_problem_in_table(bytes, Rules::AnyKeys, limits)),
+        call!(rt; first_problem_in_table(bytes, Rules::RabbitMq, limits)),
+        call!(rt; rabbitmq::first_problem_in_table(bytes, limits)),
+    )
 }
 
 /// The copy of a value in place, and the bytes after it.
@@ -223,13 +270,17 @@ pub fn with_rest(alloc: Global, held: String, rest: &[u8]) -> Answer {
     Ok(format!(in alloc; "ok {held} rest {rest}")?)
 }
 
-fn measure_text(alloc: Global, measure: Measure) -> Answer {
-    let Measure {
-        bytes,
-        values,
-        levels,
-    } = measure;
-    Ok(format!(in alloc; "bytes {bytes} values {values} levels {levels}")?)
+fn measured(alloc: Global, measure: Result<Measure, ParserError>) -> Answer {
+    match measure {
+        Ok(
+            Measure {
+                bytes,
+                values,
+                levels,
+            },
+        ) => { Ok(format!(in alloc; "bytes {bytes} values {values} levels {levels}")?) }
+        Err(error) => error_text(alloc, error),
+    }
 }
 
 /// The first problem by each of the rules, or once if it is the same by all.

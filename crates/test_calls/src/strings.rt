@@ -11,44 +11,51 @@ use std::hash::{DefaultHasher, Hash, Hasher};
 /// What a call of strings answers.
 pub fn answer<R: Eprint>(rt: &R, alloc: Global, call: &str, words: &[&str]) -> Answer {
     match (call, words) {
-        ("try_new", [text]) => {
-            let text = text_of(alloc, *text)?;
-            let length = text.len();
-            match call!(rt; ShortString::try_new(text)) {
-                Ok(string) => short_text(alloc, string),
-                Err(error) if error.length() == length => Ok(format!(in alloc; "error {error}")?),
-                Err(error) => Ok(format!(in alloc; "error {error} not {length}")?),
-            }
-        }
-        ("try_copy", [text]) => {
-            let text = text_of(alloc, *text)?;
-            match call!(rt; ShortString::try_copy(alloc, text.as_str())) {
-                Ok(string) => short_text(alloc, string),
-                Err(TryCopyError::TooLong(error)) => Ok(format!(in alloc; "error {error}")?),
-                Err(TryCopyError::OutOfMemory) => Ok(format!(in alloc; "OutOfMemory")?),
-            }
-        }
-        ("order", [one, other]) => {
-            let (first, second) = (short_string(alloc, *one)?, short_string(alloc, *other)?);
-            let short = ordered(alloc, &first, &second)?;
-            let bytes = order_of_bytes(alloc, bytes_of(alloc, *one)?, bytes_of(alloc, *other)?)?;
-            if short.as_str() != bytes.as_str() {
-                return Ok(format!(in alloc; "{short} but {bytes} as bytes")?);
-            }
-            Ok(short)
-        }
+        ("try_new", [text]) => new(rt, alloc, text_of(alloc, *text)?),
+        ("try_copy", [text]) => copy(rt, alloc, text_of(alloc, *text)?.as_str()),
+        ("order", [one, other]) => order(alloc, *one, *other),
         ("order_bytes", [one, other]) => {
             order_of_bytes(alloc, bytes_of(alloc, *one)?, bytes_of(alloc, *other)?)
         }
-        ("hash_decimal", [one, other]) => {
-            let (one, other) = (decimal_of(*one)?, decimal_of(*other)?);
-            let (is_equal, is_hashed) = (one == other, hash_of(&one) == hash_of(&other));
-            Ok(format!(in alloc; "equal {is_equal} hashed {is_hashed}")?)
-        }
+        ("hash_decimal", [one, other]) => order_of_decimals(alloc, *one, *other),
         ("long_string", [bytes]) => long_string(rt, alloc, bytes_of(alloc, *bytes)?),
         ("byte_array", [bytes]) => byte_array(rt, alloc, bytes_of(alloc, *bytes)?),
         _ => Err(Trouble::Unknown),
     }
+}
+
+fn new<R: Eprint>(rt: &R, alloc: Global, text: String) -> Answer {
+    let length = text.len();
+    match call!(rt; ShortString::try_new(text)) {
+        Ok(string) => short_text(alloc, string),
+        Err(error) if error.length() == length => Ok(format!(in alloc; "error {error}")?),
+        Err(error) => Ok(format!(in alloc; "error {error} not {length}")?),
+    }
+}
+
+fn copy<R: Eprint>(rt: &R, alloc: Global, text: &str) -> Answer {
+    match call!(rt; ShortString::try_copy(alloc, text)) {
+        Ok(string) => short_text(alloc, string),
+        Err(TryCopyError::TooLong(error)) => Ok(format!(in alloc; "error {error}")?),
+        Err(TryCopyError::OutOfMemory) => Ok(format!(in alloc; "OutOfMemory")?),
+    }
+}
+
+/// How two words compare as short strings, and as bytes if that differs.
+fn order(alloc: Global, one: &str, other: &str) -> Answer {
+    let (first, second) = (short_string(alloc, one)?, short_string(alloc, other)?);
+    let short = ordered(alloc, &first, &second)?;
+    let bytes = order_of_bytes(alloc, bytes_of(alloc, one)?, bytes_of(alloc, other)?)?;
+    if short.as_str() != bytes.as_str() {
+        return Ok(format!(in alloc; "{short} but {bytes} as bytes")?);
+    }
+    Ok(short)
+}
+
+fn order_of_decimals(alloc: Global, one: &str, other: &str) -> Answer {
+    let (one, other) = (decimal_of(one)?, decimal_of(other)?);
+    let (is_equal, is_hashed) = (one == other, hash_of(&one) == hash_of(&other));
+    Ok(format!(in alloc; "equal {is_equal} hashed {is_hashed}")?)
 }
 
 /// What a string is hashed to.
@@ -122,11 +129,14 @@ fn long_string<R: Eprint>(rt: &R, alloc: Global, bytes: Vec<u8>) -> Answer {
 
 /// A byte array's bytes, their number, and whether there are none; made in each way.
 fn byte_array<R: Eprint>(rt: &R, alloc: Global, bytes: Vec<u8>) -> Answer {
-    let array = match call!(rt; ByteArray::from_slice(alloc, bytes.as_slice())) {
-        Ok(array) => array,
-        Err(error) => return Ok(format!(in alloc; "{error:?}")?),
-    };
-    if ByteArray::from(bytes) != array {
+    match call!(rt; ByteArray::from_slice(alloc, bytes.as_slice())) {
+        Ok(array) => array_text(alloc, &array, &ByteArray::from(bytes)),
+        Err(error) => Ok(format!(in alloc; "{error:?}")?),
+    }
+}
+
+fn array_text(alloc: Global, array: &ByteArray, of_vector: &ByteArray) -> Answer {
+    if of_vector != array {
         return Ok(format!(in alloc; "other from a vector")?);
     }
     let held = digits(alloc, array.as_slice())?;
