@@ -44,7 +44,7 @@ from crates import Crates, said_by  # noqa: E402
 from steps import Judged, Step, Steps, by_last_line, print_counts  # noqa: E402
 
 from tests.oracle.crate import is_at_hand  # noqa: E402
-from tests.rabbitmq.broker import BIN  # noqa: E402
+from tests.rabbitmq.broker import SERVERS  # noqa: E402
 from tests.rabbitmq.clients import PYTHON  # noqa: E402
 
 # The program logic in which all of this is proved: `rt version` ends with it, whatever the kit is called.
@@ -71,7 +71,7 @@ NEEDS: dict[str, tuple[str, ...]] = {
     "web": (PYTHON, "wasm-opt", "chromium", "chromedriver", "firefox-esr"),
     "rust": (PYTHON, "cargo", "cargo-clippy", "rustfmt", "valgrind"),
     "crate": (PYTHON,),
-    "broker": (f"{BIN}/rabbitmq-server", "epmd", "amqp-publish", "php", PYTHON),
+    "broker": (*SERVERS.values(), "epmd", "amqp-publish", "php", PYTHON),
     "wrong-bodies": (),
 }
 # The steps that need nothing that the proofs leave, and the one that takes root and a network.

@@ -1,7 +1,9 @@
-"""A RabbitMQ of Debian 12 in a fresh folder, on free ports of 127.0.0.1, that ends with the process that started it."""
+"""A RabbitMQ in a fresh folder, on free ports of 127.0.0.1, that ends with the process that started it."""
 
 import ctypes
 import json
+import os
+import shutil
 import signal
 import socket
 import subprocess
@@ -12,7 +14,17 @@ from typing import Any
 
 from tests.rabbitmq.wire import Closed, Connection
 
-BIN = Path("/usr/lib/rabbitmq/bin")
+# The tested versions: Debian 12's, and Debian 13's in the root that `make setup` makes; and the program that starts each.
+DEBIAN_12, DEBIAN_13 = "3.10.8", "4.0.5"
+ROOTS = {DEBIAN_12: Path("/"), DEBIAN_13: Path("/var/lib/maolkint/trixie")}
+SERVER = "usr/lib/rabbitmq/bin/rabbitmq-server"
+SERVERS = {version: str(root / SERVER) for version, root in ROOTS.items()}
+# Runs a program in a root, where the folder of the broker is mounted for this process alone. The process isn't root's.
+MOUNTED = Path("/mnt")
+IN_ROOT = f'mount --bind "$1" "$0{MOUNTED}" && root=$0 && shift && exec chroot "$root" setpriv --pdeathsig=KILL "$@"'
+IS_ROOT = os.geteuid() == 0
+NOBODY = ("--reuid=nobody", "--regid=nogroup", "--clear-groups") if IS_ROOT else ()
+UNSHARE = ("unshare", "--mount") if IS_ROOT else ("unshare", "--mount", "--map-root-user")
 PLUGINS = "[rabbitmq_shovel,rabbitmq_federation]."
 # A virtual host whose messages the broker also reports to amq.rabbitmq.trace.
 TRACED = "traced"
@@ -73,8 +85,8 @@ class Broker:
     # how long it took until it was ready
     seconds: float
 
-    def __init__(self, folder: Path) -> None:
-        self.folder, self.port = folder, 0
+    def __init__(self, folder: Path, version: str) -> None:
+        self.folder, self.version, self.root, self.port = folder, version, ROOTS[version], 0
         self.processes: list[subprocess.Popen[bytes]] = []
 
     def __enter__(self) -> "Broker":
@@ -92,15 +104,20 @@ class Broker:
     def __exit__(self, *_: object) -> None:
         self.end()
 
-    def start(self, home: Path) -> None:
-        self.home = home
-        home.mkdir()
+    def start(self, folder: Path) -> None:
+        self.home = folder
+        folder.mkdir()
+        # the same folder in the broker's root
+        home = folder if self.root == Path("/") else MOUNTED
         self.port, between, names = free_ports(3)
-        (home / "plugins").write_text(PLUGINS)
-        (home / "definitions.json").write_text(json.dumps(definitions(self.port)))
+        (folder / "plugins").write_text(PLUGINS)
+        (folder / "definitions.json").write_text(json.dumps(definitions(self.port)))
         settings = ["log.file = false", "log.console = true", "log.console.level = critical"]
-        (home / "rabbitmq.conf").write_text("\n".join([f"load_definitions = {home}/definitions.json", *settings, ""]))
-        (home / "rabbitmq-env.conf").touch()
+        (folder / "rabbitmq.conf").write_text("\n".join([f"load_definitions = {home}/definitions.json", *settings, ""]))
+        (folder / "rabbitmq-env.conf").touch()
+        if IS_ROOT and home != folder:
+            for it in (folder, *folder.iterdir()):
+                shutil.chown(it, "nobody", "nogroup")
         # no variable of the machine's counts; in HOME Erlang makes its cookie
         self.environment = {
             "PATH": "/usr/sbin:/usr/bin:/sbin:/bin", "LC_ALL": "C.UTF-8", "HOME": f"{home}", "TMPDIR": f"{home}",
@@ -116,14 +133,20 @@ class Broker:
             "RUNNING_UNDER_SYSTEMD": "true",
         }  # fmt: skip
         self.run("epmd", "-port", names, "-address", "127.0.0.1")
-        self.run(BIN / "rabbitmq-server")
+        self.run(f"/{SERVER}")
+
+    def words(self, *words: object) -> list[str]:
+        """The command that runs a program in the broker's root."""
+        if self.root == Path("/"):
+            return [str(it) for it in words]
+        return [str(it) for it in (*UNSHARE, "sh", "-c", IN_ROOT, self.root, self.home, *NOBODY, *words)]
 
     def run(self, *words: object) -> None:
         """Starts a process that ends with this one."""
         how: dict[str, Any] = {"cwd": self.home, "env": self.environment, "preexec_fn": ends_with_us}
         with open(self.home / "printed", "ab") as out:
             how |= {"stdin": subprocess.DEVNULL, "stdout": out, "stderr": out, "start_new_session": True}
-            self.processes.append(subprocess.Popen([str(it) for it in words], **how))
+            self.processes.append(subprocess.Popen(self.words(*words), **how))
 
     def has_ended(self) -> bool:
         return any(it.poll() is not None for it in self.processes)
@@ -153,7 +176,7 @@ class Broker:
         words += ["-sname", "asking@localhost", "-kernel", "inet_dist_use_interface", "{127,0,0,1}"]
         words += ["-eval", f"{call}, {expression}, halt()."]
         how: dict[str, Any] = {"env": self.environment, "cwd": self.home, "capture_output": True, "text": True}
-        done = subprocess.run(words, **how, timeout=SECONDS)
+        done = subprocess.run(self.words(*words), **how, timeout=SECONDS)
         if done.returncode:
             raise RuntimeError(f"erl: {done.stdout[-1000:]}{done.stderr[-1000:]}")
         return str(done.stdout).strip()

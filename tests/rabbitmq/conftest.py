@@ -10,7 +10,7 @@ import pytest
 from crates import Crates
 from wheels import build_package
 
-from tests.rabbitmq.broker import Broker
+from tests.rabbitmq.broker import DEBIAN_12, Broker
 from tests.rabbitmq.wire import Connection
 
 # The minutes that all of it takes at most.
@@ -27,7 +27,7 @@ def broker(library: str, tmp_path_factory: pytest.TempPathFactory) -> Iterator[B
     """A running broker; the calls for C are there."""
     signal.signal(signal.SIGALRM, lambda *_: pytest.exit(f"not done within {MINUTES} minutes", 1))
     signal.alarm(60 * MINUTES)
-    with Broker(Path(tmp_path_factory.mktemp("broker"))) as found:
+    with Broker(Path(tmp_path_factory.mktemp("broker")), DEBIAN_12) as found:
         yield found
     signal.alarm(0)
 

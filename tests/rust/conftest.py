@@ -12,8 +12,8 @@ from tests.left_out import leave_out, needs_of
 from tests.notes import NOTES
 from tests.rust.cargo import COPIES, CRATES, OF_DEBIAN, OLDEST, OUT, RUST, TRIPLE, Given
 from tests.rust.cargo import assert_well, copied, given, package, run
-from tests.rabbitmq.broker import BIN
 from tests.rust.manifests import BOTH, VALUES
+from tests.rust.relay import SERVER
 
 # Where Debian has Rust packages.
 DEBIAN = Path("/usr/share/cargo/registry")
@@ -21,7 +21,7 @@ DEBIAN = Path("/usr/share/cargo/registry")
 PROVING_SECONDS = 3_600
 ARCHIVE = "libamqp_values.a"
 # How WITHOUT names what is needed, if otherwise than the tests.
-NAMES = {"--crate": "crate", f"{BIN}/rabbitmq-server": "broker", OLDEST: "rustc"}
+NAMES = {"--crate": "crate", SERVER: "broker", OLDEST: "rustc"}
 
 
 def pytest_addoption(parser: pytest.Parser) -> None:
