@@ -16,7 +16,7 @@
     web             the page, in browsers
     rust            the Rust crate's drop-in, and the Rust crates over the calls for C
     crate           1,000,000 fresh requests to the Rust crate and to this library (tests/run oracle)
-    broker          the calls for C against a running RabbitMQ
+    broker          the calls for C against a running RabbitMQ (4.0.5; .ci/whole also 3.10.8)
     wrong-bodies    wrong bodies, which the prover must refuse, of the crates that changed (tests/wrong_bodies)
 
 The variable WITHOUT="broker crate" skips these steps, and the tests of other steps that need RabbitMQ or the Rust crate.
@@ -166,6 +166,7 @@ def commands(asked: Asked, copy: Path) -> dict[str, list[object]]:
     of_copy = copy / "tests/run"
     # what is random is tried otherwise in each run
     random = ["--random"] * asked.is_whole()
+    versions = [f"--rabbitmq={it}" for it in SERVERS] * asked.is_whole()
     return {
         "docs": [TOP / "tests/pages"],
         "lint": [TOP / "tests/lint"],
@@ -182,7 +183,7 @@ def commands(asked: Asked, copy: Path) -> dict[str, list[object]]:
         "web": [of_copy, "web", "--built", *random],
         "rust": [of_copy, "rust", "--built"],
         "crate": [of_copy, "oracle"],
-        "broker": [of_copy, "rabbitmq", "--built", "--tables", TABLES[asked.name]],
+        "broker": [of_copy, "rabbitmq", "--built", "--tables", TABLES[asked.name], *versions],
         "wrong-bodies": [copy / "tests/wrong_bodies", "--built", *["--all"] * asked.is_whole()],
     }
 

@@ -4,9 +4,9 @@ import struct
 from collections.abc import Iterator
 from fractions import Fraction
 from random import Random
-from typing import Any
+from typing import Any, NamedTuple
 
-from tests.model.printed import DEPTH, SIGNED, TYPES, Failure, Unread, Value, encoded, field, read, taken
+from tests.model.printed import DEPTH, SIGNED, TYPES, Failure, Unread, Value, encoded, extent, field, read, taken
 
 PLAIN = "tbBsuIilfdDSxTV"
 INTEGERS = "bBsuIil"
@@ -163,23 +163,114 @@ def is_read(data: bytes) -> bool:
         return False
 
 
-def term(value: Value) -> tuple[str, Any]:
+class Version(NamedTuple):
+    """What a version of RabbitMQ does with the tables that it accepts."""
+
+    # whether it writes all headers anew, with their keys in order and each of them once
+    rewrites: bool
+    # of a repeated header, the index of the one by which a headers exchange routes
+    routes_by: int
+    # of a repeated argument of a binding, those that x-match: any compares
+    compares: slice
+    # whether a headers exchange compares all numbers by value; if not, no float is equal to an integer nor 0.0 to -0.0, and
+    # a header that is a Timestamp to nothing
+    compares_all_numbers: bool
+    # the headers that dead-lettering adds, and whether it counts on from those that a client sent
+    deaths: tuple[bytes, ...]
+    counts_on: bool
+    # what x-delivery-count is at the first delivery from a quorum queue
+    first_delivery: Value | None
+    # the arguments of a queue that names no type
+    queue: dict[bytes, Value]
+    # the type tag of a Byte Array in a stream, and how a key has to begin, if any may, whose array or table isn't dropped there
+    stream_bytes: bytes
+    stream_keeps: bytes | None
+    # how often a quorum queue delivers a message that fails, with no limit of its own and with one of -1; None if for ever
+    deliveries: tuple[int | None, int | None]
+
+
+FIRST_DEATHS = (b"x-death", b"x-first-death-exchange", b"x-first-death-queue", b"x-first-death-reason")
+LAST_DEATHS = (b"x-last-death-exchange", b"x-last-death-queue", b"x-last-death-reason")
+VERSIONS = {
+    "3.10.8": Version(
+        rewrites=False, routes_by=0, compares=slice(1), compares_all_numbers=True, deaths=FIRST_DEATHS, counts_on=True,
+        first_delivery=number("l", 0), queue={}, stream_bytes=b"x", stream_keeps=None, deliveries=(None, 1),
+    ),
+    "4.0.5": Version(
+        rewrites=True, routes_by=-1, compares=slice(None), compares_all_numbers=False,
+        deaths=FIRST_DEATHS + LAST_DEATHS, counts_on=False, first_delivery=None,
+        queue={b"x-queue-type": text("classic")}, stream_bytes=b"S", stream_keeps=b"x-",
+        deliveries=(21, None),
+    ),
+}  # fmt: skip
+
+
+def rewritten(data: bytes) -> bytes:
+    """A value as RabbitMQ writes it: `L` as `l`, and every true as 1."""
+    tag = data[:1]
+    if tag in (b"A", b"F"):
+        return field(tag, b"".join(key + rewritten(it) for key, it in parts(data)))
+    return b"l" + data[1:] if tag == b"L" else b"t\1" if tag == b"t" and data[1] else data
+
+
+def parts(data: bytes) -> Iterator[tuple[bytes, bytes]]:
+    """What a container has: keys with their length, or in an array nothing, and encodings."""
+    at = 5
+    while at < len(data):
+        begin = at + (1 + data[at] if data[:1] == b"F" else 0)
+        end = begin + extent(data[begin : begin + 5])
+        yield data[at:begin], data[begin:end]
+        at = end
+
+
+def sorted_by_key(version: str, data: bytes) -> bytes:
+    """A table as it is dead-lettered, but for what is added: rewritten, with its keys in order."""
+    found = sorted(parts(rewritten(data)), key=lambda it: it[0][1:])
+    # (of a repeated key the first is the last to be put here)
+    kept = sorted({key: it for key, it in reversed(found)}.items(), key=lambda it: it[0][1:])
+    return field(b"F", b"".join(key + it for key, it in (kept if VERSIONS[version].rewrites else found)))
+
+
+def delivered(version: str, data: bytes) -> bytes:
+    """The headers that a classic queue delivers, if the broker adds nothing to those that are published."""
+    return sorted_by_key(version, data) if VERSIONS[version].rewrites else data
+
+
+def streamed(version: str, data: bytes) -> bytes | None:
+    """The headers that a stream delivers, or None if the broker closes the connection for those that are published."""
+    prefix, tag = VERSIONS[version].stream_keeps, VERSIONS[version].stream_bytes
+    kept = [it for it in parts(sorted_by_key(version, data)) if it[1][:1] not in (b"A", b"F") or it[0][1:3] == prefix]
+    if any(has_decimal(it) for _, it in kept):
+        return None
+    return field(b"F", b"".join(key + (tag + it[1:] if it[:1] == b"x" else it) for key, it in kept))
+
+
+def has_decimal(data: bytes) -> bool:
+    """Whether a value is a decimal, or has one in it."""
+    return data[:1] == b"D" or data[:1] in (b"A", b"F") and any(has_decimal(it) for _, it in parts(data))
+
+
+def term(value: Value, all_numbers: bool) -> tuple[str, Any]:
     """What RabbitMQ compares of a value: numbers by value, strings by their bytes, what is nested with its types."""
     tag, content = value
     if tag in INTEGERS or tag == "T":
         return "number", Fraction(integer_of(value))
     if tag in "fd":
-        return "number", Fraction(struct.unpack(f">{tag}", content)[0])
+        (found,) = struct.unpack(f">{tag}", content)
+        return ("number", Fraction(found)) if all_numbers else ("float", struct.pack(">d", found))
     if tag == "A":
-        return "list", [(it[0], term(it)) for it in content]
+        return "list", [(it[0], term(it, all_numbers)) for it in content]
     if tag == "F":
-        return "list", [(key, it[0], term(it)) for key, it in content.items()]
+        return "list", [(key, it[0], term(it, all_numbers)) for key, it in content.items()]
     return "string" if tag in "Sx" else tag, content
 
 
-def matches(argument: Value, header: Value) -> bool:
+def matches(version: str, argument: Value, header: Value) -> bool:
     """Whether the argument of a binding to a headers exchange matches a header."""
-    return argument[0] == "V" or term(argument) == term(header)
+    if argument[0] == "V":
+        return True
+    all_numbers = VERSIONS[version].compares_all_numbers
+    return (all_numbers or header[0] != "T") and term(argument, all_numbers) == term(header, all_numbers)
 
 
 def erlang(value: Value) -> str:

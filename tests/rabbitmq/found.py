@@ -13,8 +13,6 @@ from tests.rabbitmq.wire import Closed, Connection, Message
 
 # The seconds until a message comes that takes its time.
 PATIENCE = 60
-# What dead-lettering puts into a table.
-DEATH = (b"x-death", b"x-first-death-exchange", b"x-first-death-queue", b"x-first-death-reason")
 
 
 def built(value: Value) -> bytes:

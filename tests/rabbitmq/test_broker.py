@@ -1,20 +1,20 @@
 """Holds the calls for C against a running RabbitMQ and its clients.
 
-RabbitMQ of Debian 12 runs in a fresh folder, on free ports of 127.0.0.1. The calls for C are called by
-tests/python/ctypes_values.py, in one shared object of both libraries. make setup installs the broker and the clients.
+RabbitMQ runs in a fresh folder, on free ports of 127.0.0.1, in each version that --rabbitmq names. The calls for C are called
+by tests/python/ctypes_values.py, in one shared object of both libraries. make setup installs the brokers and the clients.
 
 - Random tables come back equal, by the calls and by the reader of the model: untouched, and read and written by the broker's
   own codec, which a header BCC and dead-lettering have it do. --tables sets their number.
 - What the broker and its clients write is read as meant: the server's properties, x-death, a quorum queue, a trace, a
   shovel, a federation link, pika, py-amqp, amqp-publish. What is built here the broker sees as meant: client-properties,
   and the arguments of queues, bindings and consumers.
-- It closes the connection for the tables in which amqpv_first_problem finds something, and for no others; of equal keys a
-  headers exchange takes what amqpv_find_first does. What else it does otherwise is as docs/DIFFERENCES.md states, predicted
-  by the model's tables.py.
+- It closes the connection for the tables in which amqpv_first_problem finds something, and for no others. What it does with
+  the others is as docs/INTEROP.md states for each version, predicted by VERSIONS of the model's tables.py.
 """
 
 import json
 import subprocess
+import time
 from collections import Counter
 from collections.abc import Callable, Iterator, Sequence
 from concurrent.futures import ThreadPoolExecutor
@@ -26,14 +26,15 @@ from crates import TOP
 
 from tests.model.json_format import json_of
 from tests.model.printed import FRAME, Unread, Value, field, nested, read, write
-from tests.model.tables import EVERY_TYPE, INFINITY, INTEGERS, NAN, NO_TAG, PLAIN, ROWS, Problem
-from tests.model.tables import container_of, decimal, erlang, first_problem, float_of, is_read, matches
-from tests.model.tables import number, odd_table, random_table, row_of, table, text, types_in
+from tests.model.tables import EVERY_TYPE, INFINITY, INTEGERS, NAN, NO_TAG, PLAIN, ROWS, VERSIONS, Problem, Version
+from tests.model.tables import container_of, decimal, delivered, erlang, first_problem, float_of, is_read, matches
+from tests.model.tables import number, odd_table, parts, random_table, raw, rewritten, row_of, sorted_by_key, streamed
+from tests.model.tables import table, text, types_in
 from tests.python import ctypes_values as av
 from tests.python.values import error_of, form
 from tests.rabbitmq import clients
 from tests.rabbitmq.broker import TRACED, Broker
-from tests.rabbitmq.found import DEATH, arguments, awaited, built, closed_by, dead_lettered, dying
+from tests.rabbitmq.found import PATIENCE, arguments, awaited, built, closed_by, dead_lettered, dying
 from tests.rabbitmq.found import entry_at, first_with, is_now, python_at, value_at, without
 from tests.rabbitmq.wire import FRAME_MAX, Closed, Connection, Message
 
@@ -97,7 +98,7 @@ def consumers(connection: Connection) -> dict[bytes, str]:
     return {connection.consume(it): it for it in ("as built", "copied", "back")}
 
 
-def delivered(connection: Connection, consumers: dict[bytes, str], way: Way, count: int) -> Iterator[list[Message]]:
+def come_back(connection: Connection, consumers: dict[bytes, str], way: Way, count: int) -> Iterator[list[Message]]:
     """The next messages of each queue to which they come."""
     came: dict[str, list[Message]] = {it: [] for it in way.back}
     for _ in range(count * len(way.back)):
@@ -109,6 +110,7 @@ def delivered(connection: Connection, consumers: dict[bytes, str], way: Way, cou
 @pytest.mark.parametrize("name", WAYS)
 def test_tables_come_back_equal(
     name: str,
+    broker: Broker,
     connection: Connection,
     consumers: dict[bytes, str],
     tables: list[tuple[Value, bytes]],
@@ -122,32 +124,32 @@ def test_tables_come_back_equal(
         sent = [way.make(make, value, data) for value, data in batch]
         frames = [connection.message("", way.queue, it, {"message_id": f"{at}"}) for at, it in enumerate(sent)]
         connection.write(b"".join(frames))
-        for messages in delivered(connection, consumers, way, len(batch)):
+        for messages in come_back(connection, consumers, way, len(batch)):
             tried += len(messages)
             for at, ((value, data), message) in enumerate(zip(batch, messages, strict=True)):
                 is_mine = message.properties["message_id"] == b"%d" % at
-                wrongly = differs(name, value, data, message.headers) if is_mine else "another message"
+                wrongly = differs(broker.version, name, value, data, message.headers) if is_mine else "another message"
                 wrong += [f"{data.hex()}: {wrongly}"] if wrongly else []
     notes.append(f"tables {name} come back equal: {tried - len(wrong)} of {tried}")
     assert tried and none_of(wrong) == ""
 
 
-def differs(name: str, value: Value, data: bytes, back: bytes) -> str:
+def differs(version: str, name: str, value: Value, data: bytes, back: bytes) -> str:
     """What differs in a table that came back, by the calls and by the reader of the model."""
     try:
-        return differs_if_read(name, value, data, back)
+        return differs_if_read(version, name, value, data, back)
     except (av.Error, Unread) as why:
         return f"{back.hex()}, {why}"
 
 
-def differs_if_read(name: str, value: Value, data: bytes, back: bytes) -> str:
+def differs_if_read(version: str, name: str, value: Value, data: bytes, back: bytes) -> str:
     if name == "as built":
-        if back != data or av.to_json(back) != json_of(value):
+        if back != delivered(version, data) or av.to_json(back) != json_of(value):
             return f"{back.hex()}, as JSON {av.to_json(back)}"
     elif "dead" in name:
         if value_at(back, b"x-death", 0, b"reason") != text("expired"):
             return f"{back.hex()}, without x-death"
-        back = without(back, *DEATH)
+        back = without(back, *VERSIONS[version].deaths)
     is_canonical = av.canonical(back) == av.canonical(data) == write(value)
     is_equal = is_canonical and form(av.loads(back)) == value and read(back) == (value, b"")
     return "" if is_equal else back.hex()
@@ -186,7 +188,7 @@ def test_deaths(connection: Connection) -> None:
         connection.reject(message)
 
 
-def test_quorum_queue(connection: Connection) -> None:
+def test_quorum_queue(connection: Connection, rules: Version) -> None:
     """A quorum queue counts how often it delivered a message."""
     limit = arguments(x_queue_type=text("quorum"), x_delivery_limit=number("I", 2), **dead_lettered("limited"))
     connection.queue("limited")
@@ -194,13 +196,47 @@ def test_quorum_queue(connection: Connection) -> None:
     connection.publish("", "quorum", arguments(mine=VOID))
     for count in range(3):
         message = awaited(connection, "quorum", keeps=True)
-        found = value_at(message.headers, b"x-delivery-count") or number("l", 0)
-        assert found == number("l", count)
+        found = value_at(message.headers, b"x-delivery-count")
+        assert found == (number("l", count) if count else rules.first_delivery)
         connection.reject(message, goes_back=True)
     data = awaited(connection, "limited").headers
     deaths = [value_at(data, b"x-death", 0, it) for it in (b"reason", b"queue", b"count")]
     assert deaths == [text("delivery_limit"), text("quorum"), number("l", 1)]
     assert value_at(data, b"mine") == VOID
+
+
+# A message that was delivered so often is delivered for ever.
+FOR_EVER = 30
+QUEUES: dict[str, tuple[dict[str, Value], Callable[[Version], int | None]]] = {
+    "classic": ({}, lambda _: None),
+    "quorum": ({}, lambda rules: rules.deliveries[0]),
+    "quorum, limit -1": ({"x_delivery_limit": number("I", -1)}, lambda rules: rules.deliveries[1]),
+    "quorum, limit 2": ({"x_delivery_limit": number("I", 2)}, lambda _: 3),
+}
+
+
+@pytest.mark.parametrize("way", ["rejected", "connection lost"])
+@pytest.mark.parametrize("name", QUEUES)
+def test_redelivery(name: str, way: str, broker: Broker, rules: Version) -> None:
+    """How often a message is delivered to consumers that put it back, or lose their connection over it."""
+    more, wanted = QUEUES[name]
+    queue, dead, connection = f"{name} {way}", f"dead {name} {way}", broker.connection()
+    connection.queue(dead)
+    kind = table(x_queue_type=text(name.partition(",")[0]), **more, **dead_lettered(dead))
+    connection.queue(queue, built(kind), is_durable=True)
+    connection.publish("", queue)
+    count, until = 0, time.time() + PATIENCE
+    while count < FOR_EVER and not connection.get(dead) and time.time() < until:
+        if message := connection.get(queue, keeps=True):
+            assert message.is_again == (count > 0)
+            count += 1
+            if way == "rejected":
+                connection.reject(message, goes_back=True)
+            else:
+                connection.drop()
+                connection = broker.connection()
+    assert count == (wanted(rules) or FOR_EVER)
+    connection.close()
 
 
 def test_trace(broker: Broker) -> None:
@@ -263,14 +299,14 @@ SEEN = """
     io:format("~w~n~w~n~w~n~w~n", [P, lists:sort(Q), B, C])"""
 
 
-def test_what_is_built_is_seen(broker: Broker) -> None:
+def test_what_is_built_is_seen(broker: Broker, rules: Version) -> None:
     """The properties of both sides, and the arguments of queues, bindings and consumers, as the broker sees them."""
     connection, every = broker.connection(client_properties=built(EVERY_TYPE)), built(EVERY_TYPE)
     queues: dict[str, Value] = {}
     for tag in INTEGERS:
         for at, key in enumerate((b"x-max-length", b"x-max-length-bytes", b"x-message-ttl", b"x-max-priority")):
-            value = "F", {key: number(tag, 100 + at)}
-            queues[connection.queue(f"seen {tag} {key.decode()}", built(value))] = value
+            given = {key: number(tag, 100 + at)}
+            queues[connection.queue(f"seen {tag} {key.decode()}", built(("F", given)))] = "F", given | rules.queue
     connection.exchange("seen", "headers")
     connection.queue("bound")
     connection.bind("bound", "seen", "", every)
@@ -329,19 +365,20 @@ class Publisher:
         self.broker = broker
         self.connection: Connection | None = None
 
-    def closed(self, data: bytes) -> tuple[str, int] | None:
-        """What the broker closes, and why, when a table is published."""
+    def outcome(self, data: bytes) -> tuple[str, int] | bytes:
+        """What the broker closes, and why, when a table is published; or else the headers that it delivers."""
         if self.connection is None:
             self.connection = self.broker.connection()
+            self.connection.queue("odd")
             self.connection.confirms()
         try:
-            self.connection.publish("", "nowhere", data)
+            self.connection.publish("", "odd", data)
             self.connection.confirmed()
         except Closed as why:
             self.connection.drop()
             self.connection = None
             return why.what, why.code
-        return None
+        return awaited(self.connection, "odd").headers
 
 
 def row_in(data: bytes, problem: Problem | None) -> str:
@@ -352,7 +389,7 @@ def row_in(data: bytes, problem: Problem | None) -> str:
 
 
 def test_odd_tables_as_headers(broker: Broker, make: Random, notes: list[str]) -> None:
-    """What amqpv_first_problem calls a problem closes the connection, and what it passes doesn't.
+    """What amqpv_first_problem calls a problem closes the connection. What it passes is delivered as the model predicts.
 
     A third opinion is the model's, of which the offset, the kind and the tag agree too.
     """
@@ -361,8 +398,9 @@ def test_odd_tables_as_headers(broker: Broker, make: Random, notes: list[str]) -
     for _ in range(ODD):
         data = odd_table(make)
         problem, predicted = av.first_problem(data), first_problem(data)
-        if (closed := publisher.closed(data)) != (("connection", 541) if problem else None):
-            of_broker.append(f"{data.hex()}: {closed}, and its first problem {problem}")
+        found = publisher.outcome(data)
+        if found != (("connection", 541) if problem else delivered(broker.version, data)):
+            of_broker.append(f"{data.hex()}: {found!r}, and its first problem {problem}")
         bare = av.first_problem(data[1:], table=True)
         if problem != predicted or bare != (problem and (max(0, problem[0] - 1), *problem[1:])):
             of_calls.append(f"{data.hex()}: {problem}, without its type tag {bare}, predicted {predicted}")
@@ -430,7 +468,8 @@ def received(connection: Connection, queue: str) -> list[int]:
     return found
 
 
-def test_equal_keys_are_routed_by_the_first(connection: Connection, make: Random) -> None:
+def test_repeated_headers_are_routed(connection: Connection, rules: Version, make: Random) -> None:
+    """By the one that amqpv_find_first finds, or by the one that amqpv_find does."""
     numbers, repeated = range(5), 0
     connection.exchange("first", "headers")
     for it in numbers:
@@ -442,13 +481,28 @@ def test_equal_keys_are_routed_by_the_first(connection: Connection, make: Random
         pairs = [(make.choice([b"k", b"k", b"a", b"z"]), make.randrange(5)) for _ in range(make.randrange(1, 6))]
         data = field(b"F", b"".join(bytes([len(key)]) + key + write(number("I", it)) for key, it in pairs))
         if (first := first_with(data, "k")) is not None:
-            wanted[first].append(at)
-            repeated += first != av.loads(data)["k"]
+            found = first, av.loads(data)["k"]
+            wanted[found[rules.routes_by]].append(at)
+            repeated += found[0] != found[1]
         connection.publish("first", "", data, {"message_id": f"{at}"})
         connection.confirmed()
     for it in numbers:
         assert sorted(received(connection, f"first {it}")) == wanted[it]
     assert repeated >= ROUTED / 5
+
+
+def test_repeated_arguments_of_a_binding(connection: Connection, rules: Version) -> None:
+    """By x-match: any only the first can match, or each."""
+    connection.exchange("any", "headers")
+    connection.queue("bound by any")
+    numbers = [1, 2, 3]
+    given = b"".join(b"\1k" + write(number("I", it)) for it in numbers) + b"\7x-match" + write(text("any"))
+    connection.bind("bound by any", "any", "", field(b"F", given))
+    connection.confirms()
+    for it in numbers:
+        connection.publish("any", "", arguments(k=number("I", it)), {"message_id": f"{it}"})
+        connection.confirmed()
+    assert received(connection, "bound by any") == numbers[rules.compares]
 
 
 def test_the_first_of_equal_arguments(connection: Connection) -> None:
@@ -477,13 +531,14 @@ def compared() -> list[Value]:
     numbers += [float_of(tag, it) for tag in "fd" for it in (0.0, -0.0, 5.0, 1.5)]
     numbers += [number("T", 5), decimal(0, 5), number("t", 0), number("t", 1), VOID]
     strings = [text("5"), ("x", b"5"), EMPTY_TEXT, ("x", b"")]
-    arrays: list[Value] = [("A", []), ("A", [number("I", 5)]), ("A", [number("l", 5)])]
+    nested = [number("I", 5), number("l", 5), number("T", 5), float_of("d", 0.0), float_of("d", -0.0)]
+    arrays: list[Value] = [("A", []), *(("A", [it]) for it in nested)]
     five, empty = number("I", 5), EMPTY_TEXT
     tables = [table(), table(a=five), table(a=number("l", 5)), table(a=five, b=empty), table(b=empty, a=five)]
     return [*numbers, *strings, *arrays, *tables]
 
 
-def test_equality(connection: Connection, notes: list[str]) -> None:
+def test_equality(broker: Broker, connection: Connection, notes: list[str]) -> None:
     """Which values a headers exchange takes for equal."""
     values, wrong, equal_here = compared(), [], 0
     connection.exchange("equal", "headers")
@@ -496,7 +551,7 @@ def test_equality(connection: Connection, notes: list[str]) -> None:
         connection.confirmed()
     for at, argument in enumerate(values):
         found = {*received(connection, f"equal {at}")}
-        wanted = {it for it, header in enumerate(values) if matches(argument, header)}
+        wanted = {it for it, header in enumerate(values) if matches(broker.version, argument, header)}
         wrong += [f"{argument} and {values[it]}" for it in found ^ wanted]
         equal_here += sum((it in found) == (write(argument) == write(header)) for it, header in enumerate(values))
     notes.append(f"of {len(values) ** 2} pairs equal there exactly if equal here: {equal_here}")
@@ -507,22 +562,74 @@ def test_equality(connection: Connection, notes: list[str]) -> None:
 PAIRS = b"\1bt\7" + b"\1aL" + b"\xff" * 8 + b"\0V" + b"\1a" + write(float_of("d", -0.0))
 
 
-def test_what_is_rewritten(connection: Connection) -> None:
-    """L and another true are written l and 1, in their order."""
+def test_what_is_rewritten(broker: Broker, connection: Connection) -> None:
+    """Where a header BCC is removed, L and another true are written l and 1."""
     for it in ("to", "copy"):
         connection.queue(it)
     connection.publish("", "to", field(b"F", PAIRS + b"\3BCC" + write(("A", [text("copy")]))))
-    rewritten = field(b"F", PAIRS.replace(b"t\7", b"t\1").replace(b"aL", b"al"))
-    assert [awaited(connection, it).headers for it in ("copy", "to")] == [rewritten] * 2
+    wanted = delivered(broker.version, rewritten(field(b"F", PAIRS)))
+    assert [awaited(connection, it).headers for it in ("copy", "to")] == [wanted] * 2
 
 
-def test_dead_lettering_puts_keys_in_order(connection: Connection) -> None:
+def test_dead_lettering_puts_keys_in_order(broker: Broker, connection: Connection, rules: Version) -> None:
     connection.queue("in order")
     connection.queue("disordered", arguments(**dying("in order")))
-    connection.publish("", "disordered", field(b"F", b"\1zV" + PAIRS))
-    back = awaited(connection, "in order").headers
-    assert [it.key for it in av.entries(back)] == ["", "a", "a", "b", *(it.decode() for it in DEATH), "z"]
-    assert type(first_with(back, "a")) is int
+    data = field(b"F", b"\1zV" + PAIRS)
+    connection.publish("", "disordered", data)
+    found = [*parts(awaited(connection, "in order").headers)]
+    keys = [key[1:] for key, _ in found]
+    assert keys == sorted(keys) and {*rules.deaths} == {it for it in keys if b"death" in it}
+    kept = b"".join(key + it for key, it in found if key[1:] not in rules.deaths)
+    assert field(b"F", kept) == sorted_by_key(broker.version, data)
+
+
+def test_deaths_of_a_client(connection: Connection, rules: Version) -> None:
+    """Whether dead-lettering counts on from the x-death of a message that a client publishes, as one that retries does."""
+    connection.queue("dead again")
+    connection.queue("retried", arguments(**dying("dead again")))
+    headers = arguments(mine=VOID)
+    for count in (1, 2, 3):
+        connection.publish("", "retried", headers)
+        headers = awaited(connection, "dead again").headers
+        assert value_at(headers, b"x-death", 0, b"count") == number("l", count if rules.counts_on else 1)
+    connection.publish("", "dead again", headers)
+    assert awaited(connection, "dead again").headers == headers
+
+
+def of_stream(broker: Broker, queue: str, data: bytes) -> bytes | None:
+    """The headers that a stream delivers of those that are published, or None if the connection is closed."""
+    connection = broker.connection()
+    connection.follow(queue, "next")
+    connection.confirms()
+    try:
+        connection.publish("", queue, data)
+        connection.confirmed()
+    except Closed as why:
+        connection.drop()
+        assert (why.what, why.code) == ("connection", 541)
+        return None
+    found = [(key, it) for key, it in parts(connection.delivery().headers) if key[1:] != b"x-stream-offset"]
+    connection.close()
+    return field(b"F", b"".join(key + it for key, it in found))
+
+
+def test_streams(broker: Broker, connection: Connection) -> None:
+    """What a stream drops and rewrites, and closes the connection for."""
+    queue = connection.queue("stream", arguments(x_queue_type=text("stream")), is_durable=True)
+    values = [*EVERY_TYPE[1].values(), number("t", 7), ("L", b"\xff" * 8), ("S", b"\xff"), ("x", b"")]
+    tried = [field(b"F", b"\1k" + raw(it)) for it in values]
+    inner = [raw(it) for it in (("A", [decimal(2, 314)]), table(k=VOID), ("x", b"a"), text("a"))]
+    tried += [field(b"F", b"\3x-k" + it) for it in inner] + [field(b"F", b"\1z" + it + b"\1aV") for it in inner]
+    tried += [field(b"F", PAIRS + b"\1\xffV\3x-aV")]
+    found = [of_stream(broker, queue, it) for it in tried]
+    wrong = [(it, came) for it, came in zip(tried, found) if came != streamed(broker.version, it)]
+    assert none_of(wrong) == ""
+    # a consumer from the first message on gets it each time
+    for _ in range(3):
+        again = broker.connection()
+        again.follow(queue, "first")
+        assert value_at(again.delivery().headers, b"x-stream-offset") == number("l", 0)
+        again.drop()
 
 
 @pytest.mark.parametrize("tag, count", [("A", 20000), ("F", 5000)])
@@ -544,7 +651,7 @@ def test_a_key_that_is_not_utf8_passes(connection: Connection) -> None:
     assert error_of(lambda: av.loads(back)) is av.Malformed
 
 
-def test_frames(connection: Connection, notes: list[str]) -> None:
+def test_frames(connection: Connection, rules: Version, notes: list[str]) -> None:
     """The broker sends larger frames than it agreed to, and so larger tables than its clients may send."""
     connection.queue("large")
     connection.queue("ends", arguments(**dying("large")))
@@ -557,7 +664,7 @@ def test_frames(connection: Connection, notes: list[str]) -> None:
     assert message.frame > FRAME_MAX
     assert error_of(lambda: av.loads(back, frame=FRAME_MAX)) is av.TooLarge
     assert av.entry(back, frame=FRAME).length == len(back)
-    assert av.canonical(without(back, *DEATH)) == data
+    assert av.canonical(without(back, *rules.deaths)) == data
 
 
 # Its clients
@@ -596,9 +703,9 @@ def test_amqp_publish(connection: Connection, broker: Broker) -> None:
     """It writes strings, a key twice, and a key in Latin-1."""
     connection.queue("from a command")
     data = published(connection, broker, b"k: 1", "other: ä".encode(), b"k: 2")
-    found = [(it.key, form(it.value)) for it in av.entries(data)]
-    assert found == [("k", text("1")), ("other", text("ä")), ("k", text("2"))]
-    assert value_at(data, b"k") == text("2")
+    pairs = [("k", text("1")), ("other", text("ä")), ("k", text("2"))]
+    sent = field(b"F", b"".join(bytes([len(key)]) + key.encode() + write(it) for key, it in pairs))
+    assert data == delivered(broker.version, sent)
     latin = published(connection, broker, b"gr\xf6\xdfe: 5")
     assert error_of(lambda: av.loads(latin)) is av.Malformed
 

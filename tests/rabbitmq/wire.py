@@ -26,6 +26,7 @@ START, START_OK, TUNE, TUNE_OK, OPEN, OPEN_OK = (10, 10), (10, 11), (10, 30), (1
 CLOSE, CLOSE_OK, CHANNEL_OPEN, CHANNEL_OPEN_OK, CHANNEL_CLOSE = (10, 50), (10, 51), (20, 10), (20, 11), (20, 40)
 EXCHANGE_DECLARE, EXCHANGE_DECLARE_OK = (40, 10), (40, 11)
 QUEUE_DECLARE, QUEUE_DECLARE_OK, BIND, BIND_OK = (50, 10), (50, 11), (50, 20), (50, 21)
+QOS, QOS_OK = (60, 10), (60, 11)
 CONSUME, CONSUME_OK, CANCEL, CANCEL_OK, PUBLISH, DELIVER = (60, 20), (60, 21), (60, 30), (60, 31), (60, 40), (60, 60)
 GET, GET_OK, GET_EMPTY, ACK, REJECT, NACK = (60, 70), (60, 71), (60, 72), (60, 80), (60, 90), (60, 120)
 CONFIRM, CONFIRM_OK = (85, 10), (85, 11)
@@ -260,6 +261,12 @@ class Connection:
         """A message, or None; if it is kept, it has to be acknowledged or rejected."""
         found = self.call(GET, b"\0\0" + short(queue) + bytes([not keeps]), GET_OK, GET_EMPTY)
         return found if isinstance(found, Message) else None
+
+    def follow(self, stream: str, offset: str) -> None:
+        """Has the messages of a stream delivered from an offset on, each after the one before is acknowledged."""
+        self.call(QOS, struct.pack(">IHB", 0, 1, 0), QOS_OK)
+        arguments = long(short("x-stream-offset") + b"S" + long(offset.encode()))
+        self.call(CONSUME, b"\0\0" + short(stream) + short("") + b"\0" + arguments, CONSUME_OK)
 
     def consume(self, queue: str, arguments: bytes = EMPTY, consumer: str = "") -> bytes:
         """Has the messages of a queue delivered, which are acknowledged by that."""
