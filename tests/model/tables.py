@@ -185,8 +185,8 @@ class Version(NamedTuple):
     # the type tag of a Byte Array in a stream, and how a key has to begin, if any may, whose array or table isn't dropped there
     stream_bytes: bytes
     stream_keeps: bytes | None
-    # how often a quorum queue delivers a message that fails, with no limit of its own and with one of -1; None if for ever
-    deliveries: tuple[int | None, int | None]
+    # how often a queue of a type, and with a delivery limit, delivers a message that fails; None if for ever
+    deliveries: dict[str, int | None]
 
 
 FIRST_DEATHS = (b"x-death", b"x-first-death-exchange", b"x-first-death-queue", b"x-first-death-reason")
@@ -194,13 +194,14 @@ LAST_DEATHS = (b"x-last-death-exchange", b"x-last-death-queue", b"x-last-death-r
 VERSIONS = {
     "3.10.8": Version(
         rewrites=False, routes_by=0, compares=slice(1), compares_all_numbers=True, deaths=FIRST_DEATHS, counts_on=True,
-        first_delivery=number("l", 0), queue={}, stream_bytes=b"x", stream_keeps=None, deliveries=(None, 1),
+        first_delivery=number("l", 0), queue={}, stream_bytes=b"x", stream_keeps=None,
+        deliveries={"classic": None, "quorum": None, "quorum -1": 1, "quorum 2": 3},
     ),
     "4.0.5": Version(
         rewrites=True, routes_by=-1, compares=slice(None), compares_all_numbers=False,
         deaths=FIRST_DEATHS + LAST_DEATHS, counts_on=False, first_delivery=None,
         queue={b"x-queue-type": text("classic")}, stream_bytes=b"S", stream_keeps=b"x-",
-        deliveries=(21, None),
+        deliveries={"classic": None, "quorum": 21, "quorum -1": None, "quorum 2": 3},
     ),
 }  # fmt: skip
 

@@ -205,25 +205,19 @@ def test_quorum_queue(connection: Connection, rules: Version) -> None:
     assert value_at(data, b"mine") == VOID
 
 
-# A message that was delivered so often is delivered for ever.
+# What has been delivered as often as this is delivered for ever.
 FOR_EVER = 30
-QUEUES: dict[str, tuple[dict[str, Value], Callable[[Version], int | None]]] = {
-    "classic": ({}, lambda _: None),
-    "quorum": ({}, lambda rules: rules.deliveries[0]),
-    "quorum, limit -1": ({"x_delivery_limit": number("I", -1)}, lambda rules: rules.deliveries[1]),
-    "quorum, limit 2": ({"x_delivery_limit": number("I", 2)}, lambda _: 3),
-}
 
 
 @pytest.mark.parametrize("way", ["rejected", "connection lost"])
-@pytest.mark.parametrize("name", QUEUES)
-def test_redelivery(name: str, way: str, broker: Broker, rules: Version) -> None:
+@pytest.mark.parametrize("kind", ["classic", "quorum", "quorum -1", "quorum 2"])
+def test_redelivery(kind: str, way: str, broker: Broker, rules: Version) -> None:
     """How often a message is delivered to consumers that put it back, or lose their connection over it."""
-    more, wanted = QUEUES[name]
-    queue, dead, connection = f"{name} {way}", f"dead {name} {way}", broker.connection()
+    queue, dead, connection = f"{kind} {way}", f"dead {kind} {way}", broker.connection()
     connection.queue(dead)
-    kind = table(x_queue_type=text(name.partition(",")[0]), **more, **dead_lettered(dead))
-    connection.queue(queue, built(kind), is_durable=True)
+    name, _, limit = kind.partition(" ")
+    limited = {"x_delivery_limit": number("I", int(limit))} if limit else {}
+    connection.queue(queue, arguments(x_queue_type=text(name), **limited, **dead_lettered(dead)), is_durable=True)
     connection.publish("", queue)
     count, until = 0, time.time() + PATIENCE
     while count < FOR_EVER and not connection.get(dead) and time.time() < until:
@@ -235,7 +229,7 @@ def test_redelivery(name: str, way: str, broker: Broker, rules: Version) -> None
             else:
                 connection.drop()
                 connection = broker.connection()
-    assert count == (wanted(rules) or FOR_EVER)
+    assert count == (rules.deliveries[kind] or FOR_EVER)
     connection.close()
 
 
