@@ -209,7 +209,7 @@ def test_quorum_queue(connection: Connection, rules: Version) -> None:
 FOR_EVER = 30
 
 
-@pytest.mark.parametrize("way", ["rejected", "connection lost"])
+@pytest.mark.parametrize("way", ["reject", "nack", "connection lost"])
 @pytest.mark.parametrize("kind", ["classic", "quorum", "quorum -1", "quorum 2"])
 def test_redelivery(kind: str, way: str, broker: Broker, rules: Version) -> None:
     """How often a message is delivered to consumers that put it back, or lose their connection over it."""
@@ -224,11 +224,11 @@ def test_redelivery(kind: str, way: str, broker: Broker, rules: Version) -> None
         if message := connection.get(queue, keeps=True):
             assert message.is_again == (count > 0)
             count += 1
-            if way == "rejected":
-                connection.reject(message, goes_back=True)
-            else:
+            if way == "connection lost":
                 connection.drop()
                 connection = broker.connection()
+            else:
+                connection.reject(message, goes_back=True, by_nack=way == "nack")
     assert count == (rules.deliveries[kind] or FOR_EVER)
     connection.close()
 
@@ -363,7 +363,6 @@ class Publisher:
         """What the broker closes, and why, when a table is published; or else the headers that it delivers."""
         if self.connection is None:
             self.connection = self.broker.connection()
-            self.connection.queue("odd")
             self.connection.confirms()
         try:
             self.connection.publish("", "odd", data)
@@ -382,11 +381,12 @@ def row_in(data: bytes, problem: Problem | None) -> str:
     return "none" if is_read(data) else "none, unread here"
 
 
-def test_odd_tables_as_headers(broker: Broker, make: Random, notes: list[str]) -> None:
+def test_odd_tables_as_headers(broker: Broker, connection: Connection, make: Random, notes: list[str]) -> None:
     """What amqpv_first_problem calls a problem closes the connection. What it passes is delivered as the model predicts.
 
     A third opinion is the model's, of which the offset, the kind and the tag agree too.
     """
+    connection.queue("odd")
     publisher, rows = Publisher(broker), Counter[str]()
     of_broker, of_calls, of_reading = [], [], []
     for _ in range(ODD):

@@ -281,5 +281,6 @@ class Connection:
         assert isinstance(found, Message)
         return found
 
-    def reject(self, message: Message, goes_back: bool = False) -> None:
-        self.send(REJECT, struct.pack(">QB", message.tag, goes_back))
+    def reject(self, message: Message, goes_back: bool = False, by_nack: bool = False) -> None:
+        bits = 2 * goes_back if by_nack else goes_back
+        self.send(NACK if by_nack else REJECT, struct.pack(">QB", message.tag, bits))
