@@ -7,13 +7,15 @@
 ghost use Rattle.std.specs.Prelude.{◌≡◌, List, [], ◌∷◌, ◌++◌, true, false, negsuc, Some, None, codes};
 ghost use Rattle.std.specs.Str.{byte};
 ghost use Rattle.std.specs.Int.{w8, w16, w32, w64, cast_unsigned};
-ghost use Rattle.amqp_value_core.specs.Values.{boolean, number, decimal, void, scalar, short, long, octets, array, trees_of, no_trees, table, entries_of, no_entries, depth, count, readable};
+ghost use Rattle.amqp_value_core.specs.Values.{boolean, number, decimal, void, scalar, short, long, octets, array, trees_of, no_trees, table, entries_of, no_entries, depth, count, readable, ComesBefore};
 ghost use Rattle.amqp_value_core.specs.Inserting.{insert};
 ghost use Rattle.amqp_value_core.specs.Maps.{has_key, value_at, Mean};
 ghost use Rattle.amqp_value_core.specs.Ids.{kind, id_of};
 ghost use Rattle.amqp_value_core.specs.Names.{read_as};
 ghost use Rattle.amqp_value_core.specs.Outcomes.{found, more, unknown, malformed, Outcome, Heavy, RawHeavy};
 ghost use Rattle.amqp_value_core.specs.Payloads.{RawOutcome};
+ghost use Rattle.amqp_value_core.specs.Readings.{with_more, StillWaits};
+ghost use Rattle.amqp_value_core.specs.Headline.{IsWritableIn};
 ghost use Rattle.amqp_value_core.specs.Decode.{compute_outcome, compute_raw_outcome};
 ghost use Rattle.amqp_value_core.specs.Texts.{text, size};
 ghost use Rattle.amqp_value_core.specs.Canonical.{Canon};
@@ -218,6 +220,29 @@ pub fn canonical_by_bytes()
     ensures alternate { ¬ Canon (hex "'U' 0005") (scalar (number AMQPType.ShortInt 5)) }
     ensures seven { ¬ Canon (hex "'t' 07") (scalar (boolean true)) }
     ensures short_string { ¬ Canon (hex "'A' 00000003 '_' 01 'x'") (array (trees_of (short (codes "x") ∷ []))) }
+{}
+
+/// A key comes before a longer one that begins with it, and a byte below 128 before any other.
+pub fn keys_come_before()
+    ensures prefix { ComesBefore (codes "a") (entries_of ((codes "aa", scalar void) ∷ [])) }
+    ensures byte { ComesBefore (codes "z") (entries_of ((hex "c3a9", scalar void) ∷ [])) }
+    ensures not_equal { ¬ ComesBefore (codes "a") (entries_of ((codes "a", scalar void) ∷ [])) }
+{}
+
+/// More bytes come after a value's rest, and lower the number that is needed.
+pub fn more_bytes()
+    ensures rest { with_more (found (scalar void) (hex "01")) (hex "02") ≡ found (scalar void) (hex "0102") }
+    ensures fewer { with_more (more 5) (hex "0102") ≡ more 3 }
+    ensures malformed { with_more malformed (hex "01") ≡ malformed }
+    ensures waits { StillWaits (more 3) (hex "0102") }
+    ensures enough { ¬ StillWaits (more 2) (hex "0102") }
+{}
+
+/// A boolean can be written again in two bytes and not in one, and a short string in none.
+pub fn what_can_be_written()
+    ensures boolean { IsWritableIn 2 (scalar (boolean true)) }
+    ensures too_few { ¬ IsWritableIn 1 (scalar (boolean true)) }
+    ensures short_string { ¬ IsWritableIn 9 (short (codes "x")) }
 {}
 
 /// A value in memory has ascending keys, and numbers of their types.
