@@ -16,7 +16,7 @@
     web             the page, in browsers
     rust            the Rust crate's drop-in, and the Rust crates over the calls for C
     crate           1,000,000 fresh requests to the Rust crate and to this library (tests/run oracle)
-    broker          the calls for C against a running RabbitMQ (4.0.5; .ci/whole also 3.10.8)
+    broker          the Python package against a running RabbitMQ (4.0.5; .ci/whole also 3.10.8)
     wrong-bodies    wrong bodies, which the prover must refuse, of the crates that changed (tests/wrong_bodies)
 
 The variable WITHOUT="broker crate" skips these steps, and the tests of other steps that need RabbitMQ or the Rust crate.
@@ -44,13 +44,18 @@ from crates import Crates, said_by  # noqa: E402
 from steps import Judged, Step, Steps, by_last_line, print_counts  # noqa: E402
 
 from tests.oracle.crate import is_at_hand  # noqa: E402
-from tests.rabbitmq.broker import SERVERS  # noqa: E402
+from tests.rabbitmq.broker import DEBIAN_13, ROOTS, SERVERS  # noqa: E402
 from tests.rabbitmq.clients import PYTHON  # noqa: E402
 
 # The program logic in which all of this is proved: `rt version` ends with it, whatever the kit is called.
 LOGIC = "logic dac8208d650f15bf"
 # What each step of `make check` and .ci/whole needs besides the kit and these programs.
 ALWAYS = ("git", "python3", "cc", "c++")
+# The clients of Debian 13, and its Python, which run the tests of the Python package too.
+OF_DEBIAN_13 = (
+    f"{ROOTS[DEBIAN_13]}/usr/bin/python3",
+    f"{ROOTS[DEBIAN_13]}/usr/lib/python3/dist-packages/aio_pika/__init__.py",
+)
 NEEDS: dict[str, tuple[str, ...]] = {
     "proofs": (),
     "docs": (),
@@ -62,7 +67,7 @@ NEEDS: dict[str, tuple[str, ...]] = {
     "alloc-failures": (PYTHON,),
     "sizes": (PYTHON,),
     "wire": (PYTHON,),
-    "python": (PYTHON, "python3-dbg", "/usr/include/python3.11/Python.h"),
+    "python": (PYTHON, "python3-dbg", "/usr/include/python3.11/Python.h", *OF_DEBIAN_13),
     "c": (
         *(PYTHON, "nm", "pkg-config", "clang", "qemu-x86_64", "aarch64-linux-gnu-gcc"),
         *("cmake", "dpkg-gensymbols", "lintian", "man", "mandoc", "/usr/include/amqp.h"),
@@ -71,7 +76,7 @@ NEEDS: dict[str, tuple[str, ...]] = {
     "web": (PYTHON, "wasm-opt", "chromium", "chromedriver", "firefox-esr"),
     "rust": (PYTHON, "cargo", "cargo-clippy", "rustfmt", "valgrind"),
     "crate": (PYTHON,),
-    "broker": (*SERVERS.values(), "epmd", "amqp-publish", "php", PYTHON),
+    "broker": (*SERVERS.values(), *OF_DEBIAN_13, "epmd", "amqp-publish", "php", PYTHON),
     "wrong-bodies": (),
 }
 # The steps that need nothing that the proofs leave, and the one that takes root and a network.
@@ -80,10 +85,11 @@ NEED_NO_PROOFS, OF_WHOLE = {"docs", "lint", "model", "vendor", "fresh"}, {"fresh
 OF_TESTS = ("aarch64", "clang", "old-processor", "cargo-clippy", "rustfmt", "valgrind", "rustc")
 # The modules of Debian's Python that each step needs if it needs that at all, and those that a step needs besides.
 PYTEST = ("pytest", "xdist", "hypothesis")
+CLIENTS = ("pika", "amqp", "kombu", "celery", "pamqp", "aiormq", "aio_pika")
 MODULES = {
-    "python": ("pip", "setuptools", "wheel"),
+    "python": ("pip", "setuptools", "wheel", *CLIENTS),
     "web": ("selenium",),
-    "broker": ("pika", "amqp", "kombu", "celery", "pamqp", "aiormq", "aio_pika"),
+    "broker": CLIENTS,
 }
 # How many tables are sent through RabbitMQ.
 TABLES = {"check": 500, "whole": 10000}
@@ -143,8 +149,14 @@ def missing(asked: Asked) -> Iterator[str]:
         return
     without = os.environ.get("WITHOUT", "").split()
     programs = [*ALWAYS, *(it for step in asked.steps for it in NEEDS[step] if it not in without)]
+    if "broker" in without:
+        programs = [it for it in programs if it not in OF_DEBIAN_13]
     programs += ["debootstrap"] * (asked.is_whole() and "c" in asked.steps)
-    lacks = [it for it in dict.fromkeys(programs) if not (shutil.which(it) or it.endswith(".h") and Path(it).exists())]
+    lacks = [
+        it
+        for it in dict.fromkeys(programs)
+        if not (shutil.which(it) or it.endswith((".h", ".py")) and Path(it).exists())
+    ]
     if PYTHON in programs and PYTHON not in lacks:
         modules = sorted({*PYTEST, *(it for step in asked.steps for it in MODULES.get(step, ()))})
         tried = {it: subprocess.run([PYTHON, "-c", f"import {it}"], capture_output=True) for it in modules}

@@ -6,7 +6,7 @@ if the model reads it as that again.
 """
 
 import sys
-from importlib import import_module
+from importlib import import_module, metadata
 from importlib.util import find_spec
 from pathlib import Path
 from timeit import Timer
@@ -14,7 +14,7 @@ from typing import Any
 
 import amqp_values
 
-from tests.rabbitmq.seen import parsed, seen
+from tests.rabbitmq.seen import VERSIONS, Client, parsed, seen
 
 # By the name of a side the module that it needs and its adapter, and what reads `data` and writes `table`: the calls that an
 # adapter replaces, or the least around them.
@@ -34,8 +34,14 @@ MODULES = {
     "amqp": ["amqp.serialization"],
     "pamqp": ["pamqp.decode", "pamqp.encode"],
 }
-# The names of clients by which `seen` knows them.
-SEEN = {"pika": "pika", "py-amqp": "pyamqp", "pamqp": "aiormq", "package": "pika"}
+
+
+def version_of(side: str) -> Client:
+    """The version of a client by which `seen` knows what it reads; the package reads what pika 1.2.0 does."""
+    if side == "package":
+        return VERSIONS["pika 1.2.0"]
+    distribution = CLIENTS[side][0]
+    return VERSIONS[f"{distribution} {metadata.version(distribution)}"]
 
 
 def is_same(one: Any, other: Any) -> bool:
@@ -62,7 +68,7 @@ class Side:
 
     def load(self, data: bytes) -> None:
         """Takes an input, and what an application has for it."""
-        self.data, self.table = data[1:], seen(SEEN[self.client], parsed(data)[0])
+        self.data, self.table = data[1:], seen(version_of(self.client), parsed(data)[0])
 
     def named(self) -> dict[str, Any]:
         """What statements name."""
@@ -95,7 +101,7 @@ class Side:
         found = eval(self.write, names)
         data = b"F" + (found if isinstance(found, bytes) else b"".join(names["pieces"]))
         value, end = parsed(data)
-        is_right = end == len(data) and is_same(seen(SEEN[self.client], value), self.table)
+        is_right = end == len(data) and is_same(seen(version_of(self.client), value), self.table)
         return (len(data) if is_right else -1), data
 
 

@@ -44,8 +44,8 @@ for bytes_ in (b"", b"z", b"S\\0\\0\\0\\1", b"S\\0\\0\\0\\1\\xff", b"A" * 99):
         tried += 1
 here = pathlib.Path(av.__file__).parent
 assert (here / "py.typed").exists()
-from amqp_values.adapters.shared import FRAME, Client, Codec
-codec = Codec(Client(), 64, FRAME, "last", True, False)
+from amqp_values.adapters.shared import Client, Codec
+codec = Codec(Client())
 table, end = codec.read(codec.write({"a": [1, 2.5, decimal.Decimal("1.5")], "b": {"": None}}), 0)
 assert table == {"a": [1, 2.5, decimal.Decimal("1.5")], "b": {"": None}} and codec.write(table) == table.raw and end == 44, end
 assert "Copyright" in next(here.parent.glob("amqp_values-*/LICENSE")).read_text()
@@ -189,6 +189,24 @@ def try_wheel(wheel: Path, python: Path) -> tuple[str, str]:
     return said.strip(), ""
 
 
+def python_in(root: Path) -> tuple[list[str], dict[str, str]]:
+    """The words that run the Python of a root of Debian, without its being entered, and the variables that it needs."""
+    if root == Path("/"):
+        return [PYTHON], {}
+    own = [root / "lib64/ld-linux-x86-64.so.2", "--library-path", root / "usr/lib/x86_64-linux-gnu"]
+    return [str(it) for it in (*own, *root.glob("usr/bin/python3.[0-9]*[0-9]"))], {"PYTHONHOME": str(root / "usr")}
+
+
+def try_unpacked(wheel: Path, words: Words, env: dict[str, str]) -> tuple[str, str]:
+    """Tries a wheel by a Python for which there is no pip: it is unpacked where pip would; what was said, and what went wrong."""
+    with tempfile.TemporaryDirectory(prefix="wheel-") as folder:
+        packages = Path(folder) / "site-packages"
+        shutil.unpack_archive(wheel, packages, "zip")
+        clean = {"PATH": os.environ["PATH"], "PYTHONPATH": str(packages), **env}
+        said, wrong = ran([*words, "-B", "-c", TRIED], env=clean)
+    return said.strip(), wrong
+
+
 # What Debian's Python for aarch64 needs to run, and the line that its packages come by.
 OF_AARCH64 = (
     "python3.11-minimal libpython3.11-minimal libpython3.11-stdlib libc6 zlib1g libexpat1 libffi8 libgcc-s1 libuuid1"
@@ -229,11 +247,10 @@ def try_wheel_of_aarch64(wheel: Path) -> tuple[str, str]:
         wrong = put_python_of_aarch64(root)
         if wrong:
             return "", wrong
-        shutil.unpack_archive(wheel, root / "site-packages", "zip")
-        clean = {"PYTHONHOME": str(root / "usr"), "PYTHONPATH": str(root / "site-packages"), "PATH": os.environ["PATH"]}
-        said, wrong = ran(["qemu-aarch64", "-L", root, root / "usr/bin/python3.11", "-c", TRIED], env=clean)
-        machine, _ = ran(["readelf", "-h", root / "usr/bin/python3.11"])
-        return f"{said.strip()} on {'aarch64' if 'AArch64' in machine else 'another'}", wrong
+        python = root / "usr/bin/python3.11"
+        said, wrong = try_unpacked(wheel, ["qemu-aarch64", "-L", root, python], {"PYTHONHOME": str(root / "usr")})
+        machine, _ = ran(["readelf", "-h", python])
+        return f"{said} on {'aarch64' if 'AArch64' in machine else 'another'}", wrong
 
 
 def main() -> int:

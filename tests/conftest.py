@@ -8,9 +8,9 @@ from building import shared_object
 from crates import Crates
 from hypothesis import settings
 
+from tests import calls_for_c
 from tests.left_out import LACKS
 from tests.notes import NOTES
-from tests.python import ctypes_values as av
 
 # Of a property, the examples that are tried: the same in each run, or others in each.
 settings.register_profile("fixed", derandomize=True, deadline=None, database=None)
@@ -70,10 +70,10 @@ def is_writing(request: pytest.FixtureRequest) -> bool:
 
 @pytest.fixture(scope="session")
 def library(request: pytest.FixtureRequest, tmp_path_factory: pytest.TempPathFactory) -> str:
-    """The path of the shared object of the calls for C, which the module has loaded."""
+    """The path of the shared object of the calls for C, which calls_for_c.py has loaded."""
     path = request.config.getoption("--library")
     if not path:
         path, wrong = shared_object(Crates(), tmp_path_factory.mktemp("library"), request.config.getoption("--built"))
         assert not wrong, wrong
-    av.load(str(path))
+    calls_for_c.load(str(path))
     return str(path)

@@ -1,8 +1,8 @@
 // The module of the proved code: its memory, where structs of amqp_values.h come before the bytes, and its calls.
 import { AMQPV } from "./header.js";
 
-// Where an entry is, a count, a problem, a container, ten bytes, and a cursor for each level; then, a page on, bytes.
-const PAGE = 65536, ENTRY = 0, COUNT = 64, PROBLEM = 72, INTO = 96, TEN = 128, CURSORS = 144, CURSOR = 24;
+// Where an entry is, a count, a problem, ten bytes, and a cursor for each level; then, a page on, bytes.
+const PAGE = 65536, ENTRY = 0, COUNT = 64, PROBLEM = 72, TEN = 96, CURSORS = 112, CURSOR = 24;
 
 export class Module {
     // Of a compiled module, whose addresses have 64 bits, or 32. Its calls take 64 bits in either case.
@@ -60,20 +60,13 @@ export class Module {
     begins(level) { return this.word(CURSORS + CURSOR * level); }
     next(level) { return this.calls.amqpv_next(this.whole[0], this.whole[1], this.cursors[level], this.entry); }
 
-    // The type tag, bits and scale that a type tag, and zeros after what is given, denote; or null.
+    // The type tag, bits, scale and length that a type tag, and zeros after what is given, denote; or null.
     number(given) {
         const ten = this.base + TEN;
         this.bytes.fill(0, ten, ten + 10).set(given, ten);
         const code = this.calls.amqpv_first(this.struct(TEN), 10n, this.entry);
-        const tags = this.word(ENTRY + 56), [low, high] = [this.word(ENTRY + 48), this.word(ENTRY + 52)];
-        return code === AMQPV.OK ? { low, high, tag: tags & 255, scale: (tags >> 8) & 255 } : null;
-    }
-
-    // Whether bytes may be a key, which is UTF-8. (They are put where no room is for them.)
-    isKey(from, to) {
-        this.words.set([0, 0, 0, 0, AMQPV.TABLE, 0, 0, 0], (this.base + INTO) / 4);
-        const [at, into] = [this.struct(TEN), this.struct(INTO)];
-        return this.calls.amqpv_put_void(at, 0n, into, ...this.span(from, to)) !== AMQPV.BAD_KEY;
+        const tags = this.word(ENTRY + 56), [low, high, size] = [48, 52, 24].map((it) => this.word(ENTRY + it));
+        return code === AMQPV.OK ? { low, high, size, tag: tags & 255, scale: (tags >> 8) & 255 } : null;
     }
 
     isCanonical(frame, depth) {

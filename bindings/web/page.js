@@ -3,7 +3,7 @@ import { AMQPV } from "./header.js";
 import { readHexadecimal } from "./hexadecimal.js";
 import { Module } from "./module.js";
 import { read } from "./reading.js";
-import { failure, hexadecimal, indentation, jsonText, keyText, outcome, rabbitmqText, repeats, rowParts, treeLines,
+import { failure, hexadecimal, indentation, jsonText, keyText, outcome, rabbitmqText, repeated, rowParts, treeLines,
 } from "./words.js";
 
 // The height of a line, and of the tallest element, in pixels; how many bytes of a string a row shows, how many are
@@ -11,7 +11,7 @@ import { failure, hexadecimal, indentation, jsonText, keyText, outcome, rabbitmq
 const HEIGHT = 22, TALLEST = 8e6, MOST_SHOWN = 300, MOST_TYPED = 65536, MOST_LINKED = 500000, MOST_LEVELS = 1000;
 // What is said of bytes that are the other, by whether they are taken for a table without its type tag.
 const OTHER = ["the input is a table without its type tag; --table reads it",
-    "the input is a table with its type tag; without --table it is read"];
+    "the input has a type tag; without --table it is read"];
 const modules = {}, $ = (id) => document.getElementById(id);
 // What is shown: bytes and what was read of them, the rows that are closed and those that are seen, what is marked.
 const now = { bytes: new Uint8Array(), reading: null, closed: new Set(), seen: [], row: 0, byte: -1, width: 16 };
@@ -55,12 +55,12 @@ const tree = new Lines($("tree"), drawRow), digits = new Lines($("bytes"), drawB
 function drawRow(line) {
     const { reading, reading: { rows }, closed, seen } = now, row = seen[line], isOn = row === now.row;
     const { level } = rows;
-    const [key, keyCut, colon, value, cut] = rowParts(reading, row, MOST_SHOWN), [type, ...text] = value.split(" ");
+    const [key, again, colon, value, rest] = rowParts(reading, row, MOST_SHOWN), [type, ...text] = value.split(" ");
     const properties = { className: isOn ? "line on" : "line", id: `row-${row}`, role: "treeitem", ariaSelected: isOn,
         ariaLevel: level[row], ariaPosInSet: rows.index[row] + 1, ariaSetSize: rows.size[rows.parent[row]],
         ariaExpanded: rows.size[row] ? !closed.has(row) : null };
-    return element("div", properties, indentation(level[row]), span("twist"), span("key", key), span("cut", keyCut),
-        colon, span("type", type), text.length ? ` ${text.join(" ")}` : "", span("cut", cut));
+    return element("div", properties, indentation(level[row]), span("twist"), span("key", key), span("again", again),
+        colon, span("type", type), text.length ? ` ${text.join(" ")}` : "", span("rest", rest));
 }
 
 // Which part a byte is, by the last word. (In a container those of no other row are malformed, or come after that.)
@@ -186,14 +186,14 @@ function complain(why) {
 
 // Says what came of reading.
 function tell(note) {
-    const { reading, reading: { rows, shift, rabbitmq, isCanonical } } = now, again = repeats(reading);
-    const [at, why] = failure(reading) ?? [], said = rabbitmqText(reading);
+    const { reading, reading: { rows, shift, code, count, data, rabbitmq, isCanonical } } = now;
+    const again = repeated(reading), [at, why] = failure(reading) ?? [], said = rabbitmqText(reading);
     const notes = [
         shift && $("form").value === "any" ? "read as a table without its type tag" : "",
         note,
         rabbitmq ? jump(said, Math.max(0, rabbitmq.offset - shift)) : said,
-        ...again.slice(0, 20).map(([row, line]) => jump(line, rows.start[row] - shift)),
-        again.length > 20 ? `${again.length - 20} more keys come again` : "",
+        again && jump(again[1], rows.start[again[0]] - shift),
+        code === AMQPV.OK && count < data.length ? `more bytes follow the ${shift ? "table" : "value"}` : "",
         why ? "" : isCanonical ? "canonical" : "not canonical"];
     $("module").textContent = $("bits").selectedOptions[0].title;
     $("outcome").textContent = outcome(reading);
@@ -330,4 +330,4 @@ function start() {
 start();
 // For the console, and for tests.
 globalThis.amqp = { failure, hexadecimal, jsonText, modules, now, outcome, partOf, put, rabbitmqText, read,
-    readHexadecimal, repeats, treeLines };
+    readHexadecimal, repeated, treeLines };

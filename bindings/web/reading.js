@@ -1,19 +1,20 @@
 // What the module reads of some bytes, as rows, also of malformed and of cut bytes.
 import { AMQPV } from "./header.js";
 
-// Of a row: it is cut; its key is; its key isn't UTF-8, or none of it has come; no payload is shown.
-export const CUT = 1, KEY_CUT = 2, NO_KEY = 4, BARE = 8;
+// Of a row: it isn't read; only its type tag is, or only its key; its table has the key already.
+export const REST = 1, BARE = 2, AGAIN = 4;
 // Whether entries are the payload, and whether a length is before it.
 export const isContainer = (tag) => tag === AMQPV.ARRAY || tag === AMQPV.TABLE;
-const isCounted = (tag) => isContainer(tag) || tag === AMQPV.LONG_STRING || tag === AMQPV.BYTE_ARRAY;
+export const isCounted = (tag) => isContainer(tag) || tag === AMQPV.LONG_STRING || tag === AMQPV.BYTE_ARRAY;
 
-// Rows by columns. A row is a value, in a table with its key, or such a key, whose type tag is 0. Row 0 stands for all.
+// Rows by columns. A row is a value, in a table with its key, or such a key, whose type tag is 0, or what isn't read.
+// Row 0 stands for all.
 class Rows {
     constructor(length) {
         for (const name of ["start", "value", "end", "parent", "level", "index", "size", "tag", "flags"]) {
             this[name] = new Uint32Array(length + 3);
         }
-        [this.count, this.end[0], this.tag[0], this.flags[0]] = [1, length, AMQPV.ARRAY, CUT];
+        [this.count, this.end[0], this.tag[0]] = [1, length, AMQPV.ARRAY];
     }
 
     add(parent, start, value, end, tag, flags) {
@@ -29,7 +30,7 @@ class Rows {
         return row;
     }
 
-    isPair(row) { return this.tag[this.parent[row]] === AMQPV.TABLE; }
+    isPair(row) { return this.tag[this.parent[row]] === AMQPV.TABLE && !(this.flags[row] & REST); }
 
     // The row that a byte is of, or 0.
     at(offset) {
@@ -45,6 +46,9 @@ class Rows {
     parts(row) {
         const [start, value, end, tag] = [this.start, this.value, this.end, this.tag].map((column) => column[row]);
         const content = isCounted(tag) ? value + 5 : value + 1;
+        if (this.flags[row] & REST) {
+            return [["rest", value, end]];
+        }
         const parts = [["key's length", start, Math.min(start + 1, value)], ["key", start + 1, value],
             ["type tag", value, value + 1], ["length", value + 1, content],
             [isContainer(tag) ? "entries" : "payload", content, end]];
@@ -52,56 +56,79 @@ class Rows {
     }
 }
 
-// Returns the rows of the value at the start of some data, as much as has come and is well-formed, and where the
-// container ends in which they do.
-function walk(module, data, depth, isOk) {
+// Returns the rows of the value at the start of some data, as far as they are read, and then one of what isn't.
+function walk(module, data, depth) {
     const rows = new Rows(data.length), { words, bytes } = module, entry = module.base / 4, tagAt = module.base + 56;
+    const rest = (parent, start, end) => start < end && rows.add(parent, start, start, end, 0, REST);
     let parent = 0;
     module.enter(0, AMQPV.ARRAY, 0, data.length);
     while (parent || rows.count === 1) {
-        const end = rows.end[parent], level = rows.level[parent];
+        const end = rows.end[parent], level = rows.level[parent], all = rows.count > 1 ? rows.end[1] : data.length;
         const start = module.begins(level), code = module.next(level);
-        if (code === AMQPV.NONE && !(rows.flags[parent] & CUT)) {
+        if (code === AMQPV.NONE && !parent) {
+            break;
+        } else if (code === AMQPV.NONE) {
             parent = rows.parent[parent];
             continue;
-        } else if (code === AMQPV.NONE) {
-            break;
         }
         const isWhole = code === AMQPV.OK, isPair = rows.tag[parent] === AMQPV.TABLE;
-        const value = isWhole ? words[entry + 4] : isPair ? keyEnd(module, data, start) : start;
-        const isOpen = !isWhole && rows.flags[parent] & CUT, isKeyCut = value > end;
-        const isBadKey = isPair && !isOk && !module.isKey(start + 1, Math.min(value, end));
-        if (isKeyCut || isBadKey) {
-            const stop = isBadKey ? start + 1 : end, noKey = stop === start + 1 ? NO_KEY : 0;
-            (isOpen || !isKeyCut) && rows.add(parent, start, stop, stop, 0, isKeyCut ? KEY_CUT | noKey : noKey);
+        const value = isWhole ? words[entry + 4] : isPair ? start + 1 + data[start] : start;
+        if (value > end) {
+            rest(parent, start, all);
             break;
         }
         const tag = isWhole ? bytes[tagAt] : value < end ? module.number([data[value]])?.tag : 0;
-        const isDeep = isContainer(tag) && level >= depth;
-        if (!tag || isWhole && isDeep) {
-            isPair && rows.add(parent, start, value, value, 0, 0);
+        const stop = isWhole ? value + words[entry + 6] : end, hasLength = end - value >= 5;
+        if (!tag || isContainer(tag) && level >= depth) {
+            isPair && rows.add(parent, start, value, value, 0, BARE);
+            rest(parent, value, rows.count > 1 ? all : tag ? stop : 1);
             break;
-        }
-        const isSome = isOpen && isCounted(tag) && end - value >= 5 && !isDeep, flags = isOpen | (isSome ? 0 : BARE);
-        const stop = isWhole ? value + words[entry + 6] : isSome ? end : value + 1;
-        const row = rows.add(parent, start, value, stop, tag, isWhole ? 0 : flags);
-        if (isContainer(tag) && (isWhole || isSome)) {
-            module.enter(level + 1, tag, value + 5, stop);
-            parent = row;
-        } else if (!isWhole) {
+        } else if (isWhole || isContainer(tag) && hasLength) {
+            const row = rows.add(parent, start, value, stop, tag, 0);
+            // (of a container that is cut nothing follows in the one that it is in)
+            isWhole || module.enter(level, rows.tag[parent], stop, end);
+            if (isContainer(tag)) {
+                module.enter(level + 1, tag, value + 5, stop);
+                parent = row;
+            }
+        } else {
+            const content = isCounted(tag) && hasLength ? value + 5 : value + 1;
+            rows.add(parent, start, value, content, tag, BARE);
+            rest(parent, content, rows.count > 2 ? all : end);
             break;
         }
     }
-    return { rows, end: rows.end[parent] };
+    return rows;
 }
 
-const keyEnd = (module, data, start) => start + 1 + module.number([AMQPV.SHORT_SHORT_UINT, data[start]]).low;
+// How many bytes the value at an offset has, by its header: at least so many if that is cut.
+function extent(module, data, at) {
+    const found = module.number([data[at]]), length = data.subarray(at + 1, at + 5);
+    return !isCounted(found.tag) || length.length < 4 ? found.size
+        : 5 + module.number([AMQPV.LONG_UINT, ...length]).low;
+}
 
-// How many bytes a value lacks that an end cuts.
-function lack(module, data, at, end) {
-    const [code, count] = module.read(at, end, 0xffffffff, 0);
-    const length = () => module.number([AMQPV.LONG_UINT, ...data.subarray(at + 1, at + 5)]).low;
-    return code === AMQPV.TOO_LARGE ? at + 5 + length() - end : count;
+// Marks the pairs whose key an earlier pair of the same table has.
+function markRepeated({ data, rows }) {
+    const { start, value, parent } = rows, pairs = [];
+    for (let row = 1; row < rows.count; row++) {
+        rows.isPair(row) && pairs.push(row);
+    }
+    // the slot of each key, of a million, and whether one key has it, or more: only these are compared
+    const slotOf = pairs.map((row) => {
+        let hash = parent[row];
+        for (let at = start[row] + 1; at < value[row]; at++) {
+            hash = Math.imul(hash ^ data[at], 0x01000193);
+        }
+        return (hash ^ (hash >>> 12)) & 0xfffff;
+    });
+    const slots = new Uint8Array(1 << 20), seen = new Set();
+    slotOf.forEach((slot) => (slots[slot] = slots[slot] ? 2 : 1));
+    for (const row of pairs.filter((_, it) => slots[slotOf[it]] > 1)) {
+        const key = `${parent[row]} ${String.fromCharCode(...data.subarray(start[row] + 1, value[row]))}`;
+        rows.flags[row] |= seen.has(key) ? AGAIN : 0;
+        seen.add(key);
+    }
 }
 
 // Reads the value at the start of some bytes, or the table without its type tag, within limits. Offsets count from
@@ -113,14 +140,18 @@ export function read(module, bytes, { isTable = false, frame = AMQPV.FRAME, dept
     const [code, count] = module.read(0, data.length, frame, depth), isOk = code === AMQPV.OK;
     const failed = isOk ? null : module.problem(AMQPV.RULES_READ, frame, depth);
     const rabbitmq = code === AMQPV.MORE ? null : module.problem(AMQPV.RULES_RABBITMQ, frame, depth);
-    const { rows, end } = code === AMQPV.TOO_LARGE ? { rows: new Rows(0) } : walk(module, data, depth, isOk);
-    const stop = code === AMQPV.MORE ? data.length : end;
-    if (failed?.kind === AMQPV.PROBLEM_CUT && failed.offset < stop) {
-        failed.tag = module.number([data[failed.offset]]).tag;
-        failed.needs = lack(module, data, failed.offset, stop);
-    } else if (failed?.kind === AMQPV.PROBLEM_KEY_CUT) {
-        failed.needs = keyEnd(module, data, failed.offset) - stop;
+    const rows = code === AMQPV.TOO_LARGE ? new Rows(0) : walk(module, data, depth);
+    for (const problem of [failed, rabbitmq].filter(Boolean)) {
+        const { kind, offset } = problem, row = rows.at(offset);
+        const isRead = row && rows.value[row] === offset && rows.tag[row];
+        // (a header that its container cuts isn't read on after that)
+        const there = data.subarray(0, isRead ? rows.end[rows.parent[row]] : data.length);
+        problem.size = kind === AMQPV.PROBLEM_CUT && isRead || kind === AMQPV.PROBLEM_TOO_LARGE
+            ? extent(module, there, offset) : 0;
+        problem.type = isRead ? rows.tag[row] : 0;
     }
-    const isCanonical = isOk && module.isCanonical(frame, depth);
-    return { module, data, shift, frame, depth, code, count, rows, failed, rabbitmq, isCanonical };
+    const isCanonical = isOk && module.isCanonical(frame, depth), limits = { frame, depth };
+    const reading = { module, data, shift, limits, code, count, rows, failed, rabbitmq, isCanonical };
+    isCanonical || markRepeated(reading);
+    return reading;
 }

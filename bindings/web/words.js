@@ -1,16 +1,13 @@
 // What is read, in the words of amqp_show.
 import { AMQPV, NAMES } from "./header.js";
-import { BARE, CUT, KEY_CUT, NO_KEY, isContainer } from "./reading.js";
+import { AGAIN, BARE, REST, isContainer } from "./reading.js";
 
 const UNPRINTABLE = /["\\\u0000-\u001f\u007f-\u009f\u061c\u200e\u200f\u202a-\u202e\u2066-\u2069]/g;
 const DIGITS = Array.from({ length: 256 }, (_, it) => it.toString(16).padStart(2, "0"));
 export const hexadecimal = (bytes) => Array.from(bytes, (it) => DIGITS[it]).join("");
 
-function escaped(character) {
-    const code = character.charCodeAt(0);
-    return /["\\]/.test(character) ? `\\${character}` : code < 128 ? `\\x${DIGITS[code]}`
-        : `\\u{${code.toString(16).padStart(4, "0")}}`;
-}
+const digitsOf = (character) => `\\u${character.charCodeAt(0).toString(16).padStart(4, "0")}`;
+const escaped = (character) => (/["\\]/.test(character) ? `\\${character}` : digitsOf(character));
 
 // A string in quotation marks; if it isn't UTF-8, only with characters of ASCII.
 export function quoted(bytes) {
@@ -61,11 +58,11 @@ function floatText(number, bits, most, zeros) {
 // A value of fixed width, by the type tag, bits and scale that were read.
 function numberText({ tag, low, high, scale }) {
     const view = new DataView(Uint32Array.of(low, high).buffer), bits = view.getBigUint64(0, true);
-    const digits = (count) => bits.toString(16).padStart(count, "0"), decimal = `${bits}`.padStart(scale + 1, "0");
+    const decimal = `${bits}`.padStart(scale + 1, "0");
     switch (tag) {
         case AMQPV.BOOLEAN: return `${low === 1}`;
-        case AMQPV.FLOAT: return `${floatText(view.getFloat32(0, true), low, 13, 5)} (bits ${digits(8)})`;
-        case AMQPV.DOUBLE: return `${floatText(view.getFloat64(0, true), null, 16, 4)} (bits ${digits(16)})`;
+        case AMQPV.FLOAT: return floatText(view.getFloat32(0, true), low, 13, 5);
+        case AMQPV.DOUBLE: return floatText(view.getFloat64(0, true), null, 16, 4);
         case AMQPV.TIMESTAMP: return bits > 253402207200n ? `${bits}`
             : `${bits} (${new Date(Number(bits) * 1000).toISOString().replace(".000", "")})`;
         case AMQPV.DECIMAL: return scale ? `${decimal.slice(0, -scale)}.${decimal.slice(-scale)}` : decimal;
@@ -77,7 +74,7 @@ function numberText({ tag, low, high, scale }) {
 export function valueText({ module, data, rows }, row, most = Infinity) {
     const tag = rows.tag[row], flags = rows.flags[row], from = rows.value[row], end = rows.end[row], name = NAMES[tag];
     const content = data.subarray(from + 5, end), shown = content.subarray(0, Math.min(most, content.length));
-    if (flags & BARE || isContainer(tag) || tag === AMQPV.VOID || flags & CUT && content.length === 0) {
+    if (flags & BARE || isContainer(tag) || tag === AMQPV.VOID || tag === AMQPV.BYTE_ARRAY && content.length === 0) {
         return name;
     } else if (tag !== AMQPV.LONG_STRING && tag !== AMQPV.BYTE_ARRAY) {
         return `${name} ${numberText(module.number(data.subarray(from, end)))}`;
@@ -87,93 +84,84 @@ export function valueText({ module, data, rows }, row, most = Infinity) {
 }
 
 // The JSON of what was read, as amqp_show has it, or null.
-export function jsonText({ module, data, code, frame, depth }) {
+export function jsonText({ module, data, code, limits: { frame, depth } }) {
     module.load(data);
-    const digits = (it) => `\\u${it.charCodeAt(0).toString(16).padStart(4, "0")}`;
     const text = code === AMQPV.OK ? module.json(frame, depth) : null;
-    return text?.replace(UNPRINTABLE, (it) => (/["\\]/.test(it) ? it : digits(it)));
+    return text?.replace(UNPRINTABLE, (it) => (/["\\]/.test(it) ? it : digitsOf(it)));
 }
 
-export const keyBytes = ({ data, rows }, row) => data.subarray(rows.start[row] + 1, rows.value[row]);
-export const keyText = (reading, row) => (reading.rows.flags[row] & NO_KEY ? "?" : quoted(keyBytes(reading, row)));
-export const indentation = (level) => (level <= 33 ? "  ".repeat(level - 1) : `${"  ".repeat(32)}[${level - 1}] `);
+export const keyText = ({ data, rows }, row) => quoted(data.subarray(rows.start[row] + 1, rows.value[row]));
+export const indentation = (level) => "  ".repeat(Math.min(level - 1, 64));
 
-// A row as the tree has it, in parts: the key, that it is cut, the value, and that this is.
+// A row as the tree has it, in parts: the key, that it comes again, what is between it and the value, the value, and
+// what isn't read.
 export function rowParts(reading, row, most) {
-    const { rows } = reading, flags = rows.flags[row];
-    const key = rows.isPair(row) ? keyText(reading, row) : "";
+    const { data, rows } = reading, flags = rows.flags[row], rest = data.subarray(rows.value[row], rows.end[row]);
+    if (flags & REST) {
+        return ["", "", "", "", `${quoted(rest.subarray(0, 64))}${rest.length > 64 ? ".." : ""} (not read)`];
+    }
+    const key = rows.isPair(row) ? keyText(reading, row) : "", again = flags & AGAIN ? " (the key comes again)" : "";
     const value = rows.tag[row] ? valueText(reading, row, most) : "";
-    return [key, flags & KEY_CUT ? " (cut)" : "", key && value ? ": " : "", value, flags & CUT ? " (cut)" : ""];
+    return [key, again, key && value ? ": " : "", value, ""];
 }
 
 export const treeLines = (reading) => Array.from({ length: reading.rows.count - 1 }, (_, it) =>
     indentation(reading.rows.level[it + 1]) + rowParts(reading, it + 1).join(""));
 
-// The offset and the words of what is wrong, or null.
-export function failure({ failed, shift }) {
-    if (!failed) {
-        return null;
-    }
-    const { kind, offset, tag, needs } = failed;
-    const [after, why] = {
-        [AMQPV.PROBLEM_UNKNOWN_TAG]: [0, `a type tag is expected; ${DIGITS[tag]} is none`],
-        [AMQPV.PROBLEM_CUT]: tag ? [1, `the payload of a ${NAMES[tag]} is expected; more bytes needed: ${needs}`]
-            : [0, "a type tag is expected; nothing is left"],
-        [AMQPV.PROBLEM_KEY_CUT]: [0, `a key is expected; more bytes needed: ${needs}`],
-        [AMQPV.PROBLEM_TOO_DEEP]: [0, "containers nest deeper than --depth allows"],
-        [AMQPV.PROBLEM_TOO_LARGE]: [0, `the ${shift ? "table" : "value"} has more bytes than --max-bytes allows`],
-        [AMQPV.PROBLEM_KEY_NOT_UTF8]: [1, "a key is expected; the bytes aren't UTF-8"],
+// Whether the input ends inside the value.
+const isTruncated = ({ kind, offset }) => kind === AMQPV.PROBLEM_CUT && offset === 0;
+
+// The offset of a problem, and its words.
+function problemText({ data, shift, limits: { frame, depth } }, problem) {
+    const { kind, offset, tag, type, size } = problem, at = isTruncated(problem) ? data.length : offset;
+    const key = data.subarray(offset + 1, offset + 1 + data[offset]), name = NAMES[type];
+    const inside = name ? `the input ends inside the ${name}` : "a value is expected; the input ends here";
+    const past = name ? `the ${name} of ${size} bytes goes past the end of its container`
+        : "a value is expected; its table ends here";
+    const why = {
+        [AMQPV.PROBLEM_UNKNOWN_TAG]: NAMES[tag]
+            ? `RabbitMQ doesn't know the type tag ${String.fromCharCode(tag)} (${NAMES[tag]})`
+            : `a type tag is expected; ${DIGITS[tag]} is none`,
+        [AMQPV.PROBLEM_CUT]: isTruncated(problem) ? inside : past,
+        [AMQPV.PROBLEM_KEY_CUT]: `the key of ${data[offset]} bytes goes past the end of its table`,
+        [AMQPV.PROBLEM_KEY_NOT_UTF8]: `the key ${quoted(key)} isn't UTF-8`,
+        [AMQPV.PROBLEM_NOT_FINITE]: "the number is an infinity or a NaN",
+        [AMQPV.PROBLEM_TOO_DEEP]: `containers nest deeper than --depth ${depth} allows`,
+        [AMQPV.PROBLEM_TOO_LARGE]: `the ${shift ? "table with its type tag" : "value"} has ${size} bytes, `
+            + `more than --max-bytes ${frame} allows`,
     }[kind];
-    return [Math.max(0, offset + after - shift), why];
+    return [Math.max(0, at - shift), why];
 }
+
+const isBeyondLimits = ({ kind }) => kind === AMQPV.PROBLEM_TOO_DEEP || kind === AMQPV.PROBLEM_TOO_LARGE;
+
+// The offset and the words of what is wrong, or null.
+export const failure = (reading) => reading.failed && problemText(reading, reading.failed);
 
 // What reading resulted in.
-export function outcome({ code, count, shift, data }) {
-    return code === AMQPV.OK ? `a ${shift ? "table" : "value"} of ${count - shift} bytes, ${data.length - count} follow`
-        : code === AMQPV.MORE ? `truncated; more bytes needed: ${count}`
-            : `refused, ${{ [AMQPV.UNKNOWN_TAG]: "MapOpt", [AMQPV.TOO_LARGE]: "TooLarge" }[code] ?? "Eof"}`;
+export function outcome({ code, count, shift, failed }) {
+    return code === AMQPV.OK ? `a ${shift ? "table" : "value"} of ${count - shift} bytes`
+        : isBeyondLimits(failed) ? "beyond the limits"
+            : code === AMQPV.MORE ? `truncated; more bytes needed: ${count}` : "malformed";
 }
 
-// Whether RabbitMQ closes the connection, and why; nothing of cut bytes.
-export function rabbitmqText({ code, rabbitmq, shift }) {
+// Those that were tried.
+const VERSIONS = "RabbitMQ 3.10.8, 4.0.5 and 4.3.6";
+
+// Whether RabbitMQ closes the connection, and why; nothing of truncated bytes.
+export function rabbitmqText(reading) {
+    const { code, rabbitmq } = reading;
     if (!rabbitmq) {
-        return code === AMQPV.MORE ? "" : "RabbitMQ 3.10.8 takes it";
+        return code === AMQPV.MORE ? "" : `${VERSIONS} accept it`;
     }
-    const why = {
-        [AMQPV.PROBLEM_UNKNOWN_TAG]: `a type tag is expected; RabbitMQ knows no ${DIGITS[rabbitmq.tag]}`,
-        [AMQPV.PROBLEM_CUT]: "a value is expected; too few bytes are left",
-        [AMQPV.PROBLEM_KEY_CUT]: "a key is expected; too few bytes are left",
-        [AMQPV.PROBLEM_NOT_FINITE]: "the number is an infinity or a NaN",
-    }[rabbitmq.kind];
-    return why ? `RabbitMQ 3.10.8 closes the connection: offset ${Math.max(0, rabbitmq.offset - shift)}: ${why}`
-        : "not checked for RabbitMQ beyond the limits";
+    const [at, why] = problemText(reading, rabbitmq);
+    return isBeyondLimits(rabbitmq) ? "not checked for RabbitMQ beyond the limits"
+        : `${VERSIONS} close the connection: offset ${at}: ${why}`;
 }
 
-// Of each key that comes again in its table the last value's row and a line, ordered by table, then by key.
-export function repeats(reading, most = 200) {
-    const { data, shift, rows, rows: { start, value, parent } } = reading, pairs = [];
-    for (let row = 1; row < rows.count && !reading.isCanonical; row++) {
-        rows.tag[row] && rows.isPair(row) && pairs.push(row);
-    }
-    // the slot of each key, of a million, and whether one key has it, or more: only these are compared
-    const slotOf = pairs.map((row) => {
-        let hash = parent[row];
-        for (let at = start[row] + 1; at < value[row]; at++) {
-            hash = Math.imul(hash ^ data[at], 0x01000193);
-        }
-        return (hash ^ (hash >>> 12)) & 0xfffff;
-    });
-    const slots = new Uint8Array(1 << 20);
-    slotOf.forEach((slot) => (slots[slot] = slots[slot] ? 2 : 1));
-    const tables = new Map();
-    for (const row of pairs.filter((_, it) => slots[slotOf[it]] > 1)) {
-        const key = `${parent[row]}`.padStart(10, "0") + String.fromCharCode(...keyBytes(reading, row));
-        const them = tables.get(key) ?? [];
-        them.push(row);
-        tables.set(key, them);
-    }
-    const said = (row) => `${valueText(reading, row, most)} at ${value[row] - shift}`;
-    const again = [...tables].filter(([, them]) => them.length > 1).sort(([one], [two]) => (one < two ? -1 : 1));
-    return again.map(([, them]) => [them.at(-1), `the key ${keyText(reading, them[0])} comes ${them.length} times: `
-        + `first ${said(them[0])}, last ${said(them.at(-1))}; this library takes the last; reject such tables`]);
+// Of the first key that comes again in its table the row and a line, or null.
+export function repeated(reading) {
+    const { rows, shift } = reading, row = rows.flags.findIndex((it) => it & AGAIN);
+    return row < 0 ? null : [row, `offset ${rows.start[row] - shift}: the key ${keyText(reading, row)} comes again; `
+        + "readers differ in which value they take"];
 }

@@ -43,9 +43,9 @@ static void *make_call(void *unused) {
     } else if (is_called("amqpv_measure_table")) {
         result = amqpv_measure_table(given, length, UINT32_MAX, depth, &measure, &count);
     } else if (is_called("amqpv_first_problem")) {
-        result = found(amqpv_first_problem(given, length, AMQPV_RULES_READ, UINT32_MAX, depth, &problem));
+        result = found(amqpv_first_problem(given, length, AMQPV_RULES_RABBITMQ, UINT32_MAX, depth, &problem));
     } else if (is_called("amqpv_first_problem_in_table")) {
-        result = found(amqpv_first_problem_in_table(given, length, AMQPV_RULES_READ, UINT32_MAX, depth, &problem));
+        result = found(amqpv_first_problem_in_table(given, length, AMQPV_RULES_RABBITMQ, UINT32_MAX, depth, &problem));
     } else if (is_called("amqpv_read_by")) {
         result = amqpv_read_by(given, length, AMQPV_RULES_RABBITMQ, UINT32_MAX, depth, &entry, &count, &problem);
     } else if (is_called("amqpv_read_table_by")) {

@@ -13,7 +13,7 @@ from crates import TOP, Crates
 from tests.counts.inputs import INPUTS
 
 SOURCE = Path(__file__).with_name("counts.c")
-LIBRARIES = (*CALLS_FOR_C, "amqp_bench", "amqp_bench_dissect")
+LIBRARIES = (*CALLS_FOR_C, "amqp_bench")
 # How counts.c is compiled. The libraries use no other function of the C library than these.
 WRAPPED = [f"-Wl,--wrap={it}" for it in ("malloc", "realloc", "free", "memcpy", "memmove", "memset")]
 C = ["cc", "-O1", "-g", "-std=c11", "-Wall", "-Wextra", "-Werror", f"-I{TOP}/include", *WRAPPED, "-Wl,-z,now"]

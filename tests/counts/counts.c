@@ -219,13 +219,12 @@ static amqpv_result put_all(void) {
     return result == AMQPV_OK ? amqpv_close(buffer, MOST, &top, &body) : result;
 }
 
-/* The calls of amq_protocol_types, amqp_in_place and amqp_dissect, by the crates amqp_bench and amqp_bench_dissect. */
+/* The calls of amq_protocol_types and amqp_in_place, by the crate amqp_bench. */
 int64_t amqp_bench_decode(const uint8_t *given, size_t given_length);
 int64_t amqp_bench_decode_within(const uint8_t *given, size_t given_length, uint32_t frame, uint32_t depth);
 int64_t amqp_bench_stream(const uint8_t *given, size_t given_length, size_t piece);
 int64_t amqp_bench_scan(const uint8_t *given, size_t given_length);
 int64_t amqp_bench_canonical_len(const uint8_t *given, size_t given_length);
-int64_t amqp_bench_dissect(const uint8_t *given, size_t given_length);
 int64_t amqp_bench_encode_n(const uint8_t *given, size_t given_length, uint8_t *out, size_t capacity, uint64_t times);
 
 static amqpv_result is_done(int64_t bytes_taken) { return bytes_taken == (int64_t)length ? AMQPV_OK : AMQPV_INVALID; }
@@ -236,7 +235,6 @@ static amqpv_result stream_bytes(void) { return is_done(amqp_bench_stream(bytes,
 static amqpv_result stream_blocks(void) { return is_done(amqp_bench_stream(bytes, length, 4096)); }
 static amqpv_result read_in_place(void) { return is_done(amqp_bench_scan(bytes, length)); }
 static amqpv_result canonical_len(void) { return is_done(amqp_bench_canonical_len(bytes, length)); }
-static amqpv_result dissect(void) { return is_done(amqp_bench_dissect(bytes, length)); }
 static amqpv_result generate(void) { return is_written(amqp_bench_encode_n(bytes, length, buffer, MOST, 1)); }
 static amqpv_result generate_twice(void) { return is_written(amqp_bench_encode_n(bytes, length, buffer, MOST, 2)); }
 
@@ -289,7 +287,6 @@ static const call calls[] = {
     {"parse_value and gen_value twice", generate_twice, &length, &is_table},
     {"read_in_place", read_in_place, &length, &is_table},
     {"canonical_len", canonical_len, &length, &is_canonical},
-    {"dissect", dissect, &length, &is_table},
 };
 
 /* ---- a call over an input */

@@ -14,14 +14,13 @@ CALLS = "test_calls"
 READ = "value raw_value short_string long_string byte_array field_array field_table flags".split()
 WITHIN = "value_within field_array_within field_table_within".split()
 COPIES = "clone clone_held clone_flags long_string byte_array try_from from_pairs from_bytes get_bytes".split()
-FOUND = "repeated_key dissect dissect_partial escape".split()
 # The error by the first word of a request: {0} is the second word, which the call leaves unchanged. A generator into a vector
 # leaves what was there. All other calls allocate nothing.
 FAILED = {
     **dict.fromkeys([f"parse_{it}" for it in READ + WITHIN], "failure OutOfMemory"),
     **dict.fromkeys(("wire", "wire_as", "wire_sizes"), "failure OutOfMemory"),
     **dict.fromkeys(("push", "insert", "place", "add_flag"), "AllocError {0}"),
-    **dict.fromkeys((*COPIES, *FOUND), "AllocError"),
+    **dict.fromkeys((*COPIES, "repeated_key"), "AllocError"),
     **dict.fromkeys(("try_copy", "from_entries", "next", "to_json"), "OutOfMemory"),
     "message": "Parser error: OutOfMemory",
 }
@@ -39,7 +38,7 @@ WAY = re.compile(r" (cut after \d+|by bytes|of Values)$")
 # How an answer begins for which no memory is needed: nothing may be allocated. The answers of some calls don't tell.
 NEEDS_NONE = re.compile(
     r"more |error (MapOpt|TooLarge)|(ok )?(-|\[\]|\{\}|Void|None|(Boolean|\w*Int|Float|Double|DecimalValue|Timestamp)"
-    r"\(.*?\)|(Short|Long)String\(-\)|ByteArray\(-\)|\"\"|Problem\(\w+\)|0)(?![^ ;])"
+    r"\(.*?\)|(Short|Long)String\(-\)|ByteArray\(-\)|\"\"|0)(?![^ ;])"
 )
 DONT_TELL = "next repeated_key to_json json json_bytes json_of_encoding nest".split()
 # How many failed allocations a call gets over: the kit's `collect` asks for room for all pairs, and if it can't have that for less.

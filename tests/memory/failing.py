@@ -100,10 +100,10 @@ GIVEN, STORED = ((TOP / "crates/amqp_wire" / it).read_bytes() for it in ("stdin"
 # A stream of three values, of which the last is cut, and its lines.
 STREAM = bytes.fromhex("56 4600000003016156 5300000005")
 STREAM_LINES = b"value 56\nvalue 4600000003016156\ntruncated\n"
-# Cases of tests/show: a tree, parts, JSON, encodings and a message, a stream, a table without type tag, what
-# RabbitMQ rejects.
-SHOWN = """repeated_keys number_past_array json_follow encode_raw encode_number stream_keep_going_json table_canonical
-    check_not_finite_inside""".split()
+# Cases of tests/show: a tree, parts, JSON, encodings and a message, streams, a table without type tag, what RabbitMQ
+# rejects, and its warnings.
+SHOWN = """repeated_keys number_past_array_by_bytes json_follow encode_raw encode_number stream_malformed stream_malformed_json
+    table_malformed check_cut check_warnings""".split()
 
 
 def stored_runs() -> dict[str, Stored]:

@@ -87,7 +87,7 @@ IN_STREAM = ["--stream", "--json"]
 
 
 def tree() -> Run:
-    ends = f"= a value of {LARGE + 5} bytes, 0 follow\n".encode()
+    ends = f"= a value of {LARGE + 5} bytes\n".encode()
     return Run("amqp_show", WIDE, STRING, [b"LongString ", *SHOWN, ends])
 
 

@@ -233,7 +233,9 @@ def assert_ended_by(ended: Ending, name: str, call: Call, error: int) -> None:
         assert ended == wants
     else:
         assert (ended.status, ended.error) == said
-        assert wants.out.startswith(ended.out) and ended.out != wants.out
+        # (amqp_show shows a value before it reads what follows)
+        is_after_value = name.startswith("amqp_show") and call == READ
+        assert wants.out.startswith(ended.out) and (ended.out != wants.out or is_after_value)
 
 
 @on_devices

@@ -149,7 +149,7 @@ CALLS = {
     **{it: Call([it], {"": encoding}, UNLIMITED) for it in ("gen_value", "clone", "==", "to_json")},
     **{it: Call([it], {"": encoding}, DEEPER) for it in ("parse_value_within", "SplitInput", "ValueReader::next")},
     **{it: Call([it], {"": encoding}, DEEPER) for it in ("read_in_place", "to_owned", "is_canonical", "canonical_len")},
-    **{it: Call([it], {"": encoding}, DEEPER) for it in ("measure_value", "first_problem", "warnings")},
+    **{it: Call([it], {"": encoding}, DEEPER) for it in ("measure_value", "warnings")},
     "json_of_encoding": Call(["json_of_encoding"], {"": unordered}, DEEPER),
     **{it: Call([it], TEXTS, OF_JSON) for it in ("from_json", "encoding_of_json")},
 }

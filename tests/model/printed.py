@@ -5,8 +5,9 @@ It has a separate reader and writer of values, and shares nothing with the crate
 
 import math
 import random
+import re
 import struct
-from collections.abc import Callable, Iterable, Iterator, Sequence
+from collections.abc import Iterable, Iterator, Sequence
 from dataclasses import dataclass
 from datetime import datetime, timedelta
 from decimal import Decimal
@@ -127,11 +128,11 @@ def json_text(value: Value) -> str:
 
 
 class Failure(Exception):
-    """The offset at which a value fails, and why."""
+    """The offset at which a value fails, and why; and the type tag of the container that it is in."""
 
 
-# A key of a table: the offset of the table's body, and the key's bytes.
-Place = tuple[int, bytes]
+class NotRead(Exception):
+    """A value, or a key, can't be read any further."""
 
 
 @dataclass
@@ -139,20 +140,22 @@ class Part:
     offset: int
     level: int
     kind: str
-    type: str
     bytes: bytes
-    # What the tree has of a type tag and of a key's length, and what isn't canonical here.
-    text: str = "?"
+    # The value's type, and what readers may differ on.
+    type: str = ""
     note: str = ""
-    is_cut: bool = False
 
     def noted(self, asks_notes: bool) -> str:
-        """That what begins here is cut, or what isn't canonical, if notes are asked for."""
-        return " (cut)" if self.is_cut else f" (not canonical: {self.note})" if self.note and asks_notes else ""
+        """What readers may differ on: a repeated key always, the rest if notes are asked for."""
+        return f" ({self.note})" if self.note and (asks_notes or self.note == AGAIN) else ""
+
+
+TRUNCATED = "the input ends"
+AGAIN, AFTER_GREATER = "the key comes again", "the key comes after a greater one"
 
 
 class Dissection:
-    """The parts of the value at the start of some bytes, up to its end or its fault, and what is cut by the bytes' end.
+    """The parts of some bytes, as far as they are read, and then one of what isn't; and the first problem.
 
     A table is read as if its type tag came before the bytes, and offsets are those of the bytes.
     """
@@ -162,15 +165,22 @@ class Dissection:
         self.data = data = b"F" * self.left_out + data
         self.parts: list[Part] = []
         self.failure: Failure | None = None
-        self.end = 0
-        # The type tags at each key of each table.
-        self.tags: dict[Place, list[Part]] = {}
+        self.at = self.level = 0
+        self.end = min(max(1, extent(data)), len(data))
         try:
             if extent(data) > FRAME:
-                raise Failure(0, f"the {subject} has more bytes than --max-bytes allows")
-            self.end = self.value(0, len(data), 0, DEPTH, True)
+                raise Failure(0, too_large(data, self.left_out))
+            self.walk()
+            taken(data, 0, len(data), DEPTH, rules="read")
         except Failure as why:
-            self.failure = self.failure or why
+            self.failure = why
+
+    def walk(self) -> None:
+        try:
+            while self.at < self.end:
+                self.value(self.end, 0)
+        except NotRead:
+            self.part(self.end - self.at, "rest")
 
     def offset(self, at: int) -> int:
         return max(0, at - self.left_out)
@@ -178,108 +188,86 @@ class Dissection:
     def failed(self) -> str:
         """The offset at which it fails, and why."""
         assert self.failure
-        at, why = self.failure.args
-        return f"offset {self.offset(at)}: {why}"
+        at, why, *_ = self.failure.args
+        return f"offset {self.offset(len(self.data) if TRUNCATED in why else at)}: {why}"
 
-    def part(self, at: int, end: int, level: int, kind: str, type: str = "") -> Part:
-        part = Part(at, level, kind, type, self.data[at:end])
-        self.parts += [part] if at < end else []
-        return part
+    def part(self, count: int, kind: str, type: str = "", note: str = "") -> bytes:
+        part = Part(self.at, self.level, kind, self.data[self.at : self.at + count], type, note)
+        # (a key and a string may be empty)
+        self.parts += [part] if count or kind == "key" or type in ("LongString", "ByteArray") else []
+        self.at += count
+        return part.bytes
 
-    def value(self, at: int, end: int, level: int, depth: int, is_open: bool, key: Place | None = None) -> int:
-        """Takes a value apart that begins at an offset, and returns the offset of its end.
-
-        What is open ends at the bytes' end. If it is cut there it is taken apart as far as it has come; what the
-        outermost one needs is the failure.
-        """
-        if at == end:
-            raise Failure(at, "a type tag is expected; nothing is left")
-        tag = chr(self.data[at])
-        if tag not in TYPES:
-            raise Failure(at, f"a type tag is expected; {self.data[at]:02x} is none")
-        (name, width), needs = TYPES[tag], lack(self.data[at:end])
-        if not needs and tag in "AF" and not depth:
-            raise Failure(at, "containers nest deeper than --depth allows")
-        value = self.part(at, at + 1, level, "tag", name)
-        value.text, value.is_cut = name, needs > 0 and is_open
-        value.note = f"{tag} is a second spelling of {ALTERNATE[tag]}" if tag in ALTERNATE else ""
-        if key is not None:
-            self.tags.setdefault(key, []).append(value)
-        failure = Failure(at + 1, f"the payload of a {name} is expected; more bytes needed: {needs}")
-        if value.is_cut:
-            self.failure = self.failure or failure
-        has_length = tag in COUNTED and at + 5 <= end
-        if needs and not (is_open and has_length and (depth or tag in "Sx")):
-            raise failure
-        end = min(end, at + extent(self.data[at : at + 5]))
-        at += 1
-        if has_length:
-            self.part(at, at + 4, level, "length", name)
-            at += 4
+    def value(self, end: int, level: int) -> None:
+        """Takes a value apart, as far as it is there up to an end."""
+        self.level, begin = level, self.at
+        tag = chr(self.data[begin]) if begin < end else ""
+        if tag not in TYPES or tag in "AF" and level >= DEPTH:
+            raise NotRead
+        name, width = TYPES[tag]
+        self.part(1, "tag", name)
+        if tag in COUNTED:
+            if end - self.at < 4:
+                raise NotRead
+            width = int.from_bytes(self.part(4, "length", name), "big")
+        assert width is not None
         if tag in "AF":
-            self.entries(tag, at, end, level, depth, value.is_cut)
+            self.entries(tag, min(end, self.at + width), level + 1)
+        elif end - self.at < width:
+            raise NotRead
         else:
-            payload = self.part(at, end, level, "payload", name)
-            if payload.bytes or tag in "Sx" and not needs:
-                value.text = f"{name} {text_of(name, payload.bytes)}"
-            if tag == "t" and payload.bytes not in (b"\0", b"\1"):
-                payload.note = "true is written as 01"
-        if needs:
-            raise failure
-        return end
+            is_other = tag == "t" and self.data[self.at] > 1
+            alternate = f"the type tag {tag} isn't canonical, {ALTERNATE[tag]} is" if tag in ALTERNATE else ""
+            self.part(width, "payload", name, "the byte isn't canonical, 01 is" if is_other else alternate)
 
-    def entries(self, tag: str, at: int, end: int, level: int, depth: int, is_open: bool) -> None:
-        table, key = at, None
-        while at < end:
+    def entries(self, tag: str, end: int, level: int) -> None:
+        keys: list[bytes] = []
+        seen = set[bytes]()
+        while self.at < end:
             if tag == "F":
-                at, key = self.key(at, end, level + 1, is_open, key)
-            at = self.value(at, end, level + 1, depth - 1, is_open, None if key is None else (table, key))
+                self.level = level
+                keys.append(self.key(end, seen, keys[-1:]))
+                seen.add(keys[-1])
+            self.value(end, level)
 
-    def key(self, at: int, end: int, level: int, is_open: bool, last: bytes | None) -> tuple[int, bytes]:
-        """Takes a key apart, and returns the offset of its end, and the key."""
-        count, stop = self.data[at], at + 1 + self.data[at]
-        is_cut = is_open and stop > end
-        if stop > end and not is_cut:
-            raise Failure(at, f"a key is expected; more bytes needed: {stop - end}")
-        length, at = self.part(at, at + 1, level, "key length"), at + 1
-        length.is_cut = is_cut
-        try:
-            self.data[at : min(stop, end)].decode("utf-8")
-        except UnicodeDecodeError:
-            raise Failure(at, "a key is expected; the bytes aren't UTF-8") from None
-        key = self.part(at, min(stop, end), level, "key").bytes
-        if key or not count:
-            length.text = quoted(key)
-        if last is not None and key <= last:
-            length.note = "the key comes again" if key == last else "the key comes after a greater one"
-        return min(stop, end), key
+    def key(self, end: int, seen: set[bytes], last: list[bytes]) -> bytes:
+        count = self.data[self.at]
+        if end - self.at < 1 + count:
+            raise NotRead
+        self.part(1, "key length")
+        key = self.data[self.at : self.at + count]
+        return self.part(count, "key", note=AGAIN if key in seen else AFTER_GREATER if [key] < last else "")
 
 
-def following(data: bytes, end: int) -> str:
-    """How many bytes are after a value. No more than the limit and one are read."""
-    return f"at least {FRAME + 1 - end}" if len(data) > FRAME else str(len(data) - end)
+def too_large(data: bytes, left_out: int) -> str:
+    name = "table with its type tag" if left_out else "value"
+    return f"the {name} has {extent(data)} bytes, more than --max-bytes {FRAME} allows"
 
 
 def outcome(dissection: Dissection) -> str:
     """What reading within the limits results in."""
     data = dissection.data
     if not dissection.failure:
-        length, follow = dissection.offset(dissection.end), following(data, dissection.end)
-        return f"a {dissection.subject} of {length} bytes, {follow} follow"
-    if extent(data) > FRAME:
-        return "refused, TooLarge"
+        return f"a {dissection.subject} of {dissection.offset(dissection.end)} bytes"
     if needs := lack(data):
-        return f"truncated; more bytes needed: {needs}"
-    return "refused, Eof" if chr(data[0]) in TYPES else "refused, MapOpt"
+        return "beyond the limits" if extent(data) > FRAME else f"truncated; more bytes needed: {needs}"
+    return "beyond the limits" if " allows" in dissection.failure.args[1] else "malformed"
+
+
+# Bytes of two digits, some with a prefix, and what may be between them.
+HEXADECIMAL = re.compile(rb"(?:B*(?:0[xX]|\\x)?[\da-fA-F]{2})+B*".replace(b"B", rb"(?:[ \t\r\n\f,:]|#[^\n]*(?:\n|\Z))"))
 
 
 def hints(data: bytes, subject: str) -> list[str]:
-    """That bytes which aren't what they should be are a table without its type tag, or with it."""
+    """What rejected bytes may be instead."""
     if subject == "table":
         is_other = data[:1] == b"F" and is_all(data, "value")
-        return ["the input is a table with its type tag; without --table it is read"] if is_other else []
-    is_other = not (data and chr(data[0]) in TYPES) and is_all(data, "table")
-    return ["the input is a table without its type tag; --table reads it"] if is_other else []
+        return ["the input has a type tag; without --table it is read"] if is_other else []
+    if data and chr(data[0]) in TYPES:
+        return []
+    if HEXADECIMAL.fullmatch(data):
+        return ["the input seems to be hexadecimal; --hex reads it"]
+    return ["the input is a table without its type tag; --table reads it"] if is_all(data, "table") else []
 
 
 def is_all(data: bytes, subject: str) -> bool:
@@ -296,14 +284,14 @@ def escaped(c: str) -> str:
         return f"\\{c}"
     if ord(c) not in UNPRINTABLE:
         return c
-    return f"\\x{ord(c):02x}" if ord(c) < 128 else f"\\u{{{ord(c):04x}}}"
+    return f"\\u{ord(c):04x}"
 
 
 def quoted(data: bytes) -> str:
     try:
         return '"' + "".join(map(escaped, data.decode("utf-8"))) + '"'
     except UnicodeDecodeError:
-        return '"' + "".join(escaped(chr(b)) if 0x20 <= b < 0x7F else f"\\x{b:02x}" for b in data) + '"'
+        return '"' + "".join(escaped(chr(b)) if b < 128 else f"\\x{b:02x}" for b in data) + '"'
 
 
 def shortest_float(data: bytes) -> Decimal:
@@ -349,7 +337,7 @@ def text_of(name: str, data: bytes) -> str:
     if name == "Boolean":
         return "false" if data == b"\0" else "true"
     if name in ("Float", "Double"):
-        return f"{number_of(name, data)} (bits {data.hex()})"
+        return number_of(name, data)
     if name == "LongString":
         return quoted(data)
     if name == "ByteArray":
@@ -364,30 +352,42 @@ def text_of(name: str, data: bytes) -> str:
     return str(number)
 
 
-def repeated(dissection: Dissection) -> Iterator[str]:
-    """A line for each key that is repeated in its table."""
-    for (_, key), found in sorted(dissection.tags.items()):
-        if len(found) > 1:
-            first, last = (f"{it.text} at {dissection.offset(it.offset)}" for it in (found[0], found[-1]))
-            ends = "this library takes the last; reject such tables"
-            yield f"* the key {quoted(key)} comes {len(found)} times: first {first}, last {last}; {ends}"
+def repeated(dissection: Dissection) -> list[str]:
+    """A line on the first key that comes again in its table."""
+    for part in dissection.parts:
+        if part.note == AGAIN:
+            at = dissection.offset(part.offset - 1)
+            return [f"* offset {at}: the key {quoted(part.bytes)} comes again; readers differ in which value they take"]
+    return []
 
 
 def indentation(level: int) -> str:
-    return "  " * level if level <= 32 else f"{'  ' * 32}[{level}] "
+    return "  " * min(level, 64)
+
+
+def not_read(data: bytes) -> str:
+    return f"{quoted(data[:64])}{'..' * (len(data) > 64)} (not read)"
 
 
 def tree(parts: Iterable[Part], asks_notes: bool) -> list[str]:
     lines: list[str] = []
     has_key = False
     for part in parts:
+        if part.kind in ("length", "key length"):
+            continue
         if part.kind == "tag" and has_key:
-            lines[-1] += f": {part.text}"
-        elif part.kind in ("tag", "key length"):
-            lines.append(indentation(part.level) + part.text)
+            lines[-1] += f": {part.type}"
+        elif part.kind == "payload":
+            lines[-1] += f" {text_of(part.type, part.bytes)}".rstrip(" ")
+        else:
+            lines.append(indentation(part.level) + node(part))
         lines[-1] += part.noted(asks_notes)
-        has_key = part.kind in ("key length", "key")
+        has_key = part.kind == "key"
     return lines
+
+
+def node(part: Part) -> str:
+    return {"tag": part.type, "key": quoted(part.bytes), "rest": not_read(part.bytes)}[part.kind]
 
 
 def meaning(part: Part) -> str:
@@ -401,6 +401,8 @@ def meaning(part: Part) -> str:
             return f"key length {part.bytes[0]}"
         case "key":
             return f"key {quoted(part.bytes)}"
+        case "rest":
+            return not_read(part.bytes)
     return text_of(part.type, part.bytes)
 
 
@@ -416,105 +418,117 @@ def part_lines(dissection: Dissection, asks_notes: bool) -> Iterator[str]:
 Printed = tuple[str, str, int]
 
 
-def printed(data: bytes, asks_notes: bool = False, subject: str = "value") -> Printed:
-    """Of `amqp_show --tree --bytes`, with `--canonical` and with `--table`, or without them."""
-    found = Dissection(data, subject)
-    lines = [*tree(found.parts, asks_notes), *part_lines(found, asks_notes), *repeated(found)]
-    lines += [f"! {it}" for it in [found.failed(), *hints(data, subject)]] if found.failure else []
-    return "".join(f"{line}\n" for line in [*lines, f"= {outcome(found)}"]), "", int(bool(found.failure))
+def message(why: str) -> str:
+    return f'amqp_show: "-": {why}\n'
 
 
-def on_a_line(data: bytes, subject: str, line_of: Callable[[Dissection], str]) -> Printed:
-    """Of a form that has a line for a value, and messages for the rest."""
-    found = Dissection(data, subject)
+def ending(found: Dissection, data: bytes) -> tuple[str, int]:
+    """What is said of what is after a value, or of what the bytes may be instead; and the status."""
     if found.failure:
-        lines = [f"{found.failed()}; {outcome(found)}", *hints(data, subject)]
-        return "", "".join(f'amqp_show: "-": {it}\n' for it in lines), 1
-    follows = len(found.data) > found.end
-    said = f'amqp_show: "-": {following(found.data, found.end)} bytes follow the {subject}\n' if follows else ""
-    return f"{line_of(found)}\n", said, 0
+        return "".join(map(message, hints(data, found.subject))), 1
+    more = "" if found.left_out else "; --stream shows values one after another"
+    return message(f"more bytes follow the {found.subject}{more}") if found.end < len(found.data) else "", 0
+
+
+def printed(data: bytes, form: str = "tree", asks_notes: bool = False, subject: str = "value") -> Printed:
+    """Of `amqp_show --tree` or `--bytes`, with `--canonical` and with `--table`, or without them."""
+    found = Dissection(data, subject)
+    lines = [*(part_lines(found, asks_notes) if form == "bytes" else tree(found.parts, asks_notes)), *repeated(found)]
+    lines += [f"! {found.failed()}"] if found.failure else []
+    return "".join(f"{line}\n" for line in [*lines, f"= {outcome(found)}"]), *ending(found, data)
 
 
 def printed_json(data: bytes, subject: str = "value") -> Printed:
     """Of `amqp_show --json`, with `--table` or without it."""
-    return on_a_line(data, subject, lambda found: json_text(read(found.data)[0]))
-
-
-def measured(data: bytes, subject: str = "value") -> Printed:
-    """Of `amqp_show --measure`, with `--table` or without it."""
-    return on_a_line(data, subject, measures)
-
-
-def measures(found: Dissection) -> str:
-    """How many bytes and values what was taken apart has, and how deep its containers nest."""
-    tags = [it for it in found.parts if it.kind == "tag"]
-    levels = max(it.level + (it.type in ("FieldArray", "FieldTable")) for it in tags)
-    return f"bytes {found.offset(found.end)}, values {len(tags)}, levels {levels}"
+    found = Dissection(data, subject)
+    said, status = ending(found, data)
+    if found.failure:
+        return "", message(found.failed()) + said, status
+    return f"{json_text(read(found.data)[0])}\n", said, status
 
 
 def streamed(values: Iterable[bytes]) -> dict[str, Printed]:
-    """Of `amqp_show --stream --keep-going` on values and rejected ones, one after another, by the form."""
-    trees, texts, lines_of_measures, said, offset = "", "", "", "", 0
+    """Of `amqp_show --stream` on values one after another, by the form; the last may be none."""
+    shown, said, status, offset = dict.fromkeys(("tree", "bytes", "JSON"), ""), "", 0, 0
     for data in values:
-        shown, _, status = printed(data)
-        *lines, last = shown.splitlines(keepends=True)
-        trees += "".join(lines) + (
-            f"= no value at {offset}: {last[2:]}" if status else f"= a value of {len(data)} bytes at {offset}\n"
-        )
-        text, why, _ = printed_json(data)
-        texts += text
-        lines_of_measures += measured(data)[0]
-        said += why.replace('"-": ', f'"-": no value at {offset}: ', 1)
+        for form in ("tree", "bytes"):
+            shown[form] += printed(data, form)[0].replace("\n= ", f"\n= at {offset}: ")
+        found = Dissection(data)
+        if found.failure:
+            said, status = message(f"the value at {offset}: {found.failed()}"), 1
+        else:
+            shown["JSON"] += printed_json(data)[0]
         offset += len(data)
-    return {"tree and parts": (trees, "", 1), "JSON": (texts, said, 1), "measures": (lines_of_measures, said, 1)}
+    return {form: (text, said if form == "JSON" else "", status) for form, text in shown.items()}
 
 
-def checked(
-    data: bytes, subject: str = "value", frame_max: int = FRAME_MAX, levels: int = CLIENT_LEVELS, depth: int = DEPTH
-) -> Printed:
-    """Of `amqp_show --check rabbitmq`, with `--table` or without it, and with `--frame-max`, `--levels` and `--depth`."""
+# What RabbitMQ does
+
+# Its versions, by the last word of a name, and which of equal keys each takes.
+EQUAL_KEYS = {
+    "3.10": "delivers both and routes by the first",
+    "4.0": "delivers the first and routes by the last",
+    "4.3": "delivers the first and routes by the last",
+}
+
+
+def checked(data: bytes, subject: str = "value", version: str = "4.3") -> Printed:
+    """Of `amqp_show --check rabbitmq-VERSION`, with `--table` or without it."""
     left_out = int(subject == "table")
-    data = b"F" * left_out + data
+    found = Dissection(data, subject)
+    lines: list[str] = []
     try:
-        if extent(data) > FRAME:
-            raise Failure(0, f"the {subject} has more bytes than --max-bytes allows")
-        end = taken(data, 0, len(data), depth)
-        lines = [*warned(data, end, left_out, subject, frame_max, levels)]
-        lines += [f"= RabbitMQ 3.10.8 takes a {subject} of {end - left_out} bytes, {following(data, end)} follow"]
-        return "".join(f"{it}\n" for it in lines), "", 0
+        if extent(found.data) > FRAME:
+            raise Failure(0, too_large(found.data, left_out))
+        end = taken(found.data, 0, len(found.data), DEPTH)
+        lines += warned(found.data, end, left_out, subject, version)
+        verdict, found.failure = f"RabbitMQ {version} accepts the {subject}", None
     except Failure as failure:
-        at, why, *_ = failure.args
-        verdict = "not checked beyond the limits" if " allow" in why else "RabbitMQ 3.10.8 closes the connection"
-        return f"! offset {max(0, at - left_out)}: {why}\n= {verdict}\n", "", 1
+        found.failure = failure
+        lines.append(f"! {found.failed()}")
+        is_beyond = " allows" in failure.args[1]
+        verdict = "not checked beyond the limits" if is_beyond else f"RabbitMQ {version} closes the connection"
+    return "".join(f"{it}\n" for it in [*lines, f"= {verdict}"]), *ending(found, data)
 
 
-def taken(data: bytes, at: int, end: int, depth: int, inside: str = "", rules: str = "RabbitMQ") -> int:
+def taken(data: bytes, at: int, end: int, depth: int, inside: str = "", rules: str = "RabbitMQ", most: int = -1) -> int:
     """Returns the offset of the end of a value that RabbitMQ takes, or fails at the first thing that it doesn't.
 
     The failure also has the type tag of the container that it is in. Other rules are those of what is read here: "any
     keys", and "read", by which keys are UTF-8.
     """
-    begin, stop = at, at + extent(data[at:end][:5])
+    begin, stop, most = at, at + extent(data[at:end][:5]), depth if most < 0 else most
     tags = {*TYPES} - ({"U"} if rules == "RabbitMQ" else set())
-    if at == end or chr(data[at]) in tags and stop > end:
-        raise Failure(begin, "a value is expected; too few bytes are left", inside)
-    tag = chr(data[at])
-    if tag not in tags:
-        raise Failure(begin, f"a type tag is expected; RabbitMQ knows no {data[at]:02x}", inside)
+    tag = chr(data[at]) if at < end else ""
+    if tag and tag not in tags:
+        known = f"RabbitMQ doesn't know the type tag {tag} ({TYPES[tag][0]})" if tag in TYPES else ""
+        raise Failure(begin, known or f"a type tag is expected; {data[at]:02x} is none", inside)
+    if not tag or stop > end:
+        raise cut(data, begin, tag, stop, inside)
     if rules == "RabbitMQ" and tag in "fd" and not math.isfinite(struct.unpack(f">{tag}", data[at + 1 : stop])[0]):
         raise Failure(begin, "the number is an infinity or a NaN", inside)
     if tag in "AF" and not depth:
-        raise Failure(begin, "containers nest deeper than --depth allows", inside)
+        raise Failure(begin, f"containers nest deeper than --depth {most} allows", inside)
     at += 5
     while tag in "AF" and at < stop:
         if tag == "F":
             if at + 1 + data[at] > stop:
-                raise Failure(at, "a key is expected; too few bytes are left", tag)
-            if rules == "read" and not is_utf8(data[at + 1 : at + 1 + data[at]]):
-                raise Failure(at, "the key isn't UTF-8", tag)
+                raise Failure(at, f"the key of {data[at]} bytes goes past the end of its table", tag)
+            key = data[at + 1 : at + 1 + data[at]]
+            if rules == "read" and not is_utf8(key):
+                raise Failure(at, f"the key {quoted(key)} isn't UTF-8", tag)
             at += 1 + data[at]
-        at = taken(data, at, stop, depth - 1, tag, rules)
+        at = taken(data, at, stop, depth - 1, tag, rules, most)
     return stop
+
+
+def cut(data: bytes, at: int, tag: str, stop: int, inside: str) -> Failure:
+    """Why a value isn't there to its end: the input ends, or its container."""
+    if not inside:
+        why = f"{TRUNCATED} inside the {TYPES[tag][0]}" if tag else f"a value is expected; {TRUNCATED} here"
+        return Failure(at, why, inside)
+    past = f"the {TYPES[tag][0]} of {stop - at} bytes goes past the end of its container" if tag else ""
+    return Failure(at, past or "a value is expected; its table ends here", inside)
 
 
 def pairs(data: bytes, at: int) -> Iterator[tuple[int, int, bytes]]:
@@ -530,15 +544,15 @@ def pairs(data: bytes, at: int) -> Iterator[tuple[int, int, bytes]]:
         at += extent(data[at : at + 5])
 
 
-def containers(data: bytes, at: int, outer: int = 0) -> Iterator[tuple[int, int]]:
-    """Yields each container in a value that RabbitMQ takes: its offset, and in how many containers it is."""
+def values_in(data: bytes, at: int, outer: int = 0) -> Iterator[tuple[int, str, int]]:
+    """Yields each value in one that RabbitMQ takes: its offset and type tag, and in how many containers it is."""
     tag, stop = chr(data[at]), at + extent(data[at : at + 5])
+    yield at, tag, outer
     if tag in "AF":
-        yield at, outer
         at += 5
         while at < stop:
             at += 1 + data[at] if tag == "F" else 0
-            yield from containers(data, at, outer + 1)
+            yield from values_in(data, at, outer + 1)
             at += extent(data[at : at + 5])
 
 
@@ -558,7 +572,16 @@ def doubtful(data: bytes, levels: int) -> dict[str, list[int]]:
         "repeated_key": [at for table, at, key in found if first[table, key] < at],
         "key_not_utf8": [at for _, at, key in found if not is_utf8(key)],
         "empty_key": [at for _, at, key in found if not key],
-        "too_deep": [at for at, outer in containers(data, 0) if levels <= outer],
+        "too_deep": [at for at, tag, outer in values_in(data, 0) if tag in "AF" and levels <= outer],
+    }
+
+
+def unfit_for_streams(data: bytes) -> dict[str, list[int]]:
+    """Where the decimals of a value are, and the containers in its outermost one."""
+    found = [*values_in(data, 0)]
+    return {
+        "decimal": [at for at, tag, _ in found if tag == "D"],
+        "nested_header": [at for at, tag, outer in found if tag in "AF" and outer],
     }
 
 
@@ -568,21 +591,25 @@ def exceeds(end: int, frame_max: int) -> bool:
 
 
 WARNINGS = {
-    "repeated_key": "the key {} comes again; this library takes the last; reject such tables",
-    "key_not_utf8": "the key {} isn't UTF-8; this library refuses it",
-    "empty_key": "the key {} is empty; some clients break on it",
-    "too_deep": "containers nest deeper than --levels allows; most clients break on some depth",
+    "repeated_key": "the key {key} comes again; this library takes the last, RabbitMQ {version} {equal_keys}",
+    "key_not_utf8": "the key {key} isn't UTF-8; this library rejects it",
+    "empty_key": "the key {key} is empty; some clients break on it",
+    "too_deep": "containers nest deeper than 32; most clients break on some depth",
+    "decimal": "a decimal; RabbitMQ {version} closes the connection for such a header if the message goes to a stream",
+    "nested_header": "an array or a table; RabbitMQ {version} drops such a header if the message goes to a stream{kept}",
 }
 
 
-def warned(data: bytes, end: int, left_out: int, subject: str, frame_max: int, levels: int) -> Iterator[str]:
+def warned(data: bytes, end: int, left_out: int, subject: str, version: str) -> Iterator[str]:
     """A line for the first of each that is doubtful in a value that RabbitMQ takes, and for its size."""
-    for kind, places in doubtful(data, levels).items():
+    kept = "" if version == "3.10" else " unless its key is CC or begins with x-"
+    for kind, places in (doubtful(data, CLIENT_LEVELS) | unfit_for_streams(data)).items():
         for at in places[:1]:
             key = quoted(data[at + 1 : at + 1 + data[at]])
-            yield f"* offset {max(0, at - left_out)}: {WARNINGS[kind].format(key)}"
-    if exceeds(end, frame_max):
-        yield f"* the {subject} takes a frame of more bytes than --frame-max allows"
+            what = WARNINGS[kind].format(key=key, version=version, equal_keys=EQUAL_KEYS[version], kept=kept)
+            yield f"* offset {max(0, at - left_out)}: {what}"
+    if exceeds(end, FRAME_MAX):
+        yield f"* the {subject} takes a frame of more than {FRAME_MAX} bytes, RabbitMQ's usual frame_max"
 
 
 # Inputs

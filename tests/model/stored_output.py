@@ -1,7 +1,7 @@
 """Checks the stored output of programs against the model: python3 -m tests.model.stored_output
 
 crates/amqp_wire must print its file `stdout`, which is what the reader and writer of printed.py predict. So must amqp_show in
-the cases of tests/show with JSON, measures and --check, by docs/JSON.md and docs/SHOW.md. `make test` runs this, and compares
+the cases of tests/show with JSON and --check, by docs/JSON.md and the model. `make test` runs this, and compares
 the same files with what the programs print.
 """
 
@@ -15,7 +15,7 @@ from crates import TOP
 
 from tests.checks import Checks, content
 from tests.model.json_format import value_of_json
-from tests.model.printed import CLIENT_LEVELS, FRAME_MAX, Dissection, Unread, checked, json_text, measures, read, write
+from tests.model.printed import Unread, checked, json_text, read, write
 from tests.transcripts import Case, Output, cases
 
 CRATES = TOP / "crates"
@@ -35,18 +35,16 @@ def line(text: str) -> str:
 
 
 def lines_of(case: Case) -> Iterator[str]:
-    """What amqp_show must print of a case's inputs as JSON or measures: of each up to one value, all, or a malformed one."""
+    """What amqp_show must print of a case's inputs as JSON: of each up to one value, all, or a malformed one."""
     words = case.words
-    subject = "table" if "--table" in words else "value"
     for file in [it for it in words if not it.startswith("--")] or ["-"]:
         data = case.given if file == "-" else content(CRATES / "amqp_show/data" / file)
         data = tag_of(words) + (bytes.fromhex(data.decode()) if "--hex" in words else data)
         with suppress(Unread):
             while data:
                 value, rest = read(data)
-                own, data = data[len(tag_of(words)) : len(data) - len(rest)], rest
-                yield measures(Dissection(own, subject)) if "--measure" in words else json_text(value)
-                data = data if "--stream" in words else b""
+                yield json_text(value)
+                data = rest if "--stream" in words else b""
 
 
 def tag_of(words: Sequence[str]) -> bytes:
@@ -56,23 +54,22 @@ def tag_of(words: Sequence[str]) -> bytes:
 
 def is_judged(case: Case) -> bool:
     """Whether a case is within the limits of the model, and ends well enough to print something."""
-    is_limited = {"--max-bytes", "--frame", "--depth", "--raw"} & {*case.words}
+    is_limited = {"--max-bytes", "--depth", "--raw"} & {*case.words}
     return not is_limited and case.output in (Output.PIPE, Output.TERMINAL) and case.wants.status != 2
 
 
 def judged_cases() -> Iterator[tuple[str, bool]]:
-    """Yields the cases of amqp_show that JSON, encodings, measures and RabbitMQ decide, and whether each is right."""
+    """Yields the cases of amqp_show that JSON, encodings and RabbitMQ decide, and whether each is right."""
     for name, case in cases(TOP / "tests/show").items():
         words, status = case.words, case.wants.status
         if not is_judged(case):
             continue
         wants = case.wants.out.decode()
-        if {"--json", "--measure"} & {*words}:
+        if "--json" in words:
             yield name, wants == "".join(f"{line}\n" for line in lines_of(case))
-        elif "--check" in words:
-            frame_max = int(words[words.index("--frame-max") + 1]) if "--frame-max" in words else FRAME_MAX
-            levels = int(words[words.index("--levels") + 1]) if "--levels" in words else CLIENT_LEVELS
-            text, _, said = checked(case.given, "table" if "--table" in words else "value", frame_max, levels)
+        elif "--check" in words and "--stream" not in words:
+            version = words[words.index("--check") + 1].partition("-")[2] or "4.3"
+            text, _, said = checked(case.given, "table" if "--table" in words else "value", version)
             yield name, (COLOURS.sub("", wants), status) == (text, said)
         elif "--encode" in words and not status:
             data = tag_of(words) + bytes.fromhex(wants)

@@ -1,12 +1,13 @@
 """Tables to send to a broker, in the form of printed.py, and what RabbitMQ makes of tables, predicted."""
 
 import struct
-from collections.abc import Iterator
+from collections.abc import Callable, Iterable, Iterator
 from fractions import Fraction
 from random import Random
 from typing import Any, NamedTuple
 
-from tests.model.printed import DEPTH, SIGNED, TYPES, Failure, Unread, Value, encoded, extent, field, read, taken
+from tests.model.printed import COUNTED, DEPTH, SIGNED, TYPES, Dissection, Failure, Unread, Value
+from tests.model.printed import encoded, extent, field, is_utf8, read, taken
 
 PLAIN = "tbBsuIilfdDSxTV"
 INTEGERS = "bBsuIil"
@@ -116,8 +117,8 @@ def oddity_of(tag: str, content: bytes) -> str:
 
 # What it closes the connection for, and what isn't read here, by the kind in include/amqp_values.h: printed.py's words.
 PROBLEMS = {
-    1: "RabbitMQ knows no", 2: "an infinity or a NaN", 3: "a value is expected", 4: "a key is expected",
-    5: "nest deeper", 7: "isn't UTF-8",
+    1: "type tag", 2: "an infinity or a NaN", 4: "end of its table", 5: "nest deeper", 7: "isn't UTF-8",
+    3: "",
 }  # fmt: skip
 # The offset, the kind, and the tag if that is unknown.
 Problem = tuple[int, int, int]
@@ -182,9 +183,12 @@ class Version(NamedTuple):
     first_delivery: Value | None
     # the arguments of a queue that names no type
     queue: dict[bytes, Value]
-    # the type tag of a Byte Array in a stream, and how a key has to begin, if any may, whose array or table isn't dropped there
+    # whether a stream keeps arrays and tables under CC and under keys that begin with x-, and what it drops in spite of that
+    stream_keeps: bool
+    stream_drops: tuple[bytes, ...]
+    # the type tag of a Byte Array in a stream, and whether an x-stream-filter-value has to be text there
     stream_bytes: bytes
-    stream_keeps: bytes | None
+    stream_filters: bool
     # how often a queue of a type, and with a delivery limit, delivers a message that fails; None if for ever
     deliveries: dict[str, int | None]
 
@@ -194,13 +198,15 @@ LAST_DEATHS = (b"x-last-death-exchange", b"x-last-death-queue", b"x-last-death-r
 VERSIONS = {
     "3.10.8": Version(
         rewrites=False, routes_by=0, compares=slice(1), compares_all_numbers=True, deaths=FIRST_DEATHS, counts_on=True,
-        first_delivery=number("l", 0), queue={}, stream_bytes=b"x", stream_keeps=None,
+        first_delivery=number("l", 0), queue={},
+        stream_keeps=False, stream_drops=(), stream_bytes=b"x", stream_filters=False,
         deliveries={"classic": None, "quorum": None, "quorum -1": 1, "quorum 2": 3},
     ),
     "4.0.5": Version(
         rewrites=True, routes_by=-1, compares=slice(None), compares_all_numbers=False,
         deaths=FIRST_DEATHS + LAST_DEATHS, counts_on=False, first_delivery=None,
-        queue={b"x-queue-type": text("classic")}, stream_bytes=b"S", stream_keeps=b"x-",
+        queue={b"x-queue-type": text("classic")},
+        stream_keeps=True, stream_drops=(b"x-death",), stream_bytes=b"S", stream_filters=True,
         deliveries={"classic": None, "quorum": 21, "quorum -1": None, "quorum 2": 3},
     ),
 }  # fmt: skip
@@ -208,10 +214,15 @@ VERSIONS = {
 
 def rewritten(data: bytes) -> bytes:
     """A value as RabbitMQ writes it: `L` as `l`, and every true as 1."""
+    return changed(data, lambda it: b"l" + it[1:] if it[:1] == b"L" else b"t\1" if it[:1] == b"t" and it[1] else it)
+
+
+def changed(data: bytes, of_other: Callable[[bytes], bytes]) -> bytes:
+    """A value of which all that is no container is changed."""
     tag = data[:1]
     if tag in (b"A", b"F"):
-        return field(tag, b"".join(key + rewritten(it) for key, it in parts(data)))
-    return b"l" + data[1:] if tag == b"L" else b"t\1" if tag == b"t" and data[1] else data
+        return field(tag, b"".join(key + changed(it, of_other) for key, it in parts(data)))
+    return of_other(data)
 
 
 def parts(data: bytes) -> Iterator[tuple[bytes, bytes]]:
@@ -224,12 +235,18 @@ def parts(data: bytes) -> Iterator[tuple[bytes, bytes]]:
         at = end
 
 
+def in_order(version: str, pairs: Iterable[tuple[bytes, bytes]]) -> bytes:
+    """A table of some pairs, with its keys in order, and in some versions each of them once."""
+    found = sorted(pairs, key=lambda it: it[0][1:])
+    if VERSIONS[version].rewrites:
+        # (of a repeated key the first is the last to be put here)
+        found = sorted({key: it for key, it in reversed(found)}.items(), key=lambda it: it[0][1:])
+    return field(b"F", b"".join(key + it for key, it in found))
+
+
 def sorted_by_key(version: str, data: bytes) -> bytes:
-    """A table as it is dead-lettered, but for what is added: rewritten, with its keys in order."""
-    found = sorted(parts(rewritten(data)), key=lambda it: it[0][1:])
-    # (of a repeated key the first is the last to be put here)
-    kept = sorted({key: it for key, it in reversed(found)}.items(), key=lambda it: it[0][1:])
-    return field(b"F", b"".join(key + it for key, it in (kept if VERSIONS[version].rewrites else found)))
+    """A table as it is dead-lettered, but for what is added."""
+    return in_order(version, parts(rewritten(data)))
 
 
 def delivered(version: str, data: bytes) -> bytes:
@@ -239,11 +256,35 @@ def delivered(version: str, data: bytes) -> bytes:
 
 def streamed(version: str, data: bytes) -> bytes | None:
     """The headers that a stream delivers, or None if the broker closes the connection for those that are published."""
-    prefix, tag = VERSIONS[version].stream_keeps, VERSIONS[version].stream_bytes
-    kept = [it for it in parts(sorted_by_key(version, data)) if it[1][:1] not in (b"A", b"F") or it[0][1:3] == prefix]
-    if any(has_decimal(it) for _, it in kept):
+    rules, found = VERSIONS[version], [*parts(rewritten(data))]
+    kept = [(key, it) for key, it in found if it[:1] not in (b"A", b"F") or rules.stream_keeps and is_kept(key[1:])]
+    filters = [it for key, it in found if key[1:] == b"x-stream-filter-value"]
+    if any(has_decimal(it) for _, it in kept) or rules.stream_filters and not all(map(is_filter, filters[:1])):
         return None
-    return field(b"F", b"".join(key + (tag + it[1:] if it[:1] == b"x" else it) for key, it in kept))
+    left = [(key, in_stream(it, rules.stream_bytes)) for key, it in kept if key[1:] not in rules.stream_drops]
+    return in_order(version, left)
+
+
+def is_kept(key: bytes) -> bool:
+    """Whether a stream may keep the array or the table at a key."""
+    return key.startswith(b"x-") or key == b"CC"
+
+
+def is_filter(data: bytes) -> bool:
+    """Whether a value is one that a stream may filter by."""
+    return data[:1] == b"S" and len(data) <= 5 + 4096 and is_utf8(data[5:]) and b"\0" not in data[5:]
+
+
+def in_stream(data: bytes, bytes_tag: bytes) -> bytes:
+    """A value as a stream stores it: Byte Arrays may become strings, and of a Timestamp in milliseconds 64 bits are kept."""
+
+    def of_other(it: bytes) -> bytes:
+        if it[:1] == b"T":
+            milliseconds = (integer_of(("l", it[1:])) * 1000 + 2**63) % 2**64 - 2**63
+            return b"T" + int(Fraction(milliseconds, 1000)).to_bytes(8, "big", signed=True)
+        return bytes_tag + it[1:] if it[:1] == b"x" else it
+
+    return changed(data, of_other)
 
 
 def has_decimal(data: bytes) -> bool:
@@ -322,6 +363,28 @@ def odd_table(make: Random) -> bytes:
         change = make.choice([data[:at], data[:at] + make.randbytes(1) + data[at + 1 :], data[:at] + data[at + 1 :]])
         data = field(b"F", change[5:])
     return data
+
+
+# What is changed: any byte, one of a kind of parts, or the end; or bytes are put in between.
+CHANGES = ("byte", "tag", "length", "key length", "cut", "extended")
+
+
+def mutated_table(make: Random, change: str) -> bytes:
+    """A table with at least one entry that is changed in one place, which may be its length."""
+    data = raw(("F", {random_key(make): random_value(make, 2), **random_table(make)[1]}))
+    if change in ("cut", "extended"):
+        at = make.choice([make.randrange(1, len(data)), len(data) - (change == "cut")])
+        added, rest = (b"", b"") if change == "cut" else (make.randbytes(make.randrange(1, 9)), data[at:])
+        data = data[:at] + added + rest
+        # its length counts what is there, or what was
+        return field(b"F", data[5:]) if make.random() < 0.5 else data
+    parts_of_kind = [it for it in Dissection(data).parts[1:] if it.bytes and change in ("byte", it.kind)]
+    if not parts_of_kind:
+        return mutated_table(make, change)
+    part = make.choice(parts_of_kind)
+    at = part.offset + make.randrange(len(part.bytes))
+    other = ord(make.choice([*TYPES])) if change == "tag" else data[at] + make.choice([1, -1, make.randrange(1, 256)])
+    return data[:at] + bytes([other % 256]) + data[at + 1 :]
 
 
 def contained(make: Random, tag: str, value: bytes) -> bytes:

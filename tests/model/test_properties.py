@@ -9,8 +9,8 @@ from hypothesis import strategies as st
 
 from tests.model.json_format import json_of, text_for, value_of_json
 from tests.model.printed import FRAME, TYPES, Dissection, Unread, Value
-from tests.model.printed import extent, json_text, measures, outcome, read, write
-from tests.model.tables import first_problem, raw, types_in, width_of
+from tests.model.printed import extent, json_text, outcome, read, write
+from tests.model.tables import first_problem, raw, width_of
 
 PLAIN = sorted({*TYPES} - set("ULtSxAF"))
 KEYS = (st.text(max_size=5) | st.text("$a", max_size=5)).map(str.encode)
@@ -35,8 +35,9 @@ def outcome_of(data: bytes) -> str:
     try:
         _, rest = read(data)
     except Unread as why:
-        return str(why).replace("refused ", "refused, ").replace("more ", "truncated; more bytes needed: ")
-    return f"a value of {len(data) - len(rest)} bytes, {len(rest)} follow"
+        more = str(why).replace("more ", "truncated; more bytes needed: ")
+        return "malformed" if more.startswith("refused ") else more
+    return f"a value of {len(data) - len(rest)} bytes"
 
 
 @given(VALUES, st.binary(max_size=3))
@@ -75,7 +76,7 @@ def test_what_is_read_has_no_problem(value: Value) -> None:
 def test_parts_are_the_bytes(value: Value) -> None:
     found = Dissection(write(value))
     assert b"".join(it.bytes for it in found.parts) == write(value)
-    assert measures(found).startswith(f"bytes {len(write(value))}, values {len([*types_in(value)])}, ")
+    assert "rest" not in {it.kind for it in found.parts}
 
 
 @given(VALUES, st.data())
@@ -86,4 +87,5 @@ def test_both_readers_agree_on_damaged_bytes(value: Value, data: st.DataObject) 
     changed = bytes(given_bytes)
     assume(extent(changed) <= FRAME)
     assert outcome(Dissection(changed)) == outcome_of(changed)
+    assert b"".join(it.bytes for it in Dissection(changed).parts) == changed[: Dissection(changed).end]
     assert (first_problem(changed, "read") is None) == outcome_of(changed).startswith("a value")

@@ -1,1 +1,1 @@
-"""The Python package of bindings/python, and ctypes_values.py, its judge, over a shared object of the calls for C."""
+"""The Python package of bindings/python, by the model and by what a user is promised."""

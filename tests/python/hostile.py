@@ -1,14 +1,12 @@
 """Objects whose own methods lie and raise, and classes of the package whose methods do."""
 
 from collections.abc import Callable, Iterator, Mapping, Sequence
-from datetime import datetime, timedelta, tzinfo
+from datetime import datetime, timedelta, timezone, tzinfo
 from decimal import Decimal
 from random import Random
 from typing import Any
 
 import amqp_values as own
-
-from tests.python.values import UTC
 
 # What the package may raise.
 DOCUMENTED = (own.Error, TypeError, MemoryError)
@@ -66,15 +64,13 @@ def of_base(make: Random, base: type) -> Any:
     names = make.sample(METHODS[wanted], make.randrange(1, 4))
     kind: Any = type("Hostile", (base,), {name: hostile(make) for name in names})
     if base is datetime:
-        return kind(2027, 1, 15, tzinfo=make.choice([None, UTC, Zone(make)]))
+        return kind(2027, 1, 15, tzinfo=make.choice([None, timezone.utc, Zone(make)]))
     value = make.choice(BASES[wanted])
     created: Any = wanted.__new__
-    return filled(kind, value) if wanted in (dict, list) else created(kind, value)
-
-
-def filled(kind: Any, value: Any) -> Any:
-    made = kind.__new__(kind)
-    fill: Any = dict.update if isinstance(value, dict) else list.extend
+    if wanted not in (dict, list):
+        return created(kind, value)
+    made = created(kind)
+    fill: Any = dict.update if wanted is dict else list.extend
     fill(made, value)
     return made
 
@@ -83,14 +79,10 @@ class Zone(tzinfo):
     def __init__(self, make: Random) -> None:
         self.make = make
 
-    def utcoffset(self, _: datetime | None) -> Any:
+    def any(self, _: datetime | None) -> Any:
         return hostile(self.make)()
 
-    def dst(self, _: datetime | None) -> Any:
-        return hostile(self.make)()
-
-    def tzname(self, _: datetime | None) -> Any:
-        return hostile(self.make)()
+    utcoffset = dst = tzname = any
 
 
 class Items(Mapping[str, Any]):
@@ -99,19 +91,17 @@ class Items(Mapping[str, Any]):
     def __init__(self, make: Random) -> None:
         self.make = make
 
-    def __getitem__(self, _: str) -> Any:
+    def any(self, *_: Any) -> Any:
         return hostile(self.make)()
 
-    def __len__(self) -> int:
-        found: int = hostile(self.make)()
-        return found
+    __getitem__ = __len__ = any
 
     def __iter__(self) -> Iterator[str]:
         yield "a"
-        yield hostile(self.make)()
+        yield self.any()
 
     def items(self) -> Any:
-        return super().items() if self.make.random() < 0.5 else hostile(self.make)()
+        return super().items() if self.make.random() < 0.5 else self.any()
 
 
 class Values(Sequence[Any]):
@@ -131,29 +121,13 @@ class Values(Sequence[Any]):
 
 
 class Liar:
-    """Something that says that it is of another class."""
+    """Something that does something when it is asked for its class, as by isinstance."""
 
-    def __init__(self, make: Random) -> None:
-        self.make = make
-
-    def __getattribute__(self, name: str) -> Any:
-        return (
-            hostile(object.__getattribute__(self, "make"))()
-            if name == "__class__"
-            else object.__getattribute__(self, name)
-        )
-
-
-class Leaving:
-    """Something that empties the list that it is in, when it is asked what it is."""
-
-    def __init__(self, inside: list[Any]) -> None:
-        self.inside = inside
+    def __init__(self, act: Callable[[], Any]) -> None:
+        self.act = act
 
     def __getattribute__(self, name: str) -> Any:
-        if name == "__class__":
-            object.__getattribute__(self, "inside").clear()
-        return object.__getattribute__(self, name)
+        return object.__getattribute__(self, "act")() if name == "__class__" else object.__getattribute__(self, name)
 
 
 def object_of(make: Random, depth: int = 2) -> Any:
@@ -162,22 +136,17 @@ def object_of(make: Random, depth: int = 2) -> Any:
     if choice < 3:
         return of_base(make, make.choice([*METHODS, *CLASSES]))
     if choice == 3:
-        kinds: list[Any] = [Items, Values, Liar]
-        return make.choice(kinds)(make)
-    if choice == 4:
-        return make.choice(ANY)
-    if choice == 5:
-        return make.choice([1, "a", None, True, b"", 1.5, own.LongInt(1)])
+        return make.choice([Items(make), Values(make), Liar(lambda: hostile(make)())])
+    if choice < 6:
+        return make.choice(ANY if choice == 4 else [1, "a", None, True, b"", 1.5, own.LongInt(1)])
     if choice == 6:
         found = [object_of(make, depth - 1) for _ in range(make.randrange(3))]
         if make.random() < 0.1:
-            found.append(Leaving(found))
+            # (it empties the list that it is in)
+            found.append(Liar(found.clear))
         return found
-    return (
-        {make.choice(["a", "b", b"c", "\ud800", object_of(make, 0)]): object_of(make, depth - 1)}
-        if choice == 7
-        else (object_of(make, depth - 1),)
-    )
+    inside = object_of(make, depth - 1)
+    return (inside,) if choice == 8 else {make.choice(["a", "b", b"c", "\ud800", object_of(make, 0)]): inside}
 
 
 def made(make: Random) -> Any:

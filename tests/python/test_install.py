@@ -1,28 +1,39 @@
-"""`install` of each adapter changes everything or nothing: also if one of its steps raises an exception."""
+"""`install` of each adapter, by the client's own frames: its self-check, its options, and that it changes everything or nothing."""
 
 import sys
+import traceback
+import warnings
 from collections.abc import Callable, Iterator
 from importlib import import_module, metadata
-from importlib.util import find_spec
 from itertools import count
-from types import FrameType, ModuleType
+from types import ModuleType, SimpleNamespace
 from typing import Any
-from unittest.mock import Mock
 
 import pytest
-from amqp_values.adapters import UntestedVersion, pamqp, pika, pyamqp, shared
+from amqp_values.adapters import (
+    Headers,
+    IncompatibleClient,
+    Refused,
+    UntestedVersion,
+    pamqp,
+    pika,
+    pyamqp,
+    self_check,
+    shared,
+)
+
+from tests.values import error_of
 
 # Each adapter: the modules that have the client's codec, and the packages whose objects it replaces.
 ADAPTERS: dict[str, tuple[Any, tuple[str, ...], tuple[str, ...]]] = {
-    "pika": (pika, ("pika.data",), ("pika",)),
+    "pika": (pika, ("pika.data", "pika.spec"), ("pika",)),
     "pyamqp": (pyamqp, ("amqp.serialization",), ("amqp", "kombu")),
     "pamqp": (pamqp, ("pamqp.decode", "pamqp.encode"), ("pamqp", "aiormq", "aio_pika")),
 }
-# A step of `install` is a call of a function in one of these files. Each install has steps of these names.
-FILES = {*(it.__file__ for it in (pamqp, pika, pyamqp, shared))}
-FILES |= {import_module.__code__.co_filename, find_spec.__code__.co_filename}
-STEPS = {"find_spec", "import_module", "tested", "__init__", "uninstall", "put", "put_everywhere", "assign"}
+DEEP, TWICE = self_check.deep(70), self_check.of((b"a", b"t\1"), (b"a", b"V"))
 Bindings = dict[Any, dict[Any, Any]]
+# (what the first call of this, and the first `install`, would import is there before)
+assert metadata.version("pika") and all(import_module(it) for _, *of in ADAPTERS.values() for it in sum(of, ()))
 
 
 class Interrupted(BaseException):
@@ -36,17 +47,16 @@ class Lazy(ModuleType):
         raise ImportError(name)
 
 
-def failing(number: int) -> Callable[[FrameType, str, object], None]:
-    """A function for `sys.settrace` that has one of the steps raise, before it does anything."""
-    steps = count()
+def interrupting(number: int) -> Callable[..., None]:
+    """In place of what changes a client a function that raises once, after it has changed something."""
+    calls, change = count(), shared.Places.change
 
-    def trace(frame: FrameType, _: str, __: object) -> None:
-        code = frame.f_code
-        # (comprehensions are too many)
-        if code.co_filename in FILES and not code.co_name.startswith("<") and next(steps) == number:
-            raise Interrupted(code.co_name)
+    def act(self: Any, *given: Any) -> None:
+        change(self, *given)
+        if next(calls) == number:
+            raise Interrupted
 
-    return trace
+    return act
 
 
 def bindings(packages: tuple[str, ...]) -> Bindings:
@@ -83,48 +93,221 @@ def name(request: pytest.FixtureRequest, monkeypatch: pytest.MonkeyPatch) -> Ite
 
 @pytest.mark.parametrize("is_installed", [False, True], ids=["first", "again"])
 def test_a_failed_install_changes_nothing(name: str, is_installed: bool) -> None:
-    """Whichever step raises, the client has its own objects, or those that an earlier install has put there."""
+    """Whichever change is interrupted, the client has its own objects, or those that an earlier install has put there."""
     adapter, _, packages = ADAPTERS[name]
     own = bindings(packages)
     if is_installed:
         adapter.install(depth=3)
-    before, failed = bindings(packages), list[str]()
+    before, interrupted = bindings(packages), 0
     assert ("behind" in dict(changed(own, before))) == is_installed
     for number in count():
-        sys.settrace(failing(number))
         try:
-            adapter.install()
+            with pytest.MonkeyPatch.context() as patch:
+                patch.setattr(shared.Places, "change", interrupting(number))
+                adapter.install()
             break
-        except Interrupted as step:
-            failed.append(str(step))
-        finally:
-            sys.settrace(None)
-        assert changed(before, bindings(packages)) == [], failed[-1]
-    assert STEPS <= {*failed}
-    assert "behind" in dict(changed(before, bindings(packages)))
+        except Interrupted:
+            interrupted += 1
+        assert changed(before, bindings(packages)) == [], number
+    assert interrupted >= 4 and "behind" in dict(changed(before, bindings(packages)))
     adapter.uninstall()
     assert changed(own, bindings(packages)) == []
 
 
-@pytest.mark.parametrize("name", ["pamqp"], indirect=True)
-def test_aio_pika_9(name: str, monkeypatch: pytest.MonkeyPatch) -> None:
-    """It has no `format_headers`: the rest is installed."""
-    monkeypatch.delattr(import_module("aio_pika.message"), "format_headers", raising=False)
+def test_options(name: str) -> None:
+    """By the client's own frames, one install after another."""
     adapter, _, packages = ADAPTERS[name]
-    own = bindings(packages)
+    own, header = bindings(packages), adapter.client.frames()["header"]
+    by_itself = header.read(TWICE)
     adapter.install()
-    assert {"pamqp.decode", "pamqp.encode", "behind"} <= {*dict(changed(own, bindings(packages)))}
+    assert isinstance(header.read(DEEP), Refused) and type(header.read(TWICE)) is Headers
+    came, refused = header.read(TWICE), header.read(DEEP)
+    assert came == {"a": None} == by_itself
+    for it in (came, refused):
+        assert adapter.client.frames()["method"].write(it) == it.raw
+        it["a"] = 3
+        assert header.write(it) == header.write({"a": 3})
+    adapter.install(depth=71, equal_keys="first", exact=False)
+    assert header.read(TWICE) == {"a": True} and type(header.read(TWICE)) is dict is type(header.read(DEEP))
+    adapter.install(equal_keys="refuse")
+    assert isinstance(header.read(TWICE), Refused) and header.write(header.read(TWICE)) == TWICE
+    assert error_of(lambda: adapter.install(depth=513)) and isinstance(header.read(TWICE), Refused)
+    adapter.install(frame=10)
+    assert isinstance(header.read(self_check.of((b"long", b"V"))), Refused)
+    adapter.install(raises=True)
+    assert isinstance(error := self_check.raised(lambda: header.read(DEEP)), Exception)
+    assert type(error) is type(adapter.client.unread(None))
+    adapter.install(depth=512)
+
+    def below(calls: int) -> Any:
+        return below(calls - 1) if calls else header.read(DEEP)
+
+    # (where Python's own limit of calls is near)
+    assert type(below(sys.getrecursionlimit() - len([*traceback.walk_stack(None)]) - 30)) is Headers
     adapter.uninstall()
-    assert changed(own, bindings(packages)) == []
+    adapter.uninstall()
+    assert changed(own, bindings(packages)) == [] and header.read(TWICE) == by_itself
 
 
-def test_metadata_has_the_version(name: str, monkeypatch: pytest.MonkeyPatch) -> None:
-    """A client's module may not have it, as aiormq's from 6.8 on."""
-    adapter = ADAPTERS[name][0]
-    for it in adapter.client.versions:
-        monkeypatch.delattr(import_module(it), "__version__", raising=False)
-    adapter.install()
-    monkeypatch.setattr(metadata, "version", Mock(side_effect=["99.1", metadata.PackageNotFoundError]))
-    for found in ("99.1", "of no version"):
-        with pytest.raises(UntestedVersion, match=f" {found}: "):
+# Strings that the broker delivers next to headers, as a routing key, and as properties that a consumer answers with.
+SHORT_STRINGS = [b"", b"a", b"\xff\xfe", b"\xff\xc3\xbc", b"\xed\xb3\xbf", "grüß 漢🐇".encode(), b"\xff" * 255, b"\xc3"]
+
+
+@pytest.mark.parametrize("content", SHORT_STRINGS)
+def test_strings_next_to_headers_come_back(content: bytes) -> None:
+    data = bytes([len(content)]) + content
+    for adapter in (pyamqp, pamqp):
+        adapter.install()
+    try:
+        serialization = import_module("amqp.serialization")
+        assert serialization.dumps("so", serialization.loads("so", data + b"\7", 0)[0]) == data + b"\7"
+        properties = serialization.decode_properties_basic(b"\4\0" + data, 0)[0]
+        assert serialization.dumps(b"s", [properties["correlation_id"]]) == data
+        decode, encode = import_module("pamqp.decode"), import_module("pamqp.encode")
+        assert encode.by_type(decode.by_type(data + b"..", "shortstr")[1], "shortstr") == data
+        late, early = (decode.by_type(it * 8, "timestamp")[1] for it in (b"\xff", b"\0"))
+        assert late.year == 9999 and late.tzinfo is early.tzinfo
+    finally:
+        pyamqp.uninstall()
+        pamqp.uninstall()
+
+
+# Clients that have changed: a function is moved, a type is another, an attribute isn't there, a value is lost, something raises.
+
+
+def moved(where: Any, name: str) -> Callable[[pytest.MonkeyPatch], None]:
+    """The module that has the client's frames calls functions that are elsewhere now."""
+    return lambda patch: patch.setattr(where, name, SimpleNamespace(**vars(getattr(where, name))))
+
+
+def wrapped(where: Any, name: Any, change: Callable[[Any], Any]) -> Callable[[pytest.MonkeyPatch], None]:
+    """What a function returns is changed."""
+
+    def act(patch: pytest.MonkeyPatch) -> None:
+        theirs = where[name] if isinstance(where, dict) else getattr(where, name)
+        ours: Any = lambda *given, **how: change(theirs(*given, **how))
+        patch.setitem(where, name, ours) if isinstance(where, dict) else patch.setattr(where, name, ours)
+
+    return act
+
+
+def lacking(where: Any, name: str) -> Callable[[pytest.MonkeyPatch], None]:
+    return lambda patch: patch.delattr(where, name)
+
+
+def raising_from(number: int) -> Callable[[Any], Any]:
+    """A change that raises from some call on."""
+    calls = count()
+
+    def change(it: Any) -> Any:
+        if next(calls) >= number:
+            raise OSError("in the middle")
+        return it
+
+    return change
+
+
+def losing(where: Any) -> Callable[[pytest.MonkeyPatch], None]:
+    """A class of messages loses headers that are None."""
+    theirs: Any = where.__init__
+
+    def less(it: Any) -> Any:
+        return {key: each for key, each in it.items() if each is not None} if isinstance(it, dict) else it
+
+    def init(self: Any, *given: Any, **how: Any) -> None:
+        theirs(self, *given, **{key: less(it) for key, it in how.items()})
+
+    return lambda patch: patch.setattr(where, "__init__", init)
+
+
+def changes() -> dict[str, tuple[str, Callable[[pytest.MonkeyPatch], None]]]:
+    data, spec = import_module("pika.data"), import_module("pika.spec")
+    serialization, message = import_module("amqp.serialization"), import_module("amqp.basic_message").Message
+    channel, decode = import_module("amqp.abstract_channel"), import_module("pamqp.decode")
+    methods = dict(decode.METHODS)
+
+    def by_type(value: bytes, kind: str, offset: int = 0) -> Any:
+        return decode.bit(value, offset) if kind == "bit" else methods[kind](value)
+
+    own_encode, properties = spec.BasicProperties.encode, import_module("pamqp.commands").Basic.Properties
+
+    def encode(self: Any) -> Any:
+        try:
+            return own_encode(self)
+        except Exception as why:
+            raise OSError from why
+
+    as_float = lambda it: (float(it[0]), it[1]) if type(it[0]).__name__ == "Decimal" else it
+    return {
+        "pika, moved": ("pika", moved(spec, "data")),
+        "pika, another type": ("pika", wrapped(data, "decode_value", as_float)),
+        "pika, lacking": ("pika", lacking(data, "encode_table")),
+        "pika, a lost value": ("pika", losing(spec.BasicProperties)),
+        "pika, raising": ("pika", wrapped(spec.BasicProperties, "encode", raising_from(20))),
+        "pika, another exception": ("pika", lambda patch: patch.setattr(spec.BasicProperties, "encode", encode)),
+        "pyamqp, moved": ("pyamqp", wrapped(channel, "loads", lambda it: it)),
+        "pyamqp, another type": ("pyamqp", wrapped(serialization, "_read_item", as_float)),
+        "pyamqp, lacking": ("pyamqp", lacking(serialization, "pstr_t")),
+        "pyamqp, a lost value": ("pyamqp", losing(message)),
+        "pyamqp, raising": ("pyamqp", wrapped(message, "inbound_header", raising_from(30))),
+        "pamqp, moved": ("pamqp", lambda patch: patch.setattr(decode, "by_type", by_type)),
+        "pamqp, another type": ("pamqp", wrapped(decode.TABLE_MAPPING, b"D", lambda it: (it[0], float(it[1])))),
+        "pamqp, lacking": ("pamqp", lambda patch: patch.delitem(decode.METHODS, "timestamp")),
+        "pamqp, a lost value": ("pamqp", losing(properties)),
+        "pamqp, raising": ("pamqp", wrapped(properties, "marshal", raising_from(20))),
+    }  # fmt: skip
+
+
+CHANGES = changes()
+
+
+@pytest.mark.parametrize("change", CHANGES)
+def test_a_changed_client_is_refused(change: str, monkeypatch: pytest.MonkeyPatch) -> None:
+    name, act = CHANGES[change]
+    adapter, _, packages = ADAPTERS[name]
+    act(monkeypatch)
+    before = bindings(packages)
+    try:
+        with pytest.raises(IncompatibleClient, match=f"^{'amqp' if name == 'pyamqp' else name} [0-9.]+"):
             adapter.install()
+        assert changed(before, bindings(packages)) == []
+    finally:
+        adapter.uninstall()
+
+
+def test_the_message_has_what_differs(monkeypatch: pytest.MonkeyPatch) -> None:
+    CHANGES["pika, moved"][1](monkeypatch)
+    with pytest.raises(IncompatibleClient, match="headers in a header come as dict; "):
+        pika.install()
+    monkeypatch.undo()
+    CHANGES["pyamqp, another type"][1](monkeypatch)
+    with pytest.raises(IncompatibleClient, match=r"D in a header was float 3.14 and is Decimal Decimal\('3.14'\)"):
+        pyamqp.install()
+
+
+# Versions
+
+
+def test_versions(name: str, monkeypatch: pytest.MonkeyPatch) -> None:
+    """Those that were tested, by the metadata of the distributions; of all others one warning comes, and the adapter works."""
+    adapter = ADAPTERS[name][0]
+    with warnings.catch_warnings():
+        warnings.simplefilter("error")
+        monkeypatch.setattr(
+            shared, "probed", lambda client: (warnings.warn("by the client"), self_check.probed(client))[1]
+        )
+        adapter.install()
+    found: dict[str, str | None] = {it: "99.1" for it in adapter.client.tested}
+
+    def version(name: str) -> str:
+        if found[name] is None:
+            raise metadata.PackageNotFoundError(name)
+        return str(found[name])
+
+    monkeypatch.setattr(metadata, "version", version)
+    with pytest.warns(UntestedVersion, match="99.1") as came:
+        adapter.install()
+    assert len(came) == 1 and came[0].filename == __file__ and all(it in str(came[0].message) for it in found)
+    found = dict.fromkeys(found)
+    with pytest.warns(UntestedVersion, match="of an unknown version"):
+        adapter.install()

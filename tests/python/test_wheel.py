@@ -5,8 +5,12 @@ from pathlib import Path
 
 import pytest
 from building import AARCH64, X86_64
-from crates import Crates
-from wheels import PROCESSORS, PYTHON, make_wheel, put_library, pythons, try_wheel, try_wheel_of_aarch64, wrong_symbols
+from crates import TOP, Crates
+from wheels import PROCESSORS, PYTHON, make_wheel, put_library, python_in, pythons
+from wheels import try_unpacked, try_wheel, try_wheel_of_aarch64, wrong_symbols
+
+from tests.left_out import without
+from tests.rabbitmq.broker import DEBIAN_13, ROOTS
 
 Record = Callable[[str, object], None]
 
@@ -22,7 +26,7 @@ def wheel_for(target: str, folder: Path, request: pytest.FixtureRequest) -> Path
 
 
 def test_wheel(request: pytest.FixtureRequest, tmp_path: Path, record_property: Record) -> None:
-    """For each Python that is found, Debian's always."""
+    """For each Python that is found, Debian 12's always, and Debian 13's in the root of the broker."""
     wheel = wheel_for(X86_64, tmp_path, request)
     found = pythons()
     assert found[0].resolve() == Path(PYTHON).resolve()
@@ -30,6 +34,11 @@ def test_wheel(request: pytest.FixtureRequest, tmp_path: Path, record_property: 
         said, wrong = try_wheel(wheel, python)
         assert not wrong, f"{python}: {wrong}"
         record_property(f"the wheel is installed for {python}", said)
+    if "broker" not in without():
+        said, wrong = try_unpacked(wheel, *python_in(ROOTS[DEBIAN_13]))
+        assert not wrong and said.startswith("3.13."), f"{said} {wrong}"
+        record_property("the wheel is tried by Debian 13's Python", said)
+    assert f"$ pip install {wheel.name}\n" in (TOP / "docs/PYTHON.md").read_text()
 
 
 @pytest.mark.whole

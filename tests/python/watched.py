@@ -22,7 +22,7 @@ import amqp_values as own  # noqa: E402
 
 from tests.model.printed import damaged, value_of  # noqa: E402
 from tests.model.tables import odd_table, random_table, raw  # noqa: E402
-from tests.python.codecs import CODECS, EXCEPTIONS  # noqa: E402
+from tests.python.codecs import CODECS  # noqa: E402
 from tests.python.hostile import DOCUMENTED, made  # noqa: E402
 
 OPTIONS: list[dict[str, Any]] = [
@@ -31,6 +31,7 @@ OPTIONS: list[dict[str, Any]] = [
     {"plain": True, "text": "surrogateescape", "keys": "surrogateescape"},
     {"keys": "bytes", "text": "bytes", "equal_keys": "first", "signed_decimals": True},
     {"finite": True, "text": "bytes", "depth": 3, "frame": 200},
+    {"equal_keys": "refuse", "text": "bytes", "keys": "bytes"},
 ]
 
 
@@ -57,9 +58,9 @@ def read_and_write(data: bytes, options: dict[str, Any]) -> int:
     quietly(lambda: own.loads_table(data[1:], **options))
     quietly(lambda: own.decode_table(b"..." + data + b"...", 4, **options))
     quietly(lambda: own.find(data, *(next(iter(found), "") if isinstance(found, dict) else ""), **options))
-    for it in CODECS:
-        table, _ = quietly(lambda: it.read(data, 1), EXCEPTIONS) or ({}, 0)
-        quietly(lambda: it.write(table), EXCEPTIONS)
+    for it, unread, unwritten in CODECS:
+        table, _ = quietly(lambda: it.read(data, 1), (unread,)) or ({}, 0)
+        quietly(lambda: it.write(table), unwritten)
     if found is None:
         return 0
     ways = {name: it for name, it in options.items() if name in ("keys", "text", "signed_decimals")}
@@ -67,10 +68,14 @@ def read_and_write(data: bytes, options: dict[str, Any]) -> int:
 
 
 def write(value: Any, how: dict[str, Any]) -> None:
-    quietly(lambda: own.dumps(value, **how))
-    quietly(lambda: own.dumps_table(value, **how))
-    for it in CODECS:
-        quietly(lambda: it.write({"k": value}), EXCEPTIONS)
+    """Writes an object, which is read again if it could be written."""
+    pairs: list[tuple[Any, Any]] = [(own.dumps, own.loads), (own.dumps_table, own.loads_table)]
+    for dump, load in pairs:
+        data = quietly(lambda: dump(value, **how))
+        if data is not None:
+            load(data, text="bytes", frame=2**32 - 1, keys=how.get("keys", "strict"))
+    for it, _, unwritten in CODECS:
+        quietly(lambda: it.write({"k": value}), (*unwritten, MemoryError))
 
 
 def mutated(seed: int, count: int) -> int:
@@ -83,22 +88,21 @@ def mutated(seed: int, count: int) -> int:
     return count
 
 
-def left_by(call: Callable[[], object]) -> int:
-    """How many references a call leaves, at least of five, after two."""
-    total: Callable[[], int] = getattr(sys, "gettotalrefcount")
+def left_by(call: Callable[[], object], counted: Callable[[], int]) -> int:
+    """How many more there are after a call, at least of five, after two."""
     left: list[int] = []
     for _ in range(7):
         gc.collect()
-        before = total()
+        before = counted()
         call()
         gc.collect()
-        left.append(abs(total() - before))
+        left.append(abs(counted() - before))
     return min(left[2:])
 
 
 def references(seed: int, count: int) -> int:
-    """How many references a round has left, more than nothing leaves."""
-    make = Random(seed)
+    """How many references a round has left, more than nothing leaves, and how many blocks of memory above 20."""
+    make, total = Random(seed), getattr(sys, "gettotalrefcount")
     tables, values = [table_of_bytes(make) for _ in range(count)], [made(Random(seed + it)) for it in range(count // 4)]
 
     def run() -> None:
@@ -107,7 +111,9 @@ def references(seed: int, count: int) -> int:
         for it in values:
             write(it, {})
 
-    return left_by(run) - left_by(lambda: None)
+    # (types are kept in caches)
+    blocks = max(0, left_by(run, sys.getallocatedblocks) - 20)
+    return left_by(run, total) - left_by(lambda: None, total) + blocks
 
 
 if __name__ == "__main__":

@@ -33,6 +33,8 @@ ERLANG = (
     "+S 2:2 +sbwt none +sbwtdcpu none +sbwtdio none -kernel inet_dist_use_interface {127,0,0,1} "
     f'-rabbit trace_vhosts [<<"{TRACED}">>]'
 )
+# Names come from no server of names, for which a new connection may wait.
+LOOKUP = '{lookup, [file]}. {host, {127,0,0,1}, ["localhost"]}.'
 # How often it is tried, since another process may take a port that was free; the seconds for each try, and for an expression.
 TRIES, SECONDS = 3, 200
 
@@ -111,6 +113,7 @@ class Broker:
         home = folder if self.root == Path("/") else MOUNTED
         self.port, between, names = free_ports(3)
         (folder / "plugins").write_text(PLUGINS)
+        (folder / "inetrc").write_text(LOOKUP)
         (folder / "definitions.json").write_text(json.dumps(definitions(self.port)))
         settings = ["log.file = false", "log.console = true", "log.console.level = critical"]
         (folder / "rabbitmq.conf").write_text("\n".join([f"load_definitions = {home}/definitions.json", *settings, ""]))
@@ -128,7 +131,8 @@ class Broker:
             "RABBITMQ_CONF_ENV_FILE": f"{home}/rabbitmq-env.conf", "RABBITMQ_CONFIG_FILE": f"{home}/rabbitmq.conf",
             "RABBITMQ_ADVANCED_CONFIG_FILE": f"{home}/none.config", "RABBITMQ_GENERATED_CONFIG_DIR": f"{home}/config",
             "RABBITMQ_FEATURE_FLAGS_FILE": f"{home}/feature_flags", "RABBITMQ_SERVER_ADDITIONAL_ERL_ARGS": ERLANG,
-            "ERL_EPMD_ADDRESS": "127.0.0.1", "ERL_EPMD_PORT": f"{names}", "ERL_CRASH_DUMP": f"{home}/erl_crash.dump",
+            "ERL_EPMD_ADDRESS": "127.0.0.1", "ERL_EPMD_PORT": f"{names}", "ERL_INETRC": f"{home}/inetrc",
+            "ERL_CRASH_DUMP": f"{home}/erl_crash.dump",
             # its script becomes the broker then, instead of a parent of it
             "RUNNING_UNDER_SYSTEMD": "true",
         }  # fmt: skip

@@ -1,16 +1,21 @@
-"""The broker, which all tests share. --rabbitmq names its versions, but for the modules that name theirs."""
+"""The broker, which all tests share, in the versions that --rabbitmq or a module names, and the Python package."""
 
+import json
 import os
 import signal
-from collections.abc import Iterator
+import subprocess
+from collections.abc import Callable, Iterator
 from pathlib import Path
 from random import Random
+from typing import Any, NamedTuple
 
 import pytest
-from crates import Crates
-from wheels import build_package
+from crates import TOP
+from wheels import python_in
 
 from tests.model.tables import VERSIONS, Version
+from tests.package import BUILT, put_package
+from tests.rabbitmq import adapted, seen
 from tests.rabbitmq.broker import DEBIAN_13, ROOTS, Broker
 from tests.rabbitmq.wire import Connection
 
@@ -22,6 +27,13 @@ def pytest_addoption(parser: pytest.Parser) -> None:
     group = parser.getgroup("this repository")
     group.addoption("--tables", type=int, default=10000, help="how many random tables are sent (10000)")
     group.addoption("--rabbitmq", action="append", choices=[*ROOTS], help=f"a version of RabbitMQ ({DEBIAN_13})")
+    group.addoption(
+        "--clients", metavar="ROOT", help="Python's clients of a root of Debian (Debian 12's and Debian 13's)"
+    )
+
+
+def pytest_configure(config: pytest.Config) -> None:
+    put_package(config)
 
 
 def pytest_generate_tests(metafunc: pytest.Metafunc) -> None:
@@ -29,11 +41,18 @@ def pytest_generate_tests(metafunc: pytest.Metafunc) -> None:
         named = metafunc.config.getoption("--rabbitmq") or [DEBIAN_13]
         versions = getattr(metafunc.module, "RABBITMQ", named)
         metafunc.parametrize("broker", versions, indirect=True, scope="session")
+    root = metafunc.config.getoption("--clients")
+    roots = {f"clients of {root}": Path(root)} if root else {"Debian 12": Path("/"), "Debian 13": ROOTS[DEBIAN_13]}
+    if "debian" in metafunc.fixturenames:
+        metafunc.parametrize("debian", roots.values(), ids=roots, indirect=True, scope="session")
+    if "dist_packages" in metafunc.fixturenames:
+        others = [it / "usr/lib/python3/dist-packages" for it in roots.values() if it != Path("/")]
+        metafunc.parametrize("dist_packages", others, ids=str)
 
 
 @pytest.fixture(scope="session")
-def broker(request: pytest.FixtureRequest, library: str, tmp_path_factory: pytest.TempPathFactory) -> Iterator[Broker]:
-    """A running broker of a version; the calls for C are there."""
+def broker(request: pytest.FixtureRequest, tmp_path_factory: pytest.TempPathFactory) -> Iterator[Broker]:
+    """A running broker of a version."""
     signal.signal(signal.SIGALRM, lambda *_: pytest.exit(f"not done within {MINUTES} minutes", 1))
     signal.alarm(60 * MINUTES)
     with Broker(Path(tmp_path_factory.mktemp("broker")), request.param) as found:
@@ -42,14 +61,60 @@ def broker(request: pytest.FixtureRequest, library: str, tmp_path_factory: pytes
 
 
 @pytest.fixture(scope="session")
-def package(request: pytest.FixtureRequest, tmp_path_factory: pytest.TempPathFactory) -> str:
+def package() -> str:
     """The folder that has the Python package amqp_values."""
-    if "AMQP_VALUES_PACKAGE" in os.environ:
-        return os.environ["AMQP_VALUES_PACKAGE"]
-    folder = Path(tmp_path_factory.mktemp("package"))
-    wrong = build_package(Crates(), folder, bool(request.config.getoption("--built")))
-    assert not wrong, wrong
-    return str(folder)
+    return os.environ[BUILT]
+
+
+class Debian(NamedTuple):
+    """A Debian that has clients: its Python, and what that needs in the environment."""
+
+    words: list[str]
+    env: dict[str, str]
+
+    @property
+    def has_aio_pika_8(self) -> bool:
+        return "PYTHONHOME" not in self.env
+
+
+@pytest.fixture(scope="session")
+def debian(request: pytest.FixtureRequest, package: str) -> Debian:
+    """The Python of a Debian, which finds the package and the tests too."""
+    words, env = python_in(request.param)
+    path = f"{package}:{TOP}:{TOP / 'packaging'}"
+    return Debian([*words, "-B"], {"PATH": "/usr/bin:/bin", "PYTHONPATH": path, "LC_ALL": "C.UTF-8", **env})
+
+
+# Runs a job of adapted.py with a client and an adapter, and returns what it prints.
+Child = Callable[..., Any]
+
+
+@pytest.fixture
+def child(request: pytest.FixtureRequest, debian: Debian) -> Child:
+    def run(job: str, client: str, adapter: str, **given: object) -> Any:
+        port = request.getfixturevalue("broker").port if "broker" in request.fixturenames else 0
+        words = [*debian.words, "-m", adapted.__name__, job, client, adapter, f"{port}"]
+        done = subprocess.run(
+            words, input=json.dumps(given), capture_output=True, text=True, env=debian.env, cwd=TOP, timeout=120
+        )
+        assert not done.returncode, done.stderr[-3000:]
+        return json.loads(done.stdout)
+
+    return run
+
+
+@pytest.fixture(scope="session")
+def versions(debian: Debian) -> dict[str, str]:
+    """The versions of the clients that the Debian has, as seen.py names them."""
+    script = "import importlib.metadata as it; print(*(f'{name} {it.version(name)}' for name in ('pika', 'amqp', 'pamqp')), sep=',')"
+    done = subprocess.run([*debian.words, "-c", script], capture_output=True, text=True, env=debian.env, check=True)
+    return dict(zip(adapted.CLIENTS, done.stdout.strip().split(","), strict=True))
+
+
+@pytest.fixture
+def version(client: str, versions: dict[str, str]) -> seen.Client:
+    """What the version of a client does that the Debian has."""
+    return seen.VERSIONS[versions[client]]
 
 
 @pytest.fixture
@@ -58,6 +123,12 @@ def connection(broker: Broker) -> Iterator[Connection]:
     found = broker.connection()
     yield found
     found.close()
+
+
+@pytest.fixture
+def saw(broker: Broker, notes: list[str]) -> Callable[[str, object], None]:
+    """Notes a row of what a version does, as docs/INTEROP.md has them."""
+    return lambda what, seen: notes.append(f"{broker.version} | {what} | {seen}")
 
 
 @pytest.fixture

@@ -1,23 +1,31 @@
-"""Tables that are built by the calls for C for the broker, and what is found by them in those that come from it."""
+"""Tables that the Python package writes for the broker, and what it finds in those that come from it, as values of the model."""
 
 import time
 from collections.abc import Callable
 from typing import Any
 
-from tests.model.printed import Value
-from tests.model.tables import number, table, text
-from tests.python import ctypes_values as av
-from tests.python.values import form, python_of
+import amqp_values as own
+
+from tests.model.printed import FRAME, Value, field
+from tests.model.tables import integer_of, number, parts, raw, table, text
 from tests.rabbitmq.broker import Broker
 from tests.rabbitmq.wire import Closed, Connection, Message
+from tests.values import form
 
 # The seconds until a message comes that takes its time.
 PATIENCE = 60
+# What is at a path that a table doesn't have.
+NOTHING = object()
+
+
+def loaded(data: bytes, **options: Any) -> Any:
+    """What the package reads."""
+    return own.loads(data, text="bytes", frame=FRAME, **options)
 
 
 def built(value: Value) -> bytes:
-    """The encoding of a value."""
-    return av.dumps(python_of(value))
+    """The encoding of a value, as the package writes it."""
+    return own.dumps(loaded(raw(value)))
 
 
 def arguments(**entries: Value) -> bytes:
@@ -35,40 +43,20 @@ def dead_lettered(to: str, exchange: str = "") -> dict[str, Value]:
     return {"x_dead_letter_exchange": text(exchange), "x_dead_letter_routing_key": text(to)}
 
 
-def entry_at(data: bytes, *path: bytes | int) -> av.Entry | None:
-    """The entry at a path, of equal keys by the last; None if there is none."""
-    return av.entry(data).find(path, first=False)
-
-
-def value_at(data: bytes, *path: bytes | int) -> Value | None:
-    """The value at a path; None if there is none."""
-    found = entry_at(data, *path)
-    return form(found.value) if found else None
-
-
-def python_at(data: bytes, *path: bytes | int) -> Any:
-    """What the module has for the value at a path, which is there."""
-    found = entry_at(data, *path)
-    assert found, path
-    return found.value
-
-
-def first_with(data: bytes, key: str) -> Any:
-    """The value at a key, of equal keys by the first; None if there is none."""
-    found = av.entry(data).get(key)
-    return found and found.value
+def value_at(data: bytes, *path: bytes | int, **options: Any) -> Value | None:
+    """The value at a path, of equal keys by the last unless the options say otherwise; None if there is none."""
+    found = own.find(data, *path, text="bytes", frame=FRAME, default=NOTHING, **options)
+    return None if found is NOTHING else form(found)
 
 
 def without(data: bytes, *keys: bytes) -> bytes:
     """A table without these keys, of which each other entry is copied as it is."""
-    kept = {it.key or "": it.encoding for it in av.entries(data) if (it.key or "").encode() not in keys}
-    return av.dumps(kept)
+    return field(b"F", b"".join(key + it for key, it in parts(data) if key[1:] not in keys))
 
 
-def is_now(entry: av.Entry | None, tag: str = "T") -> bool:
+def is_now(value: Value | None, tag: str = "T") -> bool:
     """Whether it is a time of this minute, in seconds."""
-    seconds = entry.value if entry and entry.tag == tag else None
-    return isinstance(seconds, int) and abs(seconds - time.time()) < 120
+    return value is not None and value[0] == tag and abs(integer_of(value) - time.time()) < 120
 
 
 def awaited(

@@ -281,6 +281,9 @@ class Connection:
         assert isinstance(found, Message)
         return found
 
+    def acknowledge(self, message: Message) -> None:
+        self.send(ACK, struct.pack(">QB", message.tag, 0))
+
     def reject(self, message: Message, goes_back: bool = False, by_nack: bool = False) -> None:
         bits = 2 * goes_back if by_nack else goes_back
         self.send(NACK if by_nack else REJECT, struct.pack(">QB", message.tag, bits))

@@ -5,11 +5,11 @@ import shutil
 from pathlib import Path
 from types import TracebackType
 
-from tests.rabbitmq.broker import DEBIAN_12, SERVERS, Broker
+from tests.rabbitmq.broker import DEBIAN_13, SERVERS, Broker
 from tests.rabbitmq.wire import EMPTY, Connection
 
 # What the tests need.
-SERVER = SERVERS[DEBIAN_12]
+SERVER = SERVERS[DEBIAN_13]
 
 
 class Relay:
@@ -18,7 +18,7 @@ class Relay:
     def __init__(self, folder: Path, messages: list[tuple[str, bytes]]) -> None:
         shutil.rmtree(folder, ignore_errors=True)
         folder.mkdir(parents=True)
-        self.broker, self.messages, self.names = Broker(folder, DEBIAN_12), messages, itertools.count()
+        self.broker, self.messages, self.names = Broker(folder, DEBIAN_13), messages, itertools.count()
 
     def __enter__(self) -> "Relay":
         self.broker.__enter__()

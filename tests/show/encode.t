@@ -1,15 +1,4 @@
-# From JSON to the encoding, by `--encode`.
-
-encode_client_properties
-  $ amqp_show --encode <<'END'
-  > {
-  >   "product": "lapin",
-  >   "version": "2.3.1",
-  >   "platform": "Rust",
-  >   "capabilities": {"publisher_confirms": true, "basic.nack": true}
-  > }
-  > END
-  460000006a0c6361706162696c697469657346000000220a62617369632e6e61636b7401127075626c69736865725f636f6e6669726d73740108706c6174666f726d5300000004527573740770726f6475637453000000056c6170696e0776657273696f6e5300000005322e332e31
+# From JSON to an encoding.
 
 encode_deepest
   $ amqp_show --encode <<'END'
@@ -32,12 +21,12 @@ encode_long_key
 
 encode_no_type_tag
   $ echo '[{"$ShortString":"key"}]' | amqp_show --encode
-  2> amqp_show: "-": expected the name of a type after `$` at byte 2
+  2> amqp_show: "-": expected the name of a type after `$` at byte 2: "$ShortString":"key"}]
   [1]
 
 encode_not_a_value
   $ echo '{"$ShortInt":"5"}' | amqp_show --encode
-  2> amqp_show: "-": expected a number at byte 13
+  2> amqp_show: "-": expected a number at byte 13: "5"}
   [1]
 
 encode_not_utf8
@@ -50,11 +39,6 @@ encode_number
   2> amqp_show: "-": expected an integer that the type holds at byte 51; a Double is written by its bits, as {"$Double":"3ff0000000000000"}
   [1]
 
-encode_negative_with_exponent
-  $ echo '[0, -2e3]' | amqp_show --encode
-  2> amqp_show: "-": expected an integer that the type holds at byte 4; a Double is written by its bits, as {"$Double":"3ff0000000000000"}
-  [1]
-
 encode_exponent_in_upper_case
   $ echo '1E400' | amqp_show --encode
   2> amqp_show: "-": expected an integer that the type holds at byte 0; a Double is written by its bits, as {"$Double":"3ff0000000000000"}
@@ -62,29 +46,12 @@ encode_exponent_in_upper_case
 
 encode_out_of_range
   $ echo '{"FieldTable":{"Void":[{"$ShortInt":-32768},{"$ShortInt":70000}]}}' | amqp_show --encode
-  2> amqp_show: "-": expected an integer that the type holds at byte 57
-  [1]
-
-encode_first_of_several
-  $ echo '{"b":9223372036854775808,"a":[[null,{"$LongInt":2147483648}],2.5]}' | amqp_show --encode
-  2> amqp_show: "-": expected an integer that the type holds at byte 5
+  2> amqp_show: "-": expected an integer that the type holds at byte 57: 70000}]}}
   [1]
 
 encode_digits_in_upper_case
   $ echo '{"":{"$ByteArray":"0A"}}' | amqp_show --encode
   46000000070078000000010a
-
-encode_table_named
-  $ echo '{"$FieldTable":{"a":1.5}}' | amqp_show --encode
-  2> amqp_show: "-": expected the name of a type after `$` at byte 1
-  [1]
-
-encode_long_key_with_dollar
-  $ amqp_show --encode <<'END'
-  > {"$$kkkkkkkkkkkkkkkkkkkkkkkkkkkkkkkkkkkkkkkkkkkkkkkkkkkkkkkkkkkkkkkkkkkkkkkkkkkkkkkkkkkkkkkkkkkkkkkkkkkkkkkkkkkkkkkkkkkkkkkkkkkkkkkkkkkkkkkkkkkkkkkkkkkkkkkkkkkkkkkkkkkkkkkkkkkkkkkkkkkkkkkkkkkkkkkkkkkkkkkkkkkkkkkkkkkkkkkkkkkkkkkkkkkkkkkkkkkkkkkkkkkkkkkkkkkkkk":null,"$$kkkkkkkkkkkkkkkkkkkkkkkkkkkkkkkkkkkkkkkkkkkkkkkkkkkkkkkkkkkkkkkkkkkkkkkkkkkkkkkkkkkkkkkkkkkkkkkkkkkkkkkkkkkkkkkkkkkkkkkkkkkkkkkkkkkkkkkkkkkkkkkkkkkkkkkkkkkkkkkkkkkkkkkkkkkkkkkkkkkkkkkkkkkkkkkkkkkkkkkkkkkkkkkkkkkkkkkkkkkkkkkkkkkkkkkkkkkkkkkkkkkkkkkkkkkkkkk":null}
-  > END
-  2> amqp_show: "-": a key of more than 255 bytes at byte 265
-  [1]
 
 encode_raw
   $ echo '"hi"' | amqp_show --encode --raw
@@ -92,21 +59,12 @@ encode_raw
 
 encode_syntax
   $ echo '{"a":' | amqp_show --encode
-  2> amqp_show: "-": not JSON at byte 6 of 6
+  2> amqp_show: "-": not JSON at byte 6, where the line ends
   [1]
 
 encode_table
   $ echo '{"b":null,"a":true}' | amqp_show --encode --table
   0000000701617401016256
-
-encode_table_key_with_dollar
-  $ echo '{"$$ShortInt":true}' | amqp_show --encode --table
-  0000000c092453686f7274496e747401
-
-encode_table_other
-  $ echo '{"$Double":"3ff8000000000000"}' | amqp_show --encode --table
-  2> amqp_show: "-": --table encodes a FieldTable, not a Double
-  [1]
 
 encode_table_raw
   $ echo '{}' | amqp_show --encode --table --raw
@@ -116,7 +74,7 @@ encode_too_deep
   $ amqp_show --encode <<'END'
   > [[[[[[[[[[[[[[[[[[[[[[[[[[[[[[[[[[[[[[[[[[[[[[[[[[[[[[[[[[[[[[[[[[[[[[[[[[[[[[[[[[[[[[[[[[[[[[[[[[[[[[[[[[[[[[[[[[[[[[[[[[[[[[[[]]]]]]]]]]]]]]]]]]]]]]]]]]]]]]]]]]]]]]]]]]]]]]]]]]]]]]]]]]]]]]]]]]]]]]]]]]]]]]]]]]]]]]]]]]]]]]]]]]]]]]]]]]]]]]]]]]]]]]]]]]]]]]]]
   > END
-  2> amqp_show: "-": more than 127 levels at byte 127
+  2> amqp_show: "-": more than 127 levels at byte 127: []]]]]]]]]]]]]]]]]]]]]]]]]]]]]
   [1]
 
 encode_x_death
@@ -125,5 +83,20 @@ encode_x_death
 
 empty_encode
   $ printf '' | amqp_show --encode
-  2> amqp_show: "-": not JSON at byte 0 of 0
+  2> amqp_show: "-": not JSON at byte 0, where the line ends
+  [1]
+
+encode_table_other
+  $ echo '{"$LongInt":5}' | amqp_show --encode --table
+  2> amqp_show: "-": --table writes a FieldTable, not a LongInt
+  [1]
+
+encode_odd_digits
+  $ echo '{"$ByteArray":"01a"}' | amqp_show --encode
+  2> amqp_show: "-": expected an even number of hexadecimal digits at byte 14: "01a"}
+  [1]
+
+encode_escape_in_excerpt
+  $ printf '["\\x1b[31m' | amqp_show --encode
+  2> amqp_show: "-": not JSON at byte 1: "\x1b[31m
   [1]

@@ -1,44 +1,111 @@
-# Values that something inside them makes malformed.
+# Values that something inside them makes malformed: each failure, with all that is read.
+
+unknown_tag
+  $ amqp_show --hex unknown_id.hex
+  unknown_id.hex:
+  FieldArray
+    Boolean true
+    "z\u0000" (not read)
+  ! offset 7: a type tag is expected; 7a is none
+  = malformed
+  [1]
+
+unknown_first_tag
+  $ echo 7a0102 | xxd -r -p | amqp_show
+  "z" (not read)
+  ! offset 0: a type tag is expected; 7a is none
+  = malformed
+  [1]
 
 endless
   $ amqp_show /dev/zero
   /dev/zero:
+  "\u0000" (not read)
   ! offset 0: a type tag is expected; 00 is none
-  = refused, MapOpt
+  = malformed
   [1]
 
 number_past_array
-  $ echo 41 00000002 49 00 000001 | xxd -r -p | amqp_show --tree --bytes
+  $ echo 41 00000002 49 00 000001 | xxd -r -p | amqp_show
   FieldArray
     LongInt
+    "\u0000" (not read)
+  ! offset 5: the LongInt of 5 bytes goes past the end of its container
+  = malformed
+  [1]
+
+number_past_array_by_bytes
+  $ echo 41 00000002 49 00 000001 | xxd -r -p | amqp_show --bytes
        0  41                  type tag A, FieldArray
        1  00000002            length 2
        5  49                    type tag I, LongInt
-  ! offset 6: the payload of a LongInt is expected; more bytes needed: 3
-  = refused, Eof
-  [1]
-
-number_past_inner_array
-  $ echo 41 0000000d 41 00000002 49 00 53 00000001 61 | xxd -r -p | amqp_show --tree --bytes
-  FieldArray
-    FieldArray
-      LongInt
-       0  41                  type tag A, FieldArray
-       1  0000000d            length 13
-       5  41                    type tag A, FieldArray
-       6  00000002              length 2
-      10  49                      type tag I, LongInt
-  ! offset 11: the payload of a LongInt is expected; more bytes needed: 3
-  = refused, Eof
+       6  00                    "\u0000" (not read)
+  ! offset 5: the LongInt of 5 bytes goes past the end of its container
+  = malformed
   [1]
 
 string_past_array
-  $ echo 41 00000006 53 00000008 61 62636465666768 | xxd -r -p | amqp_show --tree --bytes
+  $ echo 41 00000008 53 00000008 616263 64656667 | xxd -r -p | amqp_show
   FieldArray
     LongString
+    "abc" (not read)
+  ! offset 5: the LongString of 13 bytes goes past the end of its container
+  = malformed
+  [1]
+
+array_past_array
+  $ echo 41 0000000d 41 00000009 7401 56 53 00000001 61 | xxd -r -p | amqp_show
+  FieldArray
+    FieldArray
+      Boolean true
+      Void
+      LongString
+  ! offset 5: the FieldArray of 14 bytes goes past the end of its container
+  = malformed
+  [1]
+
+length_past_array
+  $ echo 41 00000004 53 0000 56 | xxd -r -p | amqp_show --bytes
        0  41                  type tag A, FieldArray
-       1  00000006            length 6
+       1  00000004            length 4
        5  53                    type tag S, LongString
-  ! offset 6: the payload of a LongString is expected; more bytes needed: 7
-  = refused, Eof
+       6  000056                "\u0000\u0000V" (not read)
+  ! offset 5: the LongString of 5 bytes goes past the end of its container
+  = malformed
+  [1]
+
+no_value_after_key
+  $ echo 41 00000008 46 00000002 0161 56 | xxd -r -p | amqp_show
+  FieldArray
+    FieldTable
+      "a"
+      "V" (not read)
+  ! offset 12: a value is expected; its table ends here
+  = malformed
+  [1]
+
+key_past_table
+  $ amqp_show --hex key_past_body.hex
+  key_past_body.hex:
+  FieldTable
+    "\u0005ab" (not read)
+  ! offset 5: the key of 5 bytes goes past the end of its table
+  = malformed
+  [1]
+
+key_not_utf8
+  $ amqp_show --hex key_not_utf8.hex
+  key_not_utf8.hex:
+  FieldTable
+    "ok": Void
+    "\xff\xfe": Void
+  ! offset 9: the key "\xff\xfe" isn't UTF-8
+  = malformed
+  [1]
+
+json_of_malformed
+  $ amqp_show --hex --json unknown_id.hex key_not_utf8.hex queue_arguments.hex
+  {"x-max-length":{"$LongInt":10000},"x-message-ttl":{"$LongUInt":60000},"x-queue-type":"quorum"}
+  2> amqp_show: "unknown_id.hex": offset 7: a type tag is expected; 7a is none
+  2> amqp_show: "key_not_utf8.hex": offset 9: the key "\xff\xfe" isn't UTF-8
   [1]

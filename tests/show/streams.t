@@ -1,20 +1,13 @@
-# Consecutive values, by `--stream`.
+# Values one after another.
 
-stream_bytes
-  $ echo 7401 4600000007 01617401 016256 | xxd -r -p | amqp_show --stream --bytes
-       0  74                  type tag t, Boolean
-       1  01                  true
-  = a value of 2 bytes at 0
-       0  46                  type tag F, FieldTable
-       1  00000007            length 7
-       5  01                    key length 1
-       6  61                    key "a"
-       7  74                    type tag t, Boolean
-       8  01                    true
-       9  01                    key length 1
-      10  62                    key "b"
-      11  56                    type tag V, Void
-  = a value of 12 bytes at 2
+stream
+  $ echo 7401 4600000007 01617401 016256 | xxd -r -p | amqp_show --stream
+  Boolean true
+  = at 0: a value of 2 bytes
+  FieldTable
+    "a": Boolean true
+    "b": Void
+  = at 2: a value of 12 bytes
 
 stream_empty
   $ printf '' | amqp_show --stream
@@ -26,97 +19,44 @@ stream_json
   255
   true
 
-stream_keep_going
-  $ echo 7401 4100000005 7401490000 5300000004 6f6e6521 4600000003 01ff56 5300000010 000102030405060708090a0b0c0d0e0f 56 7a 7401 | xxd -r -p | amqp_show --stream --keep-going --max-bytes 16
-  Boolean true
-  = a value of 2 bytes at 0
-  FieldArray
-    Boolean true
-    LongInt
-  ! offset 8: the payload of a LongInt is expected; more bytes needed: 2
-  = no value at 2: refused, Eof
-  LongString "one!"
-  = a value of 9 bytes at 12
-  FieldTable
-    ?
-  ! offset 6: a key is expected; the bytes aren't UTF-8
-  = no value at 21: refused, Eof
-  ! offset 0: the value has more bytes than --max-bytes allows
-  = no value at 29: refused, TooLarge
-  Void
-  = a value of 1 bytes at 50
-  ! offset 0: a type tag is expected; 7a is none
-  = no value at 51: refused, MapOpt
-  [1]
-
-stream_keep_going_json
-  $ echo 7401 5300000002 6869 56 5300000009 61 | xxd -r -p | amqp_show --stream --keep-going --json --max-bytes 3
-  true
-  null
-  2> amqp_show: "-": no value at 2: offset 0: the value has more bytes than --max-bytes allows; refused, TooLarge
-  2> amqp_show: "-": no value at 10: offset 0: the value has more bytes than --max-bytes allows; refused, TooLarge
-  [1]
-
-stream_keep_going_no_hex
-  $ printf '5300000005 6869 zz' | amqp_show --stream --keep-going --hex --max-bytes 8
-  ! offset 0: the value has more bytes than --max-bytes allows
-  = no value at 0: refused, TooLarge
-  2> amqp_show: "-": line 1, column 17: no hexadecimal
-  [2]
-
-stream_keep_going_status
-  $ echo 4600000003 01ff56 7401 | xxd -r -p | amqp_show --stream --keep-going
-  FieldTable
-    ?
-  ! offset 6: a key is expected; the bytes aren't UTF-8
-  = no value at 0: refused, Eof
-  Boolean true
-  = a value of 2 bytes at 8
-  [1]
-
-stream_no_hex
-  $ echo 74 01 zz | amqp_show --stream --hex
-  Boolean true
-  = a value of 2 bytes at 0
-  2> amqp_show: "-": line 1, column 7: no hexadecimal
-  [2]
-
-stream_rejected
+stream_malformed
   $ echo 7401 4100000005 7401490000 7401 | xxd -r -p | amqp_show --stream
   Boolean true
-  = a value of 2 bytes at 0
+  = at 0: a value of 2 bytes
   FieldArray
     Boolean true
     LongInt
-  ! offset 8: the payload of a LongInt is expected; more bytes needed: 2
-  = no value at 2: refused, Eof
+    "\u0000\u0000" (not read)
+  ! offset 7: the LongInt of 5 bytes goes past the end of its container
+  = at 2: malformed
   [1]
 
-stream_too_deep
-  $ echo 4100000005 4100000000 | xxd -r -p | amqp_show --stream --json --depth 1
-  2> amqp_show: "-": offset 5: containers nest deeper than --depth allows; refused, Eof
-  [1]
-
-stream_too_large
-  $ echo 7401 5300000010 00 | xxd -r -p | amqp_show --stream --json --max-bytes 20
+stream_malformed_json
+  $ echo 7401 4100000005 7401490000 7401 | xxd -r -p | amqp_show --stream --json
   true
-  2> amqp_show: "-": offset 0: the value has more bytes than --max-bytes allows; refused, TooLarge
+  2> amqp_show: "-": the value at 2: offset 7: the LongInt of 5 bytes goes past the end of its container
   [1]
 
 stream_truncated
   $ echo 7401 5300000004 6f6e | xxd -r -p | amqp_show --stream
   Boolean true
-  = a value of 2 bytes at 0
-  LongString "on" (cut)
-  ! offset 1: the payload of a LongString is expected; more bytes needed: 2
-  = no value at 2: truncated; more bytes needed: 2
+  = at 0: a value of 2 bytes
+  LongString
+  "on" (not read)
+  ! offset 7: the input ends inside the LongString
+  = at 2: truncated; more bytes needed: 2
   [1]
 
-stream
-  $ echo 7401 4600000007 01617401 016256 | xxd -r -p | amqp_show --stream
-  Boolean true
-  = a value of 2 bytes at 0
+stream_repeated
+  $ echo 56 460000000c01615601625601615601625656 | xxd -r -p | amqp_show --stream
+  Void
+  = at 0: a value of 1 bytes
   FieldTable
-    "a": Boolean true
+    "a": Void
     "b": Void
-  = a value of 12 bytes at 2
+    "a" (the key comes again): Void
+    "b" (the key comes again): Void
+  * offset 11: the key "a" comes again; readers differ in which value they take
+  = at 1: a value of 17 bytes
+  Void
+  = at 18: a value of 1 bytes

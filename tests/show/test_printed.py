@@ -1,13 +1,16 @@
-"""What amqp_show prints of inputs of every kind, by tests/model/printed.py, which has it from docs/SHOW.md.
+"""What amqp_show prints of random values, and of mutated ones, by tests/model/printed.py: all of it is printable.
 
-That are the tree, the parts, the JSON and the messages; of tables among the inputs also without their type tag, with --table
-and without it.
+Of tables also without their type tag, and of values one after another. Large tables are shown in a second and little memory.
 """
 
-import sys
-from collections.abc import Callable, Iterator
+import os
+import resource
+import subprocess
+import tempfile
+from collections.abc import Callable
 from functools import partial
 from pathlib import Path
+from random import Random
 
 import pytest
 
@@ -15,97 +18,114 @@ from tests.model import printed
 from tests.model.printed import Printed
 from tests.show.running import as_ending, shown
 
-# What is printed of inputs and of tables without their type tag, and the words that have it printed.
+COUNT = 2000
+# What is printed, and the words that have it printed.
 Forms = dict[str, tuple[str, Callable[[bytes], Printed]]]
 FORMS: Forms = {
-    "tree and parts": ("--tree --bytes", printed.printed),
-    "tree and parts with notes": ("--tree --bytes --canonical", partial(printed.printed, asks_notes=True)),
+    "tree": ("", printed.printed),
+    "parts with notes": ("--bytes --canonical", partial(printed.printed, form="bytes", asks_notes=True)),
     "JSON": ("--json", printed.printed_json),
-    "what RabbitMQ does": ("--check rabbitmq", printed.checked),
-    "what is too deep": ("--check rabbitmq --levels 1", partial(printed.checked, levels=1)),
-    "measures": ("--measure", printed.measured),
+    "what RabbitMQ does": ("--check rabbitmq-4.0", partial(printed.checked, version="4.0")),
 }
 TABLES: Forms = {
-    "tree and parts with notes, by --table": (
-        "--table --tree --bytes --canonical",
-        partial(printed.printed, asks_notes=True, subject="table"),
+    "tree with notes": ("--table --canonical", partial(printed.printed, asks_notes=True, subject="table")),
+    "parts": ("--table --bytes", partial(printed.printed, form="bytes", subject="table")),
+    "JSON": ("--table --json", partial(printed.printed_json, subject="table")),
+    "what RabbitMQ does": (
+        "--table --check rabbitmq-3.10",
+        partial(printed.checked, subject="table", version="3.10"),
     ),
-    "JSON by --table": ("--table --json", partial(printed.printed_json, subject="table")),
-    "what RabbitMQ does, by --table": ("--table --check rabbitmq", partial(printed.checked, subject="table")),
-    "what it does in small frames": (
-        "--table --check rabbitmq --frame-max 64",
-        partial(printed.checked, subject="table", frame_max=64),
-    ),
-    "what is too deep by --table": (
-        "--table --check rabbitmq --levels 2",
-        partial(printed.checked, subject="table", levels=2),
-    ),
-    "measures by --table": ("--table --measure", partial(printed.measured, subject="table")),
-    "tree and parts without --table": ("--tree --bytes", printed.printed),
-    "JSON without --table": ("--json", printed.printed_json),
 }
-# The forms that are tried of a stream too.
-STREAMED = ("tree and parts", "JSON", "measures")
 
 
-@pytest.fixture(autouse=True, scope="module")
-def deep() -> Iterator[None]:
-    """The model recurses as deep as its inputs nest."""
-    before = sys.getrecursionlimit()
-    sys.setrecursionlimit(10000)
-    yield
-    sys.setrecursionlimit(before)
+def values(seed: int) -> list[bytes]:
+    make = Random(seed)
+    return [printed.value_of(make, 3) for _ in range(COUNT)]
 
 
-@pytest.fixture(scope="module")
-def inputs() -> list[bytes]:
-    return [*printed.inputs()]
+def inputs(seed: int) -> list[bytes]:
+    """Values and mutated ones."""
+    make, found = Random(seed), values(seed)
+    return [*found, *(printed.damaged(make, make.choice([it, it, it[: len(it) // 2 + 1]])) for it in found)]
 
 
-@pytest.fixture(scope="module")
-def tables() -> list[bytes]:
-    return printed.untagged()
-
-
-@pytest.fixture(scope="module")
-def values() -> list[bytes]:
-    """The values of a stream."""
-    return printed.stream()
-
-
-def differing(program: Path, given: list[bytes], words: str, wants_of: Callable[[bytes], Printed]) -> list[str]:
-    """The inputs of which something else is printed, each as far as its first bytes."""
-    return [it[:200].hex() for it in given if shown(program, words, it) != as_ending(wants_of(it))]
+def wrong(program: Path, given: list[bytes], words: str, wants_of: Callable[[bytes], Printed]) -> list[str]:
+    """The inputs of which something else is printed, or something unprintable, each as far as its first bytes."""
+    found = []
+    for data in given:
+        ended = shown(program, words, data)
+        is_printable = all(it.isprintable() or it == "\n" for it in (ended.out + ended.error).decode())
+        if not is_printable or ended != as_ending(wants_of(data)):
+            found.append(data[:200].hex())
+    return found
 
 
 @pytest.mark.parametrize("form", FORMS)
-def test_inputs(program: Path, form: str, inputs: list[bytes]) -> None:
-    assert inputs
-    assert differing(program, inputs, *FORMS[form]) == []
+def test_inputs(program: Path, form: str, seed: int) -> None:
+    assert wrong(program, inputs(seed), *FORMS[form]) == []
 
 
 @pytest.mark.parametrize("form", TABLES)
-def test_tables(program: Path, form: str, tables: list[bytes]) -> None:
-    """Tables without their type tag."""
-    assert tables
-    assert differing(program, tables, *TABLES[form]) == []
+def test_tables(program: Path, form: str, seed: int) -> None:
+    """Tables without their type tag, also mutated ones."""
+    tables = [it[1:] for it in inputs(seed) if it[:1] == b"F"]
+    assert len(tables) > 100
+    assert wrong(program, tables, *TABLES[form]) == []
 
 
-@pytest.mark.parametrize("form", STREAMED)
-def test_stream(program: Path, form: str, values: list[bytes]) -> None:
-    assert values
-    words = f"--stream --keep-going {FORMS[form][0]}"
-    assert shown(program, words, b"".join(values)) == as_ending(printed.streamed(values)[form])
+@pytest.mark.parametrize(("form", "words"), (("tree", "--tree"), ("bytes", "--bytes"), ("JSON", "--json")))
+def test_stream(program: Path, form: str, words: str, seed: int) -> None:
+    found = [*values(seed), b"A\0\0\0\1z"]
+    assert shown(program, f"--stream {words}", b"".join(found)) == as_ending(printed.streamed(found)[form])
 
 
-def test_each_stream_is_tried(values: list[bytes]) -> None:
-    assert {*printed.streamed(values)} == {*STREAMED}
+@pytest.mark.parametrize("name", ("numbers", "nested", "captured"))
+def test_others(program: Path, name: str) -> None:
+    """Numbers at every edge, containers as deep as they may be and one deeper, and what brokers and clients sent."""
+    given = {
+        "numbers": [*printed.numbers(Random(9))],
+        "nested": [printed.nested(form, count, b"") for form in ("A", "F", "FA") for count in (32, 33, 64, 65)],
+        "captured": printed.captured(),
+    }[name]
+    for words, wants_of in FORMS.values():
+        assert wrong(program, given, words, wants_of) == []
 
 
-@pytest.mark.parametrize("count", (printed.CLIENT_LEVELS, printed.CLIENT_LEVELS + 1))
-def test_levels(program: Path, count: int) -> None:
-    """The default of --levels, which is below that of --depth."""
-    data = printed.nested("AF", count, b"")
-    wants = printed.checked(data)
-    assert wants[0].startswith("* offset") == (count > printed.CLIENT_LEVELS)
-    assert shown(program, "--check rabbitmq", data) == as_ending(wants)
+# Large tables
+
+MOST_SECONDS, MOST_BYTES, MOST_BYTES_OF_STREAM = 1.0, 100_000_000, 20_000_000
+SIZE = 2**20
+# A MiB of Voids, of pairs with keys that come again and that don't ascend, and a string of control characters, and Voids in many arrays.
+LARGE = {
+    "Voids": printed.field(b"A", b"V" * (SIZE - 5)),
+    "pairs": printed.field(b"F", b"".join(b"\4%04x" % (it * 7 % 65536) + b"t\7" for it in range((SIZE - 5) // 7))),
+    "short pairs": printed.field(b"F", b"\0V" * ((SIZE - 5) // 2)),
+    "controls": printed.field(b"S", b"\x1b" * (SIZE - 5)),
+    "nested": printed.nested("A", 60, b"V" * (SIZE - 300)),
+}
+
+
+def seconds_of(program: Path, words: str, data: bytes, most_bytes: int) -> float:
+    """The seconds of the processor of a run that may have so much address space."""
+    limit = partial(resource.setrlimit, resource.RLIMIT_AS, (most_bytes, most_bytes))
+    with tempfile.TemporaryFile() as file:
+        file.write(data)
+        file.seek(0)
+        process = subprocess.Popen([program, *words.split()], stdin=file, stdout=subprocess.DEVNULL, preexec_fn=limit)
+        _, status, used = os.wait4(process.pid, 0)
+        process.returncode = os.waitstatus_to_exitcode(status)
+    assert process.returncode == 0
+    return float(used.ru_utime + used.ru_stime)
+
+
+@pytest.mark.parametrize("words", ("", "--bytes --canonical", "--json", "--check rabbitmq", "--stream"))
+@pytest.mark.parametrize("name", LARGE)
+def test_large(program: Path, name: str, words: str) -> None:
+    # (others may run too)
+    assert min(seconds_of(program, words, LARGE[name], MOST_BYTES) for _ in range(3)) <= MOST_SECONDS
+
+
+def test_stream_in_constant_memory(program: Path) -> None:
+    """A stream of 46 MB."""
+    value = printed.field(b"F", b"\1a" + b"I\0\0\0\5" + b"\1bt\1")
+    assert seconds_of(program, "--stream --json", value * 2_900_000, MOST_BYTES_OF_STREAM)

@@ -17,9 +17,9 @@ import pytest
 
 from tests.show.running import reads
 
-# What begins the line of progress again, and lines of it: without and with the size of the input.
+# What begins the line of progress again, and the line.
 AGAIN = r"\r\x1b\[K"
-READ, READ_OF = r"0\.[2-4] MB, 0\.\d MB/s", r"0\.\d of 0\.4 MB, 0\.\d MB/s, \d+ s left"
+READ = r"0\.[0-4] MB, 0\.\d MB/s"
 # Half of a stream of 400,000 values, and how long it takes until the second half comes.
 HALF, PAUSE = b"V" * 200_000, 1.3
 
@@ -28,7 +28,6 @@ class Stream(NamedTuple):
     """A stream with a pause: of its input, or of its output if it is a file; and what is on the terminal by a pattern."""
 
     pattern: str
-    words: list[str] = []
     second: bytes = HALF
     file: bytes = b""
     shows: bool = False
@@ -36,9 +35,8 @@ class Stream(NamedTuple):
 
 STREAMS = {
     "of a pipe": Stream(f"({AGAIN}{READ})+{AGAIN}"),
-    "of a file": Stream(f"({AGAIN}{READ_OF})+{AGAIN}", file=2 * HALF),
+    "of a file": Stream(f"({AGAIN}{READ})+{AGAIN}", file=2 * HALF),
     "before a message": Stream(f'({AGAIN}{READ})+{AGAIN}amqp_show: "-": .*\\r\\n', second=HALF + b"z"),
-    "with --quiet": Stream("", ["--quiet"]),
     "beside the output": Stream(r"(null\r\n)+", shows=True),
 }
 
@@ -48,7 +46,7 @@ def said_on_terminal(program: Path, stream: Stream, path: Path) -> str:
     ours, theirs = pty.openpty()
     said: list[bytes] = []
     path.write_bytes(stream.file)
-    command = [str(program), "--stream", "--json", *stream.words, *[str(path)] * bool(stream.file)]
+    command = [str(program), "--stream", "--json", *[str(path)] * bool(stream.file)]
     output = theirs if stream.shows else subprocess.PIPE if stream.file else subprocess.DEVNULL
     with subprocess.Popen(command, stdin=subprocess.PIPE, stdout=output, stderr=theirs) as process:
         os.close(theirs)

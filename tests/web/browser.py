@@ -12,7 +12,7 @@ from selenium.webdriver.support.ui import WebDriverWait
 
 DRIVER, CHROMIUM = "/usr/bin/chromedriver", "/usr/bin/chromium"
 # Reads inputs in the page, as it does itself: of each the lines of the tree, the first letter of the part that each byte is of,
-# unless there are many, the lines of repeated keys, the failure, the outcome, what RabbitMQ does and, of a value, whether it is
+# unless there are many, the line of the first repeated key, the failure, the outcome, what RabbitMQ does and, of a value, whether it is
 # canonical, and its JSON.
 READ = """
 const [inputs, how, bits] = arguments, {amqp} = globalThis;
@@ -23,7 +23,7 @@ return inputs.map((digits) => {
         tree: amqp.treeLines(reading),
         parts: bytes.length > 5000 ? "" : Array.from(reading.data, (_, at) =>
             amqp.partOf(reading, at)[0]).join("").slice(reading.shift),
-        repeats: amqp.repeats(reading, Infinity).map(([, line]) => `* ${line}`),
+        repeated: amqp.repeated(reading) ? `* ${amqp.repeated(reading)[1]}` : "",
         failure: failed ? `! offset ${failed[0]}: ${failed[1]}` : "",
         outcome: `= ${amqp.outcome(reading)}`,
         rabbitmq: amqp.rabbitmqText(reading),

@@ -9,17 +9,16 @@ from crates import TOP
 from tests.transcripts import Case, cases
 
 DATA = TOP / "crates/amqp_show/data"
-COLOURS, NOTE = re.compile(r"\x1b\[\d*m"), re.compile(r" \(not canonical: [^)]*\)")
-PART = re.compile(r" *\d+  [0-9a-f]{2}")
-FAULT = re.compile(r'amqp_show: ".*?": (line \d+, column \d+: .*|the hexadecimal ends inside a byte)')
-WITH_WORD = ("--depth", "--max-bytes", "--frame", "--frame-max", "--check")
+COLOURS = re.compile(r"\x1b\[\d*m")
+NOTE = re.compile(r" \((?:the key comes after|the type tag|the byte)[^)]*\)")
+PART = re.compile(r" *\d+  (?:[0-9a-f]{2}| {18})")
+FAULT = re.compile(r'amqp_show: ".*?": (line \d+, column \d+: .*|the text ends inside a byte.*|a dump of .*)')
+WITH_WORD = ("--depth", "--max-bytes", "--check")
 # A failure as a message, and the last line of a value of a stream.
-MESSAGE = re.compile(
-    r'amqp_show: "(.*?)": (?:no value at (\d+): )?(offset \d+: .*); (refused, \w+|truncated; more bytes needed: \d+)'
-)
-IN_STREAM = re.compile(r"= (?:(a value of \d+ bytes) at (\d+)|no value at (\d+): (.*))")
+MESSAGE = re.compile(r'amqp_show: "(.*?)": (?:the value at (\d+): )?(offset \d+: .*)')
+IN_STREAM = re.compile(r"= at (\d+): (.*)")
 # What the page doesn't do, and cases in which amqp_show does nothing with its input.
-OTHERS = {"--encode", "--raw", "--help", "--version", "/dev/zero", "other", "1001"}
+OTHERS = {"--encode", "--raw", "--help", "--version", "/dev/zero", "other", "1001", "folder", "--hex=1"}
 
 
 class Stored(NamedTuple):
@@ -39,7 +38,7 @@ class Stored(NamedTuple):
 def settings(words: tuple[str, ...]) -> dict[str, Any]:
     """The settings of the page that words of amqp_show are."""
     how: dict[str, Any] = {"isTable": "--table" in words}
-    for name, word in (("depth", "--depth"), ("frame", "--max-bytes"), ("frame", "--frame")):
+    for name, word in (("depth", "--depth"), ("frame", "--max-bytes")):
         if word in words:
             how[name] = int(words[words.index(word) + 1])
     return how
@@ -81,19 +80,16 @@ def blocks_of(lines: list[str]) -> Iterator[tuple[int, list[str]]]:
         if line[:2] == "= ":
             found = IN_STREAM.fullmatch(line)
             if found:
-                block[-1] = f"= {found[1] or found[4]}"
-            yield int(found[2] or found[3]) if found else 0, block
+                block[-1] = f"= {found[2]}"
+            yield int(found[1]) if found else 0, block
             block = []
 
 
 def said_of(case: Case) -> Iterator[tuple[str, int, list[str]]]:
     """What is said of each value of a case: its file, its offset, and the lines."""
     for file, lines in printed_of(case).items():
-        for at, block in blocks_of([] if {"--json", "--measure"} & {*case.words} else lines):
+        for at, block in blocks_of([] if "--json" in case.words else lines):
             yield file, at, block
-    for file, at, why, outcome in MESSAGE.findall(case.wants.error.decode()):
-        if at or "--stream" not in case.words:
-            yield file, int(at or 0), [f"! {why}", f"= {outcome}"]
 
 
 def stored() -> Iterator[Stored]:
@@ -106,7 +102,7 @@ def stored() -> Iterator[Stored]:
         for file, at, wants in said_of(case):
             given = case.given if file == "-" else (DATA / file).read_bytes()
             text = given.decode() if "--hex" in words else None
-            has_tree = not {"--bytes", "--json", "--measure"} & {*words} or "--tree" in words
+            has_tree = "--bytes" not in words
             yield Stored(f"{name} {file} {at}", text, given, at, settings(words), wants, has_tree, "--check" in words)
 
 
@@ -116,7 +112,7 @@ def stored_json() -> Iterator[tuple[str, str | None, bytes, dict[str, Any], str]
         words, lines = case.words, case.wants.out.decode().splitlines()
         if "--json" not in words or OTHERS & {*words} or {"--stream", "--max-bytes"} & {*words} or case.output.value:
             continue
-        failed = {file for file, _, _, _ in MESSAGE.findall(case.wants.error.decode())}
+        failed = {file for file, _, _ in MESSAGE.findall(case.wants.error.decode())}
         files = [it for it in files_of(words) if it not in failed and (it == "-" or (DATA / it).is_file())]
         for file, line in zip(files, lines):
             given = case.given if file == "-" else (DATA / file).read_bytes()

@@ -28,7 +28,7 @@ READS = """
             amqp.readHexadecimal(text);
         } else {
             const reading = amqp.read(amqp.modules[bits], bytes.subarray(0, end));
-            amqp.repeats(reading);
+            amqp.repeated(reading);
             amqp.rabbitmqText(reading);
         }
     }

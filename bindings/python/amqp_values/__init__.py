@@ -27,7 +27,7 @@ Reading takes these options, by name:
     keys, text       what becomes of a key, or a string, that isn't UTF-8: "strict", an `Error`; "bytes", bytes (a string is
                      LongString); "surrogateescape", a str with surrogates, as in the names of files
     plain            True for the plain types of Python: int, float, bytes, and for a Timestamp a datetime in UTC
-    equal_keys       which of equal keys counts: "last" or "first"
+    equal_keys       which of equal keys in a table counts: "last" or "first"; "refuse" for an `Error` instead
     signed_decimals  True for decimals that pika or py-amqp wrote, of 32 bits with a sign
     finite           True to refuse infinities and NaNs, for which RabbitMQ closes the connection
     depth, frame     how deep containers nest at most, up to MOST_DEPTH, and how many bytes a value has at most, the type tag

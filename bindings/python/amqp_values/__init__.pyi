@@ -14,8 +14,8 @@ FRAME: int
 _Data: TypeAlias = Union[bytes, bytearray, memoryview]
 # What becomes of keys and text that aren't UTF-8.
 _NotUtf8: TypeAlias = Literal["strict", "bytes", "surrogateescape"]
-# Which of equal keys counts.
-_EqualKeys: TypeAlias = Literal["last", "first"]
+# Which of equal keys counts, or "refuse" for an Error.
+_EqualKeys: TypeAlias = Literal["last", "first", "refuse"]
 _Table: TypeAlias = Union[Mapping[str, Any], Mapping[bytes, Any], Mapping[Union[str, bytes], Any]]
 _Kind: TypeAlias = Literal[
     "cut",

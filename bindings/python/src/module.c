@@ -4,8 +4,8 @@
 #include <string.h>
 
 static const char *const NOT_UTF8[] = {"strict", "bytes", "surrogateescape", NULL};
-static const char *const EQUAL_KEYS[] = {"last", "first", NULL};
-static const char *const INTEGERS_OF[] = {"l", "pika", "py-amqp", "smallest", NULL};
+static const char *const EQUAL_KEYS[] = {"last", "first", "refuse", NULL};
+static const char *const INTEGERS_OF[] = {"l", "pika", "pika 1.3", "py-amqp", "smallest", NULL};
 /* Each option: which functions have it, where it is in Options, and what it may be: one of some words, a number up to another,
    an object, or true or false. */
 static const struct {
@@ -30,6 +30,8 @@ static const struct {
     {"bytes_are_text", CLIENT, offsetof(Options, has_text_of_bytes), NULL, 0, 0},
     {"bytearrays", CLIENT, offsetof(Options, has_bytearrays), NULL, 0, 0},
     {"short_decimals", CLIENT, offsetof(Options, has_short_decimals), NULL, 0, 0},
+    {"aware_datetimes", CLIENT, offsetof(Options, has_aware_datetimes), NULL, 0, 0},
+    {"milliseconds", CLIENT, offsetof(Options, has_milliseconds), NULL, 0, 0},
     {"others", CLIENT, offsetof(Options, others), NULL, 0, 1},
     {"table", FIND, offsetof(Options, is_table), NULL, 0, 0},
     {"default", FIND, offsetof(Options, otherwise), NULL, 0, 1},
@@ -258,7 +260,9 @@ static PyObject *found_at(const Reader *reader, amqpv_entry *entry, PyObject *co
         if (!step_of(reader->state, reader->how, path[it], &step, &kept)) {
             return NULL;
         }
-        amqpv_result result = amqpv_find_path(reader->bytes, reader->length, entry, &step, 1, reader->how->equal_keys, &next);
+        /* (if equal keys are refused there are none here, and the last is the only one) */
+        uint32_t which = reader->how->equal_keys == AMQPV_FIRST_KEY ? AMQPV_FIRST_KEY : AMQPV_LAST_KEY;
+        amqpv_result result = amqpv_find_path(reader->bytes, reader->length, entry, &step, 1, which, &next);
         Py_XDECREF(kept);
         if (result != AMQPV_OK) {
             /* (the other steps are looked at too) */
@@ -393,11 +397,12 @@ static int begin(PyObject *module) {
         || (state->no_text = PyUnicode_InternFromString("")) == NULL) {
         return -1;
     }
-    PyObject *zone = imported("datetime", "timezone"), *utc = zone != NULL ? PyObject_GetAttrString(zone, "utc") : NULL;
+    PyObject *zone = imported("datetime", "timezone");
+    state->utc = zone != NULL ? PyObject_GetAttrString(zone, "utc") : NULL;
     Py_XDECREF(zone);
-    state->epoch = utc != NULL ? PyObject_CallMethod(state->datetime, "fromtimestamp", "iO", 0, utc) : NULL;
-    Py_XDECREF(utc);
-    if (state->epoch == NULL || (state->naive_epoch = PyObject_CallFunction(state->datetime, "iii", 1970, 1, 1)) == NULL) {
+    if (state->utc == NULL
+        || (state->epoch = PyObject_CallMethod(state->datetime, "fromtimestamp", "iO", 0, state->utc)) == NULL
+        || (state->naive_epoch = PyObject_CallFunction(state->datetime, "iii", 1970, 1, 1)) == NULL) {
         return -1;
     }
     state->new_error = (newfunc)(uintptr_t)PyType_GetSlot((PyTypeObject *)PyExc_ValueError, Py_tp_new);

@@ -24,6 +24,40 @@ PyObject *with_end(PyObject *made, size_t end) {
     return both;
 }
 
+/* Adds a key to those of its table, unless that has it already: then an Error. */
+static int add_key(const Reader *reader, amqpv_span span, PyObject *keys) {
+    PyObject *key = PyBytes_FromStringAndSize((const char *)reader->bytes + span.offset, (Py_ssize_t)span.length);
+    int has_it = key != NULL ? PySet_Contains(keys, key) : -1;
+    if (has_it == 1) {
+        raise_error(reader->state, "equal keys", reader->base + span.offset - 1, 0, "each key once");
+    }
+    int is_added = has_it == 0 && PySet_Add(keys, key) == 0;
+    Py_XDECREF(key);
+    return is_added;
+}
+
+/* Whether each table of a value, which was read, has each of its keys once; otherwise an Error at the first that comes again. */
+static int has_each_key_once(const Reader *reader, const amqpv_entry *entry) {
+    amqpv_cursor cursor;
+    amqpv_entry it;
+    if (entry->tag != AMQPV_ARRAY && entry->tag != AMQPV_TABLE) {
+        return 1;
+    }
+    PyObject *keys = entry->tag == AMQPV_TABLE ? PySet_New(NULL) : NULL;
+    int is_well = keys != NULL || entry->tag == AMQPV_ARRAY;
+    amqpv_result result = is_well ? amqpv_enter(reader->bytes, reader->length, entry, &cursor) : AMQPV_NONE;
+    while (is_well && result == AMQPV_OK && (result = amqpv_next(reader->bytes, reader->length, &cursor, &it)) == AMQPV_OK) {
+        is_well = (keys == NULL || add_key(reader, it.key, keys)) && has_each_key_once(reader, &it);
+    }
+    Py_XDECREF(keys);
+    return is_well;
+}
+
+/* Whether a value, which was read, is taken by the option for equal keys. */
+static int is_taken(const Reader *reader, const amqpv_entry *entry) {
+    return reader->how->equal_keys != REFUSE_EQUAL_KEYS || has_each_key_once(reader, entry);
+}
+
 int read_entry(const Reader *reader, amqpv_entry *entry, size_t *count) {
     const Options *how = reader->how;
     const uint8_t *bytes = reader->bytes;
@@ -31,7 +65,7 @@ int read_entry(const Reader *reader, amqpv_entry *entry, size_t *count) {
     amqpv_result result = how->is_table ? amqpv_read_table(bytes, length, how->frame, how->depth, entry, count)
                                         : amqpv_read(bytes, length, how->frame, how->depth, entry, count);
     if (result == AMQPV_OK) {
-        return 1;
+        return is_taken(reader, entry);
     }
     if (result == AMQPV_MALFORMED && how->keys != STRICT && is_well_but_for_keys(reader)) {
         /* by its own length, since amqpv_read checks keys too */
@@ -47,7 +81,7 @@ int read_entry(const Reader *reader, amqpv_entry *entry, size_t *count) {
         }
         *count = entry->value.length;
         if (result == AMQPV_OK) {
-            return 1;
+            return is_taken(reader, entry);
         }
     }
     raise_problem(reader->state, bytes, length, how, reader->base, result, *count);
@@ -96,10 +130,12 @@ static PyObject *build_decimal(const Reader *reader, const amqpv_entry *entry) {
     return PyObject_CallFunction(reader->state->decimal, "s", text);
 }
 
-/* A datetime, which is in UTC, or of a client naive; a client has a Timestamp where there is none. */
+/* A datetime in UTC, aware, or of a client as that has it: naive or aware, and from 2^32 on maybe of milliseconds. What is later
+   than any datetime is a Timestamp then. */
 static PyObject *build_timestamp(const Reader *reader, const amqpv_entry *entry) {
     const State *state = reader->state;
-    int is_late = entry->bits > LAST_SECOND;
+    int has_milliseconds = reader->how->has_milliseconds && entry->bits > UINT32_MAX;
+    int is_late = (has_milliseconds ? entry->bits / 1000 : entry->bits) > LAST_SECOND;
     if (!reader->how->is_plain || (is_late && reader->how->is_of_client)) {
         return of_class(state->new_integer, state->integers[INTEGERS - 1], PyLong_FromUnsignedLongLong(entry->bits));
     }
@@ -107,9 +143,14 @@ static PyObject *build_timestamp(const Reader *reader, const amqpv_entry *entry)
         raise_error(state, "out of range", reader->base + entry->value.offset, 0, "a time before the year 10000");
         return NULL;
     }
+    if (has_milliseconds) {
+        /* (as the client rounds them to microseconds) */
+        return PyObject_CallMethod(state->datetime, "fromtimestamp", "dO", (double)entry->bits / 1000, state->utc);
+    }
+    int is_naive = reader->how->is_of_client && !reader->how->has_aware_datetimes;
     PyObject *parts = Py_BuildValue("(ii)", (int)(entry->bits / 86400), (int)(entry->bits % 86400));
     PyObject *since = parts != NULL ? state->new_timedelta((PyTypeObject *)state->timedelta, parts, NULL) : NULL;
-    PyObject *time = since != NULL ? state->add(reader->how->is_of_client ? state->naive_epoch : state->epoch, since) : NULL;
+    PyObject *time = since != NULL ? state->add(is_naive ? state->naive_epoch : state->epoch, since) : NULL;
     Py_XDECREF(parts);
     Py_XDECREF(since);
     return time;

@@ -18,7 +18,7 @@ enum { INTEGERS = 7 };
 /* What the module has imported: of each interpreter its own. */
 typedef struct {
     PyObject *error, *integer, *integers[INTEGERS], *of_float, *long_string, *encoded;
-    PyObject *decimal, *as_tuple, *datetime, *utc_offset, *epoch, *naive_epoch, *timedelta;
+    PyObject *decimal, *as_tuple, *datetime, *utc, *utc_offset, *epoch, *naive_epoch, *timedelta;
     PyObject *mapping, *sequence;
     /* a dict whose only key is empty: CPython has the keys of its copies once */
     PyObject *of_empty_key;
@@ -33,9 +33,12 @@ typedef struct {
 /* What becomes of keys and text that aren't UTF-8. */
 enum { STRICT = 0, AS_BYTES = 1, ESCAPED = 2 };
 
-/* The type that an int has which is of no class: l; or as a client has it, I where that has the number, else l or L; or the
-   smallest of bsuIil that has it. */
-enum { ALWAYS_L = 0, AS_PIKA = 1, AS_PY_AMQP = 2, SMALLEST = 3 };
+/* Of a table with equal keys: AMQPV_LAST_KEY, AMQPV_FIRST_KEY, or an Error. */
+enum { REFUSE_EQUAL_KEYS = 2 };
+
+/* The type of an int that has no class of this package: l; or, as a client writes it, I where that has the number, and otherwise
+   l (AS_PIKA), L (AS_PY_AMQP), or l above it and L below it (AS_PIKA_1_3); or the smallest of bsuIil that has the number. */
+enum { ALWAYS_L = 0, AS_PIKA = 1, AS_PIKA_1_3 = 2, AS_PY_AMQP = 3, SMALLEST = 4 };
 
 /* The options of a call, as OPTIONS of module.c has them. The objects are borrowed, and may be NULL. */
 typedef struct {
@@ -43,6 +46,7 @@ typedef struct {
     uint32_t is_plain, is_table, is_finite, has_naive_datetimes, has_signed_decimals;
     /* how a client has it: as a Client of the adapters says */
     uint32_t is_of_client, integers, is_ascending, has_text_of_bytes, has_bytearrays, has_short_decimals;
+    uint32_t has_aware_datetimes, has_milliseconds;
     PyObject *otherwise, *offset, *others;
 } Options;
 

@@ -203,6 +203,9 @@ static uint8_t tag_of(uint32_t integers, int64_t number) {
     if (integers == AS_PIKA) {
         return is_long ? AMQPV_LONG_INT : AMQPV_LONG_LONG_INT;
     }
+    if (integers == AS_PIKA_1_3) {
+        return is_long ? AMQPV_LONG_INT : number < 0 ? 'L' : AMQPV_LONG_LONG_INT;
+    }
     if (integers == AS_PY_AMQP) {
         /* (by the tag l py-amqp and pika read a number without sign) */
         return is_long && number > INT32_MIN ? AMQPV_LONG_INT : 'L';

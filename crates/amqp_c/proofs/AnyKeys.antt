@@ -26,7 +26,8 @@ use Rattle.amqp_c.specs.declared.entry.Entry.{Entry}
 use Rattle.amqp_c.specs.ByRules.{IsEncodingBy, AreValuesBy, ArePairsBy}
 use Rattle.amqp_c.specs.Faults.{IsAnyFault}
 use Rattle.amqp_c.specs.ReadBy.{IsReadOr, IsFirstEntry}
-use Rattle.amqp_c.proofs.ByRules.{no_further, neither, values_join, one_value, pairs_join, one_pair, value_there, value_right, value_size, pair_there, pair_right, payload_there, payload_right, encoding_is, field_there}
+use Rattle.amqp_in_place.proofs.AnyKeys.{no_further, entries_weaker}
+use Rattle.amqp_c.proofs.ByRules.{values_join, one_value, pairs_join, one_pair, value_there, value_right, value_size, pair_there, pair_right, payload_there, payload_right, encoding_is, field_there}
 
 -- ---- values by the grammar
 
@@ -96,16 +97,6 @@ plain_reads _ _ (wire c type b v is raw) plain depth =
 -- ---- what is read if keys may be any bytes
 
 -- what has no problem has none if containers may nest deeper
-entries_weaker : (first other : Search) (len : List ℕ → ℕ) → ((s : List ℕ) → first s ≡ None → other s ≡ None) → (s : List ℕ) (n : ℕ)
-    → in_entries first len n s ≡ None → in_entries other len n s ≡ None
-entries_weaker first other len weaker [] n none = refl
-entries_weaker first other len weaker (c ∷ s) zero none =
-    let here = neither (first (c ∷ s)) (option_map (further 1) (in_entries first len (len (c ∷ s) - 1) s)) none in
-    rw (weaker (c ∷ s) here.0)
-    (ap (option_map (further 1)) (entries_weaker first other len weaker s (len (c ∷ s) - 1) (no_further 1 (in_entries first len (len (c ∷ s) - 1) s) here.1)))
-entries_weaker first other len weaker (c ∷ s) (suc n) none =
-    ap (option_map (further 1)) (entries_weaker first other len weaker s n (no_further 1 (in_entries first len n s) none))
-
 value_weaker : (rules : Rules) (within other : AMQPType → Search) → ((type : AMQPType) (b : List ℕ) → within type b ≡ None → other type b ≡ None)
     → (s : List ℕ) → in_value rules within s ≡ None → in_value rules other s ≡ None
 value_weaker rules within other weaker [] none = absurd cc

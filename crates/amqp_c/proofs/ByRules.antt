@@ -17,17 +17,10 @@ use Rattle.amqp_in_place.specs.declared.problems.ProblemKind.TheVariants.{Unknow
 use Rattle.amqp_in_place.specs.declared.problems.Rules.{Rules}
 use Rattle.amqp_in_place.specs.declared.problems.Rules.TheVariants as by_rules
 use Rattle.amqp_in_place.specs.Problems.{Search, known, allow_key, here, further, or_else, in_entries, in_payload, in_value, in_pair, pair_len, inside, value_problem, pair_problem}
+use Rattle.amqp_in_place.proofs.AnyKeys.{no_further, neither}
 use Rattle.amqp_c.specs.ByRules.{IsEncodingBy, AreValuesBy, ArePairsBy, IsBodyBy}
 
 -- ---- searches that find nothing
-
-pub no_further : (n : ℕ) (x : Option Problem) → option_map (further n) x ≡ None → x ≡ None
-no_further n None is = refl
-no_further n (Some p) is = absurd cc
-
-pub neither : (p q : Option Problem) → or_else p q ≡ None → (p ≡ None) × (q ≡ None)
-neither None q is = (refl, is)
-neither (Some p) q is = absurd cc
 
 -- what is after an entry without a problem doesn't matter: it has none with more bytes after it, and as many
 -- bytes

@@ -1,6 +1,7 @@
 -- Looking for the first key with a fault.
-use Rattle.std.proofs.Common.{◌≡◌, ◌<◌, ◌≤◌, ◌+◌, ◌-◌, ℕ, zero, suc, Option, Some, None, List, [], ◌∷◌, length, take, drop, Bool, true, false, not, refl, sym, ap, ◌∙◌, subst, arith}
+use Rattle.std.proofs.Common.{◌≡◌, ◌≢◌, ◌<◌, ◌≤◌, ◌+◌, ◌-◌, ℕ, zero, suc, Option, Some, None, List, [], ◌∷◌, length, take, drop, Bool, true, false, not, refl, sym, ap, ◌∙◌, subst, arith}
 use Rattle.std.specs.Prelude.{Result, Ok, Err, MatchResult, is_err, max, option_map, nat_le, ◌||◌, ◌==◌}
+use Rattle.std.specs.Bool.{then_some}
 use Rattle.std.specs.Borrow.{Bor}
 use Rattle.std.specs.List.{list_any}
 use Rattle.std.specs.Ordering.{nat_cmp, is_eq}
@@ -11,13 +12,15 @@ use Rattle.std.proofs.lemmas.Bool.{false≢true, leb-true, leb-false}
 use Rattle.std.proofs.lemmas.List.{take_all, length-drop, drop-drop, drop_all, length-take-le}
 use Rattle.std.specs.Str.{IsUtf8, is_utf8}
 use Rattle.std.proofs.lemmas.Str.{IsUtf8-from_is_utf8, is_utf8-from_IsUtf8}
+use Rattle.amqp_value_core.specs.declared.types.amqp_type.AMQPType.{AMQPType}
+use Rattle.amqp_value_core.specs.declared.types.amqp_type.AMQPType.TheVariants as amqp
 use Rattle.amqp_value_core.specs.Maps.{same_bytes}
 use Rattle.amq_protocol_types.specs.parsing.Headers.{extent}
 use Rattle.amqp_in_place.specs.declared.rabbitmq.warning.Fault.{Fault}
-use Rattle.amqp_in_place.specs.declared.rabbitmq.warning.Fault.TheVariants.{Repeated, NotUtf8, Empty, TooDeep}
+use Rattle.amqp_in_place.specs.declared.rabbitmq.warning.Fault.TheVariants.{Repeated, NotUtf8, Empty, TooDeep, Decimal}
 use Rattle.amqp_in_place.specs.Problems.{pair_len}
 use Rattle.amqp_in_place.specs.RabbitmqSeen.{HasKeys, IsKeyFaultReport, key_of, after_key}
-use Rattle.amqp_in_place.specs.RabbitmqWarnings.{WarningPlace, is_faulty, fault_in_values, fault_in_pairs}
+use Rattle.amqp_in_place.specs.RabbitmqWarnings.{WarningPlace, fault_inside, is_key_faulty, is_value_faulty, fault_in_values, fault_in_pairs}
 use Rattle.amqp_in_place.proofs.FirstProblems.{left_over}
 use Rattle.amqp_in_place.proofs.RepeatedKeys.{has, by_bytes}
 
@@ -51,6 +54,7 @@ has_none Repeated t none = λ k. ap (list_any (λ (j : Bor (List ℕ)). is_eq (s
 has_none NotUtf8 t none = tt
 has_none Empty t none = tt
 has_none TooDeep t none = tt
+has_none Decimal t none = tt
 
 pub tells_utf8 : {E : Type 0} (t : BTreeSet (Bor (List ℕ))) (k : List ℕ) (r : Result (Unit {0}) E) (b : Bool) → MatchResult r (λ x. IsUtf8 k) (λ x. IsUtf8 k → ⊥) → b ≡ is_err r → IsKeyFaultReport NotUtf8 t t k b
 tells_utf8 {E} t k r b is e keys all = (e ∙ by r is, λ f. tt)
@@ -66,8 +70,21 @@ tells_utf8 {E} t k r b is e keys all = (e ∙ by r is, λ f. tt)
 pub tells_empty : (t : BTreeSet (Bor (List ℕ))) (k : List ℕ) (b : Bool) → b ≡ (length k == 0) → IsKeyFaultReport Empty t t k b
 tells_empty t k b is keys all = (is, λ e. tt)
 
-pub tells_none : (t : BTreeSet (Bor (List ℕ))) (k : List ℕ) → IsKeyFaultReport TooDeep t t k false
-tells_none t k keys all = (refl, λ e. tt)
+pub tells_deep : (t : BTreeSet (Bor (List ℕ))) (k : List ℕ) → IsKeyFaultReport TooDeep t t k false
+tells_deep t k keys all = (refl, λ e. tt)
+
+pub tells_decimal : (t : BTreeSet (Bor (List ℕ))) (k : List ℕ) → IsKeyFaultReport Decimal t t k false
+tells_decimal t k keys all = (refl, λ e. tt)
+
+-- ---- values of other types
+
+pub in_no_container : (fault : Fault) (depth : ℕ) (type : Option AMQPType) (b : List ℕ) → type ≢ Some amqp.FieldArray → type ≢ Some amqp.FieldTable
+    → fault_inside fault depth type b ≡ then_some (is_value_faulty fault depth type) 0
+in_no_container fault zero type b no_array no_table = refl
+in_no_container fault (suc depth) None b no_array no_table = refl
+in_no_container fault (suc depth) (Some amqp.FieldArray) b no_array no_table = absurd (no_array refl)
+in_no_container fault (suc depth) (Some amqp.FieldTable) b no_array no_table = absurd (no_table refl)
+in_no_container fault (suc depth) (Some _) b no_array no_table = refl
 
 -- ---- how far the first is
 
@@ -160,7 +177,7 @@ module _ (fault : Fault) (value : WarningPlace) where
           goes (pair_len (k ∷ s) - 1) ∙ ends (pair_len (k ∷ s) - 1) (1 + length (take k s) + extent (drop k s)) (omega (arith, less)) (omega (arith, long))
 
   -- the bytes of a pair, of which some may be missing
-  pair_over : (earlier : List (List ℕ)) (s : List ℕ) → 0 < length s → is_faulty fault earlier (key_of s) ≡ false → value (after_key s) ≡ None
+  pair_over : (earlier : List (List ℕ)) (s : List ℕ) → 0 < length s → is_key_faulty fault earlier (key_of s) ≡ false → value (after_key s) ≡ None
       → fault_in_pairs fault value earlier 0 s ≡ option_map (λ k. 1 + length (key_of s) + extent (after_key s) + k) (fault_in_pairs fault value (key_of s ∷ earlier) 0 (drop (1 + length (key_of s) + extent (after_key s)) s))
   pair_over earlier [] some good none = absurd (omega (arith, some))
   pair_over earlier (k ∷ s) some good none = rw (good, none) (whole_or_cut (take k s ∷ earlier) k s)
@@ -196,7 +213,7 @@ module _ (fault : Fault) (value : WarningPlace) where
       let sums : n + (1 + length (key_of r) + extent (after_key r)) ≡ m = omega (arith, is, ap length is_key, ap extent is_rest) in
       subst (λ (i : ℕ). PairsPassed s i u) sums (PairsPassed-next s r n (1 + length (key_of r) + extent (after_key r)) t u at some e reported (ap value (sym is_rest) ∙ none) refl)
 
-  faulty_stops : (earlier : List (List ℕ)) (s : List ℕ) → 0 < length s → is_faulty fault earlier (key_of s) ≡ true → fault_in_pairs fault value earlier 0 s ≡ Some 0
+  faulty_stops : (earlier : List (List ℕ)) (s : List ℕ) → 0 < length s → is_key_faulty fault earlier (key_of s) ≡ true → fault_in_pairs fault value earlier 0 s ≡ Some 0
   faulty_stops earlier [] some is = absurd (omega (arith, some))
   faulty_stops earlier (k ∷ s) some is = rw is refl
 
@@ -209,7 +226,7 @@ module _ (fault : Fault) (value : WarningPlace) where
       at.same ∙ (ap (option_map (λ k. n + k)) (ap (fault_in_pairs fault value at.earlier 0) (sym same) ∙ stops) ∙ ap (λ (k : ℕ). Some k) z)
 
   -- a value after a key that is cut is no bytes
-  value_stops_pair : (earlier : List (List ℕ)) (s : List ℕ) (p : ℕ) → 0 < length s → is_faulty fault earlier (key_of s) ≡ false → value (after_key s) ≡ Some p → p < length (after_key s)
+  value_stops_pair : (earlier : List (List ℕ)) (s : List ℕ) (p : ℕ) → 0 < length s → is_key_faulty fault earlier (key_of s) ≡ false → value (after_key s) ≡ Some p → p < length (after_key s)
       → fault_in_pairs fault value earlier 0 s ≡ Some (1 + length (key_of s) + p)
   value_stops_pair earlier [] p some good is within = absurd (omega (arith, some))
   value_stops_pair earlier (k ∷ s) p some good is within =

@@ -14,6 +14,7 @@ mod Keys
 mod Paths
 mod FirstProblems
 mod ProblemReadings
+pub mod AnyKeys
 mod KeyFaults
 mod Untagged
 mod Measuring

@@ -1,6 +1,6 @@
 -- Looking for a problem by the rules of reading: there is none exactly if a value is read.
 use Rattle.std.proofs.Common.{◌≡◌, ◌≢◌, ◌<◌, ◌≤◌, ◌+◌, ◌-◌, ◌↔◌, ℕ, zero, suc, Option, Some, None, option_map, List, [], ◌∷◌, length, take, drop, Bool, true, false, refl, sym, ap, ◌∙◌, subst, inl, inr, arith}
-use Rattle.std.specs.Prelude.{IsNone}
+use Rattle.std.specs.Prelude.{IsNone, ◌⊎◌, Result, Ok, Err, MatchResult, is_ok}
 use Rattle.std.specs.Option.{IfSome}
 use Rattle.std.specs.Str.{is_utf8}
 use Rattle.std.specs.Int.{Width, w32, byte_len}
@@ -25,9 +25,10 @@ use Rattle.amqp_in_place.specs.declared.problems.Problem.{Problem}
 use Rattle.amqp_in_place.specs.declared.problems.ProblemKind.{ProblemKind}
 use Rattle.amqp_in_place.specs.declared.problems.ProblemKind.TheVariants.{UnknownTag, Cut, KeyCut, KeyNotUtf8, TooLarge}
 use Rattle.amqp_in_place.specs.declared.problems.Rules.{Rules}
-use Rattle.amqp_in_place.specs.declared.problems.Rules.TheVariants.{Reading as ByReading}
+use Rattle.amqp_in_place.specs.declared.problems.Rules.TheVariants.{Reading as ByReading, AnyKeys as ByAnyKeys}
 use Rattle.amqp_in_place.specs.Problems.{Search, here, further, in_entries, in_payload, in_value, in_pair, pair_len, inside, problem_of, problem_in_table_of, without_tag}
 use Rattle.amqp_in_place.specs.ProblemResults.{FindsValue, FailsAt}
+use Rattle.amqp_in_place.proofs.AnyKeys.{none_of_any_keys}
 use Rattle.amqp_in_place.proofs.Canonicals.{no_short_letter}
 use Rattle.amqp_in_place.proofs.FirstProblems.{counted_there, entry_passed, entry_stops, first_there}
 
@@ -428,3 +429,18 @@ module _ (rules : Rules) (l : Limits) (t : List ℕ) (bytes : IsBytes t) (is : r
   table_fails_if_some =
       let P : Option Problem → Type 0 = λ y. IfSome y (λ p. FailsAt l with_tag p.offset p.kind) in
       of_first_in_table P (by_limits (λ y. P (option_map without_tag y)) l with_tag with_tag_bytes (λ large. large) (fails_untagged l with_tag with_tag_bytes))
+
+-- what is read has no problem, nor if keys may be any bytes
+none_if_read : (l : Limits) (s : List ℕ) → IsBytes s → FindsValue l s → problem_of ByReading l s ≡ None
+none_if_read l s bytes value = by (problem_of ByReading l s) ((reads_if_none ByReading l s bytes refl (problem_of ByReading l s) refl).1 value)
+  where
+    by : (x : Option Problem) → IsNone x → x ≡ None
+    by None none = refl
+    by (Some p) none = absurd cc
+
+pub none_if_ok : {A E : Type 0} (P : E → Type 0) (rest : A → List ℕ) (value : A → Tree → Type 0) (rules : Rules) (l : Limits) (s : List ℕ) → IsBytes s → (rules ≡ ByReading) ⊎ (rules ≡ ByAnyKeys) → (r : Result A E)
+    → MatchResult r (λ x. (v : Tree) × value x v × Within l s (found v (rest x))) P → is_ok r ≡ true → problem_of rules l s ≡ None
+none_if_ok P rest value rules l s bytes is (Err e) right ok = absurd cc
+none_if_ok P rest value rules l s bytes is (Ok x) right ok =
+    let none = none_if_read l s bytes (right.0, rest x, right.2) in
+    elim is [ inl same ↦ rw same none | inr same ↦ rw same (none_of_any_keys l s none) ]

@@ -1,8 +1,8 @@
--- What RabbitMQ takes in a value, and others may not: a key that comes again in its table, a key
--- that isn't UTF-8, an empty key, a container that nests too deep, and a table that passes the
--- frame-max with its frame. In malformed bytes an entry has the bytes that its header counts, or
--- those that are left, but at least one.
+-- What `warnings` finds: a repeated key, a key that isn't UTF-8, an empty key, a container that nests too
+-- deep, a decimal, and a value that exceeds the frame-max with its frame. In malformed bytes an entry has
+-- the bytes that its header counts, or those that are left, but at least one.
 use Rattle.std.specs.Prelude.{ℕ, zero, suc, ◌<◌, ◌+◌, ◌-◌, ◌==◌, min, Bool, true, false, not, ◌&&◌, nat_lt, Option, Some, None, IfSome, option_map, List, [], ◌∷◌, length, take, drop, if◌then◌else◌}
+use Rattle.std.specs.Bool.{then_some}
 use Rattle.std.specs.Option.{option_or}
 use Rattle.std.specs.List.{list_any}
 use Rattle.std.specs.Str.{is_utf8}
@@ -14,24 +14,25 @@ use Rattle.amq_protocol_types.specs.declared.parsing.limits.Limits.{Limits}
 use Rattle.amq_protocol_types.specs.parsing.Headers.{extent}
 use Rattle.amqp_in_place.specs.Problems.{pair_len}
 use Rattle.amqp_in_place.specs.declared.rabbitmq.warning.Fault.{Fault}
-use Rattle.amqp_in_place.specs.declared.rabbitmq.warning.Fault.TheVariants.{Repeated, NotUtf8, Empty, TooDeep}
+use Rattle.amqp_in_place.specs.declared.rabbitmq.warning.Fault.TheVariants.{Repeated, NotUtf8, Empty, TooDeep, Decimal}
 use Rattle.amqp_in_place.specs.declared.rabbitmq.warning.Warned.{Warned}
 
 -- whether a key has the fault, after pairs with these keys in its table
-abbrev pub is_faulty : Fault → List (List ℕ) → List ℕ → Bool
-is_faulty Repeated earlier k = list_any (same_bytes k) earlier
-is_faulty NotUtf8 earlier k = not (is_utf8 k)
-is_faulty Empty earlier k = length k == 0
-is_faulty TooDeep earlier k = false
+abbrev pub is_key_faulty : Fault → List (List ℕ) → List ℕ → Bool
+is_key_faulty Repeated earlier k = list_any (same_bytes k) earlier
+is_key_faulty NotUtf8 earlier k = not (is_utf8 k)
+is_key_faulty Empty earlier k = length k == 0
+is_key_faulty fault earlier k = false
 
--- whether a value of the type has it, where no level is left: a container is too deep
-abbrev pub is_too_deep : Fault → Option AMQPType → Bool
-is_too_deep TooDeep (Some amqp.FieldArray) = true
-is_too_deep TooDeep (Some amqp.FieldTable) = true
-is_too_deep fault type = false
+-- whether a value of the type has the fault, where containers may still nest `depth` deep
+abbrev pub is_value_faulty : Fault → ℕ → Option AMQPType → Bool
+is_value_faulty TooDeep zero (Some amqp.FieldArray) = true
+is_value_faulty TooDeep zero (Some amqp.FieldTable) = true
+is_value_faulty Decimal depth (Some amqp.DecimalValue) = true
+is_value_faulty fault depth type = false
 
--- the number of bytes before the first pair whose key has the fault, or before the first container
--- that has it, if there is one
+-- the number of bytes before the first pair whose key has the fault, or before the first value that has
+-- it, if there is one
 abbrev pub WarningPlace : Type 0
 WarningPlace = List ℕ → Option ℕ
 
@@ -46,7 +47,7 @@ fault_in_values value (suc n) (c ∷ s) = option_map suc (fault_in_values value 
 -- then one in the pairs after it
 abbrev pub fault_in_pairs : Fault → WarningPlace → List (List ℕ) → ℕ → WarningPlace
 fault_in_pairs fault value earlier n [] = None
-fault_in_pairs fault value earlier zero (k ∷ s) = if is_faulty fault earlier (take k s) then Some 0 else option_or (option_map (λ n. 1 + k + n) (value (drop k s))) (option_map suc (fault_in_pairs fault value (take k s ∷ earlier) (pair_len (k ∷ s) - 1) s))
+fault_in_pairs fault value earlier zero (k ∷ s) = if is_key_faulty fault earlier (take k s) then Some 0 else option_or (option_map (λ n. 1 + k + n) (value (drop k s))) (option_map suc (fault_in_pairs fault value (take k s ∷ earlier) (pair_len (k ∷ s) - 1) s))
 fault_in_pairs fault value earlier (suc n) (k ∷ s) = option_map suc (fault_in_pairs fault value earlier n s)
 
 -- and in a value, by what is in its payload
@@ -57,10 +58,10 @@ fault_in_value inside (c ∷ b) = inside (kind c) (take (extent (c ∷ b) - 1) b
 -- in a payload, with the bytes before it from its type tag on, and containers `depth` deep: the
 -- entries of a container are 5 bytes further on
 abbrev pub fault_inside : Fault → ℕ → Option AMQPType → WarningPlace
-fault_inside fault zero type b = if is_too_deep fault type then Some 0 else None
+fault_inside fault zero type b = then_some (is_value_faulty fault zero type) 0
 fault_inside fault (suc depth) (Some amqp.FieldArray) b = option_map (λ n. 5 + n) (fault_in_values (fault_in_value (fault_inside fault depth)) 0 (drop 4 b))
 fault_inside fault (suc depth) (Some amqp.FieldTable) b = option_map (λ n. 5 + n) (fault_in_pairs fault (fault_in_value (fault_inside fault depth)) [] 0 (drop 4 b))
-fault_inside fault (suc depth) type b = None
+fault_inside fault (suc depth) type b = then_some (is_value_faulty fault (suc depth) type) 0
 
 -- the first with the fault in a value, in values and in pairs, if containers nest `depth` deep
 -- in each value
@@ -73,35 +74,41 @@ values_fault fault depth = fault_in_values (value_fault fault depth) 0
 abbrev pub pairs_fault : Fault → ℕ → WarningPlace
 pairs_fault fault depth = fault_in_pairs fault (value_fault fault depth) [] 0
 
--- and in a table without its type tag: as with the type tag, and one byte less before it
-abbrev pub table_fault : Fault → ℕ → WarningPlace
-table_fault fault depth s = option_map (λ n. n - 1) (value_fault fault depth (id_of amqp.FieldTable ∷ s))
+-- ---- what the clauses say
 
--- the first of each in the value at the start, a container being too deep beyond `levels` and beyond
--- the limit; and whether its bytes without the type tag, and the 8 bytes of a frame, are more than the
--- frame-max, if that isn't 0
-abbrev pub warnings_of : Limits → ℕ → ℕ → List ℕ → Warned
-warnings_of l frame_max levels s = record {
-  repeated_key = fault_in_value (fault_inside Repeated l.depth) s;
-  key_not_utf8 = fault_in_value (fault_inside NotUtf8 l.depth) s;
-  empty_key = fault_in_value (fault_inside Empty l.depth) s;
-  too_deep = fault_in_value (fault_inside TooDeep (min levels l.depth)) s;
-  exceeds_frame = nat_lt 0 frame_max && nat_lt frame_max (extent s - 1 + 8);
-}
+-- the first pair with a key that an earlier pair of its table has, with a key that isn't UTF-8, and with an
+-- empty key; the first container that nests more than `depth` deep; and the first decimal
+abbrev pub first_repeated_key : ℕ → WarningPlace
+first_repeated_key = value_fault Repeated
 
--- the first of each has fewer than n bytes before it
+abbrev pub first_key_not_utf8 : ℕ → WarningPlace
+first_key_not_utf8 = value_fault NotUtf8
+
+abbrev pub first_empty_key : ℕ → WarningPlace
+first_empty_key = value_fault Empty
+
+abbrev pub first_too_deep : ℕ → WarningPlace
+first_too_deep = value_fault TooDeep
+
+abbrev pub first_decimal : ℕ → WarningPlace
+first_decimal = value_fault Decimal
+
+-- that in a table without its type tag: as with the type tag, and one byte less before it, but 0 before the
+-- table itself
+abbrev pub in_untagged : WarningPlace → WarningPlace
+in_untagged place s = option_map (λ n. n - 1) (place (id_of amqp.FieldTable ∷ s))
+
+-- whether the value's bytes without the type tag, and the 8 bytes of a frame, are more than the frame-max,
+-- if that isn't 0
+abbrev pub passes_frame : ℕ → List ℕ → Bool
+passes_frame frame_max s = nat_lt 0 frame_max && nat_lt frame_max (extent s - 1 + 8)
+
+-- each place has fewer than n bytes before it
 abbrev pub AreInside : ℕ → Warned → Type 0
-AreInside n w = IfSome w.repeated_key (λ k. k < n) × IfSome w.key_not_utf8 (λ k. k < n) × IfSome w.empty_key (λ k. k < n) × IfSome w.too_deep (λ k. k < n)
-
--- that of a table without its type tag: as with the type tag, and one byte less before each, but 0
--- before the table itself
-abbrev pub warnings_in_table_of : Limits → ℕ → ℕ → List ℕ → Warned
-warnings_in_table_of l frame_max levels s =
-    let with_tag = warnings_of l frame_max levels (id_of amqp.FieldTable ∷ s) in
-    record {
-      repeated_key = option_map (λ n. n - 1) with_tag.repeated_key;
-      key_not_utf8 = option_map (λ n. n - 1) with_tag.key_not_utf8;
-      empty_key = option_map (λ n. n - 1) with_tag.empty_key;
-      too_deep = option_map (λ n. n - 1) with_tag.too_deep;
-      exceeds_frame = with_tag.exceeds_frame;
-    }
+AreInside n w =
+    IfSome w.repeated_key (λ k. k < n)
+    × IfSome w.key_not_utf8 (λ k. k < n)
+    × IfSome w.empty_key (λ k. k < n)
+    × IfSome w.too_deep (λ k. k < n)
+    × IfSome w.decimal (λ k. k < n)
+    × IfSome w.nested_header (λ k. k < n)

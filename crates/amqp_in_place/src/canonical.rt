@@ -75,6 +75,7 @@ pub fn canonical_table_len(bytes: &[u8], limits: Limits) -> Option<usize>
 
 // What is after a canonical encoding in which containers nest at most `depth` deep.
 #[cycle(canonical)]
+#[inline(always)]
 fn after_canonical<'a>(i: SliceInput<'a>, depth: usize) -> Option<SliceInput<'a>>
     ensures rest { IfSome result (λ rest. CanonPrefix depth (slice_bytes i.entry) (slice_bytes rest)) }
     ensures none { result ≡ None → (rest : List ℕ) → CanonPrefix depth (slice_bytes i.entry) rest → ⊥ }
@@ -97,6 +98,7 @@ fn after_canonical<'a>(i: SliceInput<'a>, depth: usize) -> Option<SliceInput<'a>
 // Whether a body is canonical encodings one after another, in each of which containers nest at most
 // `depth` deep.
 #[cycle(canonical)]
+#[inline(never)]
 fn are_canonical_values<'a>(body: SliceInput<'a>, depth: usize) -> bool
     ensures yes { result ≡ true → CanonValues depth (slice_bytes body.entry) }
     ensures no { result ≡ false → CanonValues depth (slice_bytes body.entry) → ⊥ }
@@ -114,6 +116,7 @@ fn are_canonical_values<'a>(body: SliceInput<'a>, depth: usize) -> bool
 // Whether a body is pairs one after another, each key above the one before it, each value in its
 // canonical encoding, and containers nest at most `depth` deep in each value.
 #[cycle(canonical)]
+#[inline(never)]
 fn are_canonical_pairs<'a>(body: SliceInput<'a>, depth: usize) -> bool
     ensures yes { result ≡ true → CanonEntries depth None (slice_bytes body.entry) }
     ensures no { result ≡ false → CanonEntries depth None (slice_bytes body.entry) → ⊥ }

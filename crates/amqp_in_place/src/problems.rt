@@ -1,6 +1,6 @@
 //! The first thing in a value that isn't allowed, and its offset.
 
-ghost use Rattle.std.specs.Prelude.{◌≡◌, ◌↔◌, ◌<◌, ◌≤◌, ◌+◌, ◌^◌, ◌&&◌, suc, not, IfSome, IsNone, length};
+ghost use Rattle.std.specs.Prelude.{true, None, ◌≡◌, ◌↔◌, ◌<◌, ◌≤◌, ◌+◌, ◌^◌, ◌&&◌, suc, not, IfSome, IsNone, length};
 ghost use Rattle.std.specs.Int.{w32, w64, from_be_bytes};
 ghost use Rattle.amqp_value_core.specs.Layouts.{fixed};
 ghost use Rattle.amqp_value_core.specs.Outcomes.{length_field};
@@ -9,7 +9,7 @@ ghost use Rattle.amq_protocol_types.specs.parsing.Untagged.{tagged};
 ghost use Rattle.amqp_in_place.specs.Problems.{known, allow_key, want_finite, are_ones, here, further, without_tag, in_payload, value_problem, values_problem, pair_problem, pairs_problem, pair_len, inside, problem_of, problem_in_table_of};
 ghost use Rattle.amqp_in_place.specs.ProblemResults.{GoesOver, FindsValue, FailsAt};
 
-use crate::read::check_utf8;
+use crate::read::{check_utf8, read_in_place};
 use amq_protocol_types::parsing::Limits;
 use amq_protocol_types::parsing::header::value_len;
 use amqp_value_core::input::{SliceInput, SplitInput};
@@ -102,10 +102,24 @@ pub fn first_problem(bytes: &[u8], rules: Rules, limits: Limits) -> Option<Probl
         → IfSome result (λ p. FailsAt limits bytes.now p.offset p.kind) }
     ensures inside { IfSome result (λ p. p.offset ≤ length bytes.now) }
 {
+    if is_read(bytes, rules, limits) {
+        return None;
+    }
     if value_len(SliceInput::new(bytes)) > limits.frame as usize {
         return Some(Problem::here(ProblemKind::TooLarge));
     }
     value(bytes, rules, limits.depth).err()
+}
+
+// Whether the value is read, which takes half the time of looking for a problem.
+#[inline(always)]
+fn is_read(bytes: &[u8], rules: Rules, limits: Limits) -> bool
+    ensures { result ≡ true → problem_of rules limits bytes.now ≡ None }
+{
+    match rules {
+        Rules::Reading | Rules::AnyKeys => read_in_place(bytes, limits).is_ok(),
+        Rules::RabbitMq => false,
+    }
 }
 
 /// The first problem in a table without its type tag, which begins with its length, as in methods

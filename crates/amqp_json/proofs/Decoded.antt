@@ -1,6 +1,7 @@
 -- The JSON text of a value that was read at the start of some bytes.
 use Rattle.std.proofs.Common.{◌≡◌, ◌+◌, ◌<◌, ◌≤◌, ◌^◌, ℕ, List, [], ◌++◌, length, take, drop, take_all, sym, ap, ◌∙◌, subst, append-nil, arith}
 use Rattle.std.proofs.Math.ListN.{drop_of_length-le}
+use Rattle.std.proofs.lemmas.List.{take_at}
 use Rattle.amqp_value_core.specs.Values.{Tree}
 use Rattle.amqp_value_core.specs.Outcomes.{found}
 use Rattle.amqp_value_core.specs.Inputs.{IsBytes}
@@ -35,9 +36,15 @@ fits l s t rest old new count is put less few =
 pub too_long : (l : Limits) (s t rest old new : List ℕ) (count : ℕ) → IsOrderedJsonOf l s t rest → Begins old new count t → length new < count → IsNotWritten l s (length old) (write.BufferTooSmall count)
 too_long l s t rest old new count is put more = (t, rest, is, put.count, omega (arith, put.same, more))
 
+-- a text that fits a buffer is its first bytes
+pub at_start : (t old new : List ℕ) (count : ℕ) → Begins old new count t → count ≤ length new → length new < 2 ^ 63 → take count new ≡ t
+at_start t old new count put less few =
+    let size : count ≡ length t = omega (arith, put.count, less, few) in
+    ap (take count) (put.text (omega (arith, size, put.same, less))) ∙ take_at t (drop (length t) old) count (sym size)
+
 -- a buffer that was measured for its text
-pub filled : (t zeros new : List ℕ) (m k : ℕ) (small : List ℕ) → Begins [] small m t → Begins zeros new k t → length zeros ≡ m → m < 2 ^ 63 → new ≡ t
-filled t zeros new m k small first second size few =
+pub filled : (t start small zeros new : List ℕ) (m k : ℕ) → Begins start small m t → Begins zeros new k t → length zeros ≡ m → m < 2 ^ 63 → new ≡ t
+filled t start small zeros new m k first second size few =
     let all : length t ≡ m = omega (arith, first.count, few) in
     second.text (omega (arith, all, size)) ∙ ap (λ (l : List ℕ). t ++ l) (drop_of_length-le zeros (omega (arith, all, size))) ∙ append-nil t
 

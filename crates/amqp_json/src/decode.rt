@@ -105,8 +105,8 @@ fn text_of(alloc: Global, value: ValueRef<'_>) -> Result<String, EncodeError>
     to_json(alloc, &owned)
 }
 
-// The text of a value in whose tables the keys ascend. It is measured first, and written to a string of
-// that length.
+// The text of a value in whose tables the keys ascend. It is written to a small buffer first, which also
+// measures it. A longer one is then written to a string of its length.
 fn ordered_text(alloc: Global, value: ValueRef<'_>) -> Result<Option<String>, AllocError>
     requires json { HasText value }
     ensures text { IfOk result (λ found. IfSome found (λ s. (v : Tree) → Denotes value.entry v
@@ -114,9 +114,14 @@ fn ordered_text(alloc: Global, value: ValueRef<'_>) -> Result<Option<String>, Al
     ensures order { IfOk result (λ found. (s rest : List ℕ) (v : Tree) → IsViewIn s value.entry rest
         → Denotes value.entry v → IfInOrder found s rest) }
 {
-    let Some(end) = put_value(&mut [], Place::START, value) else {
+    let mut short = [0u8; 1024];
+    let Some(end) = put_value(&mut short, Place::START, value) else {
         return Ok(None);
     };
+    if end.count <= short.len() {
+        let text = Vec::from_slice(alloc, &short[..end.count])?;
+        return Ok(Some(unsafe { String::from_utf8_unchecked(text) }));
+    }
     let mut text = vec![in alloc; 0u8; end.count]?;
     match put_value(text.as_mut_slice(), Place::START, value) {
         Some(_) => Ok(Some(unsafe { String::from_utf8_unchecked(text) })),

@@ -1,13 +1,4 @@
-pub mod Classes
-pub mod Complete
-pub mod Sound
-pub mod Takes
-pub mod Heads
-pub mod Yields
-pub mod Lines
-pub mod Digits
-pub mod Pieces
-pub mod Listed
-pub mod Nodes
-pub mod Starts
-pub mod Payloads
+mod Screens
+mod Adding
+mod Covering
+mod Printing

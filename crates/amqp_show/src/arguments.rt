@@ -1,10 +1,7 @@
 //! What the command line asks for.
 
-ghost use Rattle.std.specs.Prelude.{◌≡◌, ◌-◌};
-ghost use Rattle.amqp_show.specs.Outcomes.{left_out_count, subject_name};
-
+use crate::check::Version;
 use amq_protocol_types::stream::Limits;
-use amqp_in_place::rabbitmq::CLIENT_LEVELS;
 use clap::{Arg, ArgAction, ArgMatches, Command, value_parser};
 use std::alloc::{AllocError, Global};
 
@@ -14,319 +11,219 @@ const MAX_BYTES: u32 = 1_048_576;
 
 const DEPTH: u32 = 64;
 
-// RabbitMQ's usual `frame_max`.
-const FRAME_MAX: u32 = 131_072;
-
-// The greatest depth that may be asked for. A level takes about a kilobyte of the stack, of which
-// programs usually have 8 MiB.
+// The greatest depth that may be asked for. A level of JSON takes about a kilobyte of the stack, of
+// which programs usually have 8 MiB.
 const DEEPEST: i64 = 1_000;
 
 // The peers of which it is known what they close the connection for.
-const PEERS: &[&str] = &["rabbitmq"];
+const PEERS: &[&str] = &["rabbitmq", "rabbitmq-3.10", "rabbitmq-4.0", "rabbitmq-4.3"];
 
 const EXAMPLES: &str = "\
 Examples:
-  echo 4600000007 0161 7401 0162 56 | amqp_show --hex
-  echo 4600000007 0161 7401 0162 56 | amqp_show --hex --bytes
-  echo 4600000007 0161 7401 0162 56 | amqp_show --hex --json
-  echo 00000007 0161 7401 0162 56 | amqp_show --hex --table
-  echo '{\"a\":true,\"b\":null}' | amqp_show --encode
-  echo '{\"a\":true,\"b\":null}' | amqp_show --encode --raw | amqp_show
-  cat one.bin two.bin | amqp_show --stream --json
+  A table from a log, or with --table one without its type tag (46, an F):
+    echo 460000000701617401016256 | amqp_show --hex
+  Where it is malformed, and each part up to there with its offset:
+    echo 4600000007016174010162 | amqp_show --hex --bytes
+  How many values a file has, one after another:
+    amqp_show --stream --json values.bin | wc -l
+  JSON to bytes for a test; docs/JSON.md has how types are named:
+    echo '{\"a\":true,\"b\":{\"$LongInt\":5}}' | amqp_show --encode
 
-Exit status: 0 where each value was read, 1 where one was refused or is truncated,
-2 for a mistake in the arguments, a file or its hexadecimal that can't be read, or
-output that can't be written.";
+A line that begins with ! has the offset of the first problem and what it is,
+one with * what readers may differ on, and one with = what came of reading.
 
-/// What is done with each input.
-#[derive(Clone, Copy, Debug)]
-pub enum Task {
-    /// The value at its beginning is shown.
-    Show,
-    /// Its values are shown, each as it comes.
-    Stream {
-        /// Whether a rejected value is passed over.
-        keep_going: bool,
-    },
-    /// It is the JSON of a value, which is encoded: as it is if it is wanted raw, and else in
-    /// hexadecimal.
-    Encode {
-        /// Whether it is wanted raw.
-        raw: bool,
-    },
-}
-
-/// What an input is, or what JSON is encoded as.
-#[derive(Clone, Copy, Debug, PartialEq, Eq)]
-pub enum Subject {
-    /// A value.
-    Value,
-    /// A table without its type tag.
-    Table,
-}
-
-impl Subject {
-    /// What it is called.
-    pub fn name(self) -> &'static str
-        ensures { result.now ≡ subject_name self }
-    {
-        match self {
-            Subject::Value => "value",
-            Subject::Table => "table",
-        }
-    }
-
-    /// How many bytes of its value's encoding it is without: those of the type tag.
-    pub fn left_out_count(self) -> usize
-        ensures { result ≡ left_out_count self }
-    {
-        match self {
-            Subject::Value => 0,
-            Subject::Table => 1,
-        }
-    }
-
-    /// The offset in it of what is at an offset of its value's encoding.
-    pub fn offset(self, offset: usize) -> usize
-        ensures { result ≡ offset - left_out_count self }
-    {
-        offset.saturating_sub(self.left_out_count())
-    }
-}
+Exit status: 0 if each value was read, 1 if one was rejected or is truncated,
+2 after a mistake in the arguments, the input's hexadecimal, or if a file
+can't be read or the output can't be written.";
 
 /// How a value is shown.
-#[derive(Clone, Copy, Debug)]
+#[derive(Clone, Copy, Debug, PartialEq, Eq)]
 pub enum Form {
-    /// As a tree for people.
-    Text {
-        /// As a tree.
-        tree: bool,
-        /// Byte by byte.
-        bytes: bool,
-        /// With what isn't canonical.
-        canonical: bool,
-    },
+    /// As a tree.
+    Tree,
+    /// By each part of its encoding.
+    Bytes,
     /// As JSON, in a line.
     Json,
-    /// By its measures, in a line.
-    Measure,
     /// By what RabbitMQ makes of it.
-    Check {
-        /// A frame that has more bytes is warned of, unless this is 0.
-        frame_max: u32,
-        /// A container that nests deeper is warned of.
-        levels: u32,
-    },
+    Check(Version),
 }
 
-/// What is done, how a value is shown, and within which limits it is read.
+impl Form {
+    fn from_matches(matches: &ArgMatches<'_>) -> Form {
+        if let Some(peer) = matches.get_str("check") {
+            return Form::Check(Version::of_peer(peer));
+        }
+        if matches.get_flag("json") {
+            Form::Json
+        } else if matches.get_flag("bytes") {
+            Form::Bytes
+        } else {
+            Form::Tree
+        }
+    }
+}
+
+/// What is read, and how it is shown.
 #[derive(Clone, Copy, Debug)]
 pub struct Settings {
-    /// What is done.
-    pub task: Task,
-    /// What an input is.
-    pub subject: Subject,
+    /// The input is a table without its type tag, or encoding gives one.
+    pub is_table: bool,
     /// The input is hexadecimal.
     pub hex: bool,
+    /// The input is values one after another.
+    pub is_stream: bool,
     /// How a value is shown.
     pub form: Form,
+    /// What isn't canonical is noted.
+    pub is_canonical: bool,
     /// The output is a terminal that is to have colours.
     pub colours: bool,
-    /// No line says how far a stream has been read.
-    pub quiet: bool,
     /// A value is rejected if it has more bytes, or nests deeper.
     pub limits: Limits,
 }
 
 impl Settings {
-    /// What the arguments ask for, if the output is to have colours or not. Unless they ask for
-    /// another form a value is shown as a tree.
+    /// What the arguments ask for, if the output is to have colours or not.
     pub fn from_matches(matches: &ArgMatches<'_>, colours: bool) -> Settings {
         Settings {
-            task: task_of(matches),
-            subject: subject_of(matches),
+            is_table: matches.get_flag("table"),
             hex: matches.get_flag("hex"),
-            form: form_of(matches),
+            is_stream: matches.get_flag("stream"),
+            form: Form::from_matches(matches),
+            is_canonical: matches.get_flag("canonical"),
             colours,
-            quiet: matches.get_flag("quiet"),
             limits: Limits {
                 frame: matches.get_one::<u32>("max-bytes").unwrap_or(MAX_BYTES),
                 depth: matches.get_one::<u32>("depth").unwrap_or(DEPTH),
             },
         }
     }
-}
 
-fn task_of(matches: &ArgMatches<'_>) -> Task {
-    if matches.get_flag("encode") {
-        let raw = matches.get_flag("raw");
-        Task::Encode { raw }
-    } else if matches.get_flag("stream") {
-        let keep_going = matches.get_flag("keep-going");
-        Task::Stream { keep_going }
-    } else {
-        Task::Show
+    /// What is read.
+    pub fn name(&self) -> &'static str {
+        if self.is_table { "table" } else { "value" }
     }
-}
 
-fn subject_of(matches: &ArgMatches<'_>) -> Subject {
-    if matches.get_flag("table") {
-        return Subject::Table;
+    /// What has the bytes that the limits count.
+    pub fn tagged_name(&self) -> &'static str {
+        if self.is_table {
+            "table with its type tag"
+        } else {
+            "value"
+        }
     }
-    Subject::Value
-}
 
-fn form_of(matches: &ArgMatches<'_>) -> Form {
-    if matches.get_flag("json") {
-        return Form::Json;
+    /// How many bytes of a value's encoding the input is without: a table's type tag.
+    pub fn left_out(&self) -> usize {
+        usize::from(self.is_table)
     }
-    if matches.get_flag("measure") {
-        return Form::Measure;
-    }
-    if matches.get_str("check").is_some() {
-        let frame_max = matches.get_one::<u32>("frame-max").unwrap_or(FRAME_MAX);
-        let levels = matches.get_one::<u32>("levels").unwrap_or(CLIENT_LEVELS);
-        return Form::Check { frame_max, levels };
-    }
-    let bytes = matches.get_flag("bytes");
-    let tree = matches.get_flag("tree") || !bytes;
-    let canonical = matches.get_flag("canonical");
-    Form::Text {
-        tree,
-        bytes,
-        canonical,
+
+    /// The offset in the input of what is at an offset of the value's encoding.
+    pub fn offset(&self, offset: usize) -> usize {
+        offset.saturating_sub(self.left_out())
     }
 }
 
 /// The command line.
 pub fn command<'a>(alloc: Global) -> Result<Command<'a>, AllocError> {
-    Command::new(alloc, "amqp_show")
+    let command = Command::new(alloc, "amqp_show")
         .version("0.1.0")
-        .about("Shows values of AMQP 0-9-1 field tables, and where one is malformed")
-        .after_help(EXAMPLES)
-        .arg(flag(
-            alloc,
-            "hex",
-            "The input is hexadecimal text, or a dump of hexdump -C or xxd",
-        ))?
+        .about("Shows AMQP 0-9-1 field tables, and at which byte one is malformed")
+        .after_help(EXAMPLES);
+    let command = with_inputs(alloc, command)?;
+    let command = with_forms(alloc, command)?;
+    with_values(alloc, command)
+}
+
+// Adds what is read.
+fn with_inputs<'a>(alloc: Global, command: Command<'a>) -> Result<Command<'a>, AllocError> {
+    command
+        .arg(flag(alloc, "hex", "Read hexadecimal text instead of bytes").conflicts_with(
+            "encode",
+        )?)?
         .arg(flag(
             alloc,
             "table",
-            "The input is a table without its type tag; with --encode the output is",
+            "Read a table without its type tag, as methods and headers have it; with --encode write one",
         )
         .conflicts_with("stream")?)?
         .arg(flag(
             alloc,
+            "stream",
+            "Read values one after another, and show each as it comes",
+        )
+        .conflicts_with("encode")?)
+}
+
+// Adds how it is shown. Of the options in the group only one may be used.
+fn with_forms<'a>(alloc: Global, command: Command<'a>) -> Result<Command<'a>, AllocError> {
+    command
+        .arg(form_flag(
+            alloc,
             "tree",
-            "Show a value as a tree, with types (the default)",
-        ))?
-        .arg(flag(
+            "Show a tree with the type of each value (the default)",
+        )?)?
+        .arg(form_flag(
             alloc,
             "bytes",
-            "Show each part of the encoding: offset, bytes, what they are",
-        ))?
-        .arg(flag(
-            alloc,
+            "Show each part of the encoding with its offset and its bytes",
+        )?)?
+        .arg(form_flag(alloc, "json", "Show JSON, on a line for each value")?.conflicts_with(
             "canonical",
-            "Note what isn't canonical: order of keys, second spellings, other booleans",
-        ))?
-        .arg(
-            flag(alloc, "json", "Show a value as JSON, in a line")
-                .conflicts_with("tree")?
-                .conflicts_with("bytes")?
-                .conflicts_with("canonical")?,
+        )?)?
+        .arg(form_flag(
+            alloc,
+            "encode",
+            "Read JSON, and write the encoding of its value in hexadecimal",
         )?
-        .arg(
-            flag(
-                alloc,
-                "measure",
-                "Show how many bytes, values and levels a value has, in a line",
-            )
-            .conflicts_with("tree")?
-            .conflicts_with("bytes")?
-            .conflicts_with("canonical")?
-            .conflicts_with("json")?,
-        )?
+        .conflicts_with("canonical")?)?
         .arg(
             Arg::new(alloc, "check")
                 .long("check")
                 .value_name("PEER")
                 .value_parser(PEERS)
-                .help("Show the first thing for which a peer closes the connection, or warnings")
-                .conflicts_with("tree")?
-                .conflicts_with("bytes")?
-                .conflicts_with("canonical")?
-                .conflicts_with("json")?
-                .conflicts_with("measure")?
-                .conflicts_with("stream")?,
+                .help("Show why a peer closes the connection, or else warnings")
+                .group("form")?
+                .conflicts_with("canonical")?,
         )?
+        .arg(flag(alloc, "raw", "With --encode: write the bytes themselves").requires_arg(
+            "encode",
+        )?)?
         .arg(flag(
             alloc,
-            "stream",
-            "The input is values one after another: show each as it comes",
-        ))?
-        .arg(flag(
-            alloc,
-            "keep-going",
-            "With --stream: pass over a refused value if its length is known",
-        )
-        .requires_arg("stream")?)?
-        .arg(flag(
-            alloc,
-            "quiet",
-            "With --stream: no progress on a terminal that the output doesn't go to",
-        )
-        .requires_arg("stream")?)?
-        .arg(
-            flag(
-                alloc,
-                "encode",
-                "The input is JSON: write the encoding of its value, in hexadecimal",
-            )
-            .conflicts_with("hex")?
-            .conflicts_with("tree")?
-            .conflicts_with("bytes")?
-            .conflicts_with("canonical")?
-            .conflicts_with("json")?
-            .conflicts_with("measure")?
-            .conflicts_with("check")?
-            .conflicts_with("stream")?,
-        )?
-        .arg(flag(alloc, "raw", "With --encode: write bytes as they are").requires_arg("encode")?)?
+            "canonical",
+            "Note in the tree or at the parts what isn't canonical",
+        ))
+}
+
+// Adds the limits, and the files.
+fn with_values<'a>(alloc: Global, command: Command<'a>) -> Result<Command<'a>, AllocError> {
+    command
         .arg(number(
             alloc,
             "max-bytes",
             "1048576",
-            "Refuse a value of more than N bytes",
-        )
-        .visible_alias("frame")?)?
+            "Reject values of more than N bytes",
+        ))?
         .arg(number(
             alloc,
             "depth",
             "64",
-            "Refuse containers that nest more than N deep, at most 1000",
+            "Reject containers that nest more than N deep, at most 1000",
         )
         .value_parser(value_parser!(u32).range(0..=DEEPEST)))?
-        .arg(number(
-            alloc,
-            "frame-max",
-            "131072",
-            "With --check: warn of a value that takes a frame of more than N bytes",
-        )
-        .requires_arg("check")?)?
-        .arg(number(
-            alloc,
-            "levels",
-            "32",
-            "With --check: warn of containers that nest more than N deep",
-        )
-        .requires_arg("check")?)?
         .arg(
             Arg::new(alloc, "FILE")
                 .action(ArgAction::Append)
                 .num_args(0..)
                 .help("Files; - or none is the standard input"),
         )
+}
+
+// One of the ways to show a value.
+fn form_flag<'a>(alloc: Global, name: &'a str, help: &'a str) -> Result<Arg<'a>, AllocError> {
+    flag(alloc, name, help).group("form")
 }
 
 // An option without a value.

@@ -1,65 +1,84 @@
-//! From JSON to an encoding.
+//! The encoding of a value from its JSON.
 
-// The tactic at the function names the lemma that its clause is proved by.
-
-ghost use Rattle.std.specs.Prelude.{◌≡◌, drop, IfOk};
+ghost use Rattle.std.specs.Prelude.{◌≡◌, ◌++◌, ◌∷◌, [], IfOk, IfSome, IsTrue, IsFalse};
 ghost use Rattle.hex.specs.Hex.{encode_lower};
-ghost use Rattle.amqp_screen.specs.Pushes.{shown};
-ghost use Rattle.amqp_show.specs.Outcomes.{left_out_count};
-ghost use Rattle.amqp_show.specs.Text.{line};
+ghost use Rattle.amqp_show.specs.Screens.{in_line};
+ghost use Rattle.amqp_show.specs.Pushes.{shown};
 
-use crate::arguments::Subject;
-use crate::fault::{Fault, Result};
-use crate::input::read_file;
-use crate::messages::{complain, unreadable};
-use amq_protocol_types::AMQPType;
+use crate::arguments::Settings;
+use crate::fault::{Fault, Result, Status};
+use crate::input::Input;
+use crate::messages::complain;
+use crate::parts::type_of;
+use crate::screen::Screen;
+use crate::terminal::print_raw;
 use amqp_json::{JsonError, Mismatch, encoding_of_json};
-use amqp_screen::{Screen, Status, print_raw};
 use std::alloc::{AllocError, Global};
 use std::str;
+
+// How many characters of a text are shown.
+const EXCERPT: usize = 30;
 
 const DOUBLE_ADVICE: &str =
     "a Double is written by its bits, as {\"$Double\":\"3ff0000000000000\"}";
 
 /// Writes the encoding of the value that a file's JSON denotes, or of the table without its type
 /// tag, raw or in hexadecimal.
-pub fn encode_file(rt: &HostRuntime, file: &str, raw: bool, subject: Subject) -> Result<Status> {
+pub fn encode_file(
+    rt: &HostRuntime,
+    file: &str,
+    is_raw: bool,
+    settings: Settings,
+) -> Result<Status> {
     let alloc = rt.alloc();
-    let input = match read_file(rt, file)? {
-        Ok(input) => input,
-        Err(why) => return unreadable(rt, file, &why),
-    };
-    let Ok(json) = str::from_utf8(input.as_slice()) else {
+    let mut input = Input::open(rt, file, false)?;
+    let Ok(json) = str::from_utf8(input.up_to(usize::MAX)?) else {
         complain(rt, file, "the text isn't UTF-8")?;
-        return Ok(Status::Refused);
+        return Ok(Status::Rejected);
     };
-    match encoding_of_json(alloc, json) {
-        Ok(bytes) => match other_type(bytes.as_slice(), subject) {
-            Some(amqp_type) => {
-                let why = format!(in alloc; "--table encodes a FieldTable, not a {amqp_type}")?;
-                complain(rt, file, why.as_str())?;
-                Ok(Status::Refused)
-            }
-            None => { print_encoding(rt, wanted_of(bytes.as_slice(), subject), raw) }
+    let why = match encoding_of_json(alloc, json) {
+        Ok(bytes) => match wanted_of(bytes.as_slice(), settings.is_table) {
+            Some(wanted) => return print_encoding(rt, wanted, is_raw),
+            None => no_table_text(alloc, bytes.as_slice())?,
         },
-        Err(error) => {
-            let why = reason(alloc, json, error)?;
-            complain(rt, file, why.as_str())?;
-            Ok(Status::Refused)
+        Err(JsonError::OutOfMemory) => return Err(Fault::OutOfMemory),
+        Err(error) => error_text(alloc, json, error)?,
+    };
+    complain(rt, file, why.as_str())?;
+    Ok(Status::Rejected)
+}
+
+fn no_table_text(alloc: Global, encoding: &[u8]) -> Result<String, AllocError> {
+    match type_of(encoding) {
+        Some(amqp_type) => format!(in alloc; "--table writes a FieldTable, not a {amqp_type}"),
+        None => format!(in alloc; "--table writes a FieldTable"),
+    }
+}
+
+// At which byte of a text the error is, what was expected, and what is there.
+fn error_text(alloc: Global, json: &str, error: JsonError) -> Result<String, AllocError> {
+    match error {
+        JsonError::OutOfMemory | JsonError::TooLarge => format!(in alloc; "{error}"),
+        // (its byte is after the key)
+        JsonError::NotAValue(_, Mismatch::KeyTooLong) => format!(in alloc; "{error}"),
+        JsonError::NotAValue(at, Mismatch::OutOfRange) if has_fraction(json, at) => {
+            format!(in alloc; "{error}; {DOUBLE_ADVICE}")
+        }
+        JsonError::Syntax(at) | JsonError::NotAValue(at, _) => {
+            let there = excerpt(alloc, json, at)?;
+            if there.is_empty() {
+                return format!(in alloc; "{error}, where the line ends");
+            }
+            format!(in alloc; "{error}: {there}")
         }
     }
 }
 
-// Why a text has no encoding.
-fn reason(alloc: Global, json: &str, error: JsonError) -> Result<String> {
-    match error {
-        JsonError::OutOfMemory => Err(Fault::OutOfMemory),
-        JsonError::Syntax(_) => Ok(format!(in alloc; "{error} of {}", json.len())?),
-        JsonError::NotAValue(at, Mismatch::OutOfRange) if has_fraction(json, at) => Ok(
-            format!(in alloc; "{error}; {DOUBLE_ADVICE}")?,
-        ),
-        JsonError::NotAValue(..) | JsonError::TooLarge => Ok(format!(in alloc; "{error}")?),
-    }
+// What a text has from a byte on, as far as its line goes, or the beginning of that.
+fn excerpt(alloc: Global, json: &str, at: usize) -> Result<String, AllocError> {
+    let there = json.get(at..).unwrap_or("");
+    let line = there.lines().next().unwrap_or("");
+    line.chars().take(EXCERPT).collect(alloc)
 }
 
 // Whether the number at this byte has a point or an exponent.
@@ -71,31 +90,20 @@ fn has_fraction(json: &str, at: usize) -> bool {
     matches!(after_digits, Some(b'.' | b'e' | b'E'))
 }
 
-// The type of an encoded value, if it isn't the one that is wanted.
-fn other_type(encoding: &[u8], subject: Subject) -> Option<AMQPType> {
-    if subject == Subject::Value {
-        return None;
-    }
-    let amqp_type = AMQPType::from_id(char::from(*encoding.first()?))?;
-    (amqp_type != AMQPType::FieldTable).then_some(amqp_type)
-}
-
 // What is wanted of an encoding: all of it, or of a table what is after its type tag.
-fn wanted_of(encoding: &[u8], subject: Subject) -> &[u8]
-    ensures { result.now ≡ drop (left_out_count subject) encoding.now }
+fn wanted_of(encoding: &[u8], is_table: bool) -> Option<&[u8]>
+    ensures value { IsFalse is_table → IfSome result (λ wanted. wanted.now ≡ encoding.now) }
+    ensures table { IsTrue is_table → IfSome result (λ wanted. encoding.now ≡ 70 ∷ wanted.now) }
 {
-    match subject {
-        Subject::Value => encoding,
-        Subject::Table => match encoding.split_first() {
-            Some((_, wanted)) => wanted,
-            None => &[],
-        },
+    if is_table {
+        return encoding.strip_prefix(b"F");
     }
+    Some(encoding)
 }
 
 // Writes an encoding, raw or in hexadecimal on a line.
-fn print_encoding(rt: &HostRuntime, bytes: &[u8], raw: bool) -> Result<Status> {
-    if raw {
+fn print_encoding(rt: &HostRuntime, bytes: &[u8], is_raw: bool) -> Result<Status> {
+    if is_raw {
         print_raw(rt, bytes)?;
         return Ok(Status::Read);
     }
@@ -104,9 +112,9 @@ fn print_encoding(rt: &HostRuntime, bytes: &[u8], raw: bool) -> Result<Status> {
 }
 
 // Bytes in hexadecimal on a line.
-#[tactic(auto, using(crate::proofs::Digits::digits_shown))]
 fn digits_line(alloc: Global, bytes: &[u8]) -> Result<Screen, AllocError>
-    ensures line { IfOk result (λ screen. shown screen ≡ line (encode_lower bytes.now)) }
+    ensures line { IfOk result (λ screen.
+        shown screen ≡ in_line (encode_lower bytes.now) ++ 10 ∷ []) }
 {
     let digits = hex::encode(alloc, bytes)?;
     let mut screen = Screen::new(alloc, false);

@@ -1,48 +1,101 @@
-//! What ends the program before its work is done.
+//! How the work on a file ends.
 
-use amqp_screen::PrintError;
+use crate::hexadecimal::NotHexadecimal;
 use std::alloc::AllocError;
 use std::io;
 use std::io::ErrorKind;
 use thiserror::Error;
 
-/// Why the program can't go on.
+/// How it went, from the best to the worst.
+#[derive(Clone, Copy, Debug, PartialEq, Eq)]
+pub enum Status {
+    /// Each value was read.
+    Read,
+    /// One was rejected, or is truncated.
+    Rejected,
+    /// A mistake in the arguments, input that can't be read, output that can't be written, or out of
+    /// memory.
+    Mistake,
+}
+
+impl Status {
+    ghost use Rattle.std.specs.Prelude.{◌≡◌, max};
+    ghost use Rattle.amqp_show.specs.Statuses.{code_of};
+
+    /// The exit status of the program.
+    pub fn code(self) -> u8
+        ensures { result ≡ code_of self }
+    {
+        match self {
+            Status::Read => 0,
+            Status::Rejected => 1,
+            Status::Mistake => 2,
+        }
+    }
+
+    /// The worse of two.
+    pub fn and(self, other: Status) -> Status
+        ensures { code_of result ≡ max (code_of self) (code_of other) }
+    {
+        match (self, other) {
+            (Status::Mistake, _) | (_, Status::Mistake) => Status::Mistake,
+            (Status::Rejected, _) | (_, Status::Rejected) => Status::Rejected,
+            (Status::Read, Status::Read) => Status::Read,
+        }
+    }
+}
+
+/// Why the program can't go on with a file, or at all.
 #[derive(Debug, Drop, Error)]
 pub enum Fault {
     /// An allocation failed.
     #[error("out of memory")]
     OutOfMemory,
-    /// The output takes no more.
-    #[error(transparent)]
-    Output(PrintError),
-    /// Input that is no file failed.
-    #[error(transparent)]
+    /// The file can't be opened or read.
+    #[error("can't be read: {0}")]
     Input(io::Error),
-    /// The limits allow no value.
-    #[error("--stream with --max-bytes 0 reads no value")]
-    NoValue,
+    /// The file isn't hexadecimal.
+    #[error("{0}")]
+    NotHexadecimal(NotHexadecimal),
+    /// Nobody reads the output any more.
+    #[error("nobody reads the output")]
+    Closed,
+    /// The output takes no more.
+    #[error("the output can't be written: {0}")]
+    Output(io::Error),
+    /// The output is a terminal, which would obey the bytes.
+    #[error("--raw doesn't write to a terminal, which would obey the bytes; redirect the output")]
+    Terminal,
 }
 
 /// What the program does, unless a fault ends it.
 pub type Result<T, E = Fault> = std::result::Result<T, E>;
 
-impl From<AllocError> for Fault {
-    fn from(_error: AllocError) -> Fault {
-        Fault::OutOfMemory
-    }
-}
-
-impl From<PrintError> for Fault {
-    fn from(error: PrintError) -> Fault {
-        Fault::Output(error)
-    }
-}
-
-impl From<io::Error> for Fault {
-    fn from(error: io::Error) -> Fault {
+impl Fault {
+    /// Why input can't be read.
+    pub fn of_input(error: io::Error) -> Fault {
         match error.kind() {
             ErrorKind::OutOfMemory => Fault::OutOfMemory,
             _ => Fault::Input(error),
         }
+    }
+
+    /// Why output can't be written.
+    pub fn of_output(error: io::Error) -> Fault {
+        match error.kind() {
+            ErrorKind::BrokenPipe => Fault::Closed,
+            _ => Fault::Output(error),
+        }
+    }
+
+    /// Whether the next file may still be shown.
+    pub fn is_of_file(&self) -> bool {
+        matches!(self, Fault::Input(_) | Fault::NotHexadecimal(_))
+    }
+}
+
+impl From<AllocError> for Fault {
+    fn from(_error: AllocError) -> Fault {
+        Fault::OutOfMemory
     }
 }

@@ -1,219 +1,150 @@
-//! Bytes that come as hexadecimal.
+//! Bytes that a text spells in hexadecimal: two digits side by side for each, with `0x` or `\x` right
+//! before them or nothing; between bytes white space, `,`, `:`, and comments from `#` to the end of
+//! the line.
 
-ghost use Rattle.std.specs.Prelude.{◌≡◌, ◌^◌, ◌++◌, ◌<◌, ◌≤◌, ℕ, List, length, option_to_list, IfErr, IfOk, IfSome, IsNone, IsSome, OnErr, OnOk};
-ghost use Rattle.std.specs.Io.{ReadsAtMost};
-ghost use Rattle.std.specs.Io.KnownBytes.{Consumes, IsAtEnd, Keeps, ReadConsumes};
-ghost use Rattle.std.specs.IoError.{error_kind};
-ghost use Rattle.std.specs.declared.io.ErrorKind.{ErrorKind};
-ghost use Rattle.amqp_show.specs.Spelled.{form_of_text};
-ghost use Rattle.amqp_show.specs.Readings.{left, KeepsYielded, TakesNext, YieldsInto, YieldsNext};
+use thiserror::Error;
 
-use crate::spelling::{Fault, Form, Spelling};
-use arrayvec::ArrayVec;
-use std::io;
-use std::io::{ErrorKind, Read};
-
-// As many characters determine how a text is written.
-const HEAD: usize = 10;
-
-// A reader, and what was read of it but not taken yet.
-#[derive(Drop)]
-struct Text<R> {
-    head: ArrayVec<u8, HEAD>,
-    reader: R,
+/// Why a text isn't hexadecimal.
+#[derive(Clone, Copy, Debug, Error)]
+pub enum NotHexadecimal {
+    /// Another byte is at this line and column, counted from 1.
+    #[error("line {0}, column {1}: a byte of two hexadecimal digits is expected")]
+    At(u64, u64),
+    /// The text ends inside a byte.
+    #[error("the text ends inside a byte of two hexadecimal digits")]
+    Unfinished,
+    /// It is a dump of xxd, whose offsets would be taken for bytes.
+    #[error("a dump of xxd: `xxd -r FILE | amqp_show` reads it")]
+    Xxd,
+    /// It is a dump of hexdump -C, whose offsets would be taken for bytes.
+    #[error("a dump of hexdump -C: `cut -c 11-58 FILE | amqp_show --hex` reads it")]
+    Hexdump,
 }
 
-impl<R: Read> Text<R> {
-    // How the text is written. Nothing of it is taken.
-    fn form(&mut self) -> io::Result<Form>
-        ensures kept { Keeps (left R.remaining self.old) (left R.remaining self.new) }
-        ensures form { IfOk result (λ form.
-            IfSome (left R.remaining self.old) (λ text. form ≡ form_of_text text)) }
-    {
-        'reads: loop {
-            if let Some(form) = form_of(self.head.as_slice()) {
-                return Ok(form);
-            }
-            match next_of(&mut self.reader)? {
-                Some(character) => self.head.push(character),
-                None => return Ok(Form::Plain),
-            }
-        }
-    }
-
-    // Takes the next character, or returns `None` at the end.
-    fn next(&mut self) -> io::Result<Option<u8>>
-        ensures ok { IfOk result (λ b.
-            Consumes (left R.remaining self.old) (left R.remaining self.new) (option_to_list b)) }
-        ensures end { IfOk result (λ b. IsNone b → IsAtEnd (left R.remaining self.new)) }
-        ensures err { OnErr result (Keeps (left R.remaining self.old) (left R.remaining self.new)) }
-    {
-        match self.head.pop_at(0) {
-            Some(character) => Ok(Some(character)),
-            None => next_of(&mut self.reader),
-        }
-    }
-}
-
-/// The bytes that a reader's text spells. What isn't hexadecimal is a failure of the kind
-/// `InvalidData`, from then on.
-#[derive(Drop)]
-pub struct Hexadecimal<R> {
-    text: Text<R>,
-    // what was taken, once it is known how the text is written
-    spelling: Option<Spelling>,
-    fault: Option<Fault>,
-}
-
-// What a character, or the end, results in.
+// What may come next.
 #[derive(Clone, Copy, Debug)]
-enum Step {
-    // the character was taken, and completes this byte, if one
-    Taken(Option<u8>),
-    End,
+enum State {
+    // The next byte, or what is between bytes.
+    Between,
+    // The second digit of a byte, after the first; or after a 0 an `x`.
+    SecondOrPrefix(u8),
+    // The `x` of a prefix.
+    Prefix,
+    // The first digit of a byte, and the second.
+    First,
+    Second(u8),
+    // A comment.
+    Comment,
 }
 
-impl<R> Hexadecimal<R> {
-    /// Nothing is read yet.
-    pub fn new(text: R) -> Self {
-        Hexadecimal {
-            text: Text {
-                head: ArrayVec::new(),
-                reader: text,
-            },
-            spelling: None,
-            fault: None,
-        }
-    }
-
-    /// What was found in the text that isn't hexadecimal.
-    pub fn fault(&self) -> Option<Fault>
-        ensures { result ≡ self.now.fault }
-    {
-        self.fault
-    }
-
-    // Keeps a fault to report it.
-    fn fail(&mut self, fault: Fault) -> io::Error
-        ensures kept { self.new ≡ record self.old { fault = Some fault } }
-        ensures kind { error_kind result ≡ ErrorKind.InvalidData }
-    {
-        self.fault = Some(fault);
-        io::Error::from(ErrorKind::InvalidData)
-    }
+/// What was read of a text.
+#[derive(Clone, Copy, Debug)]
+pub struct Decoder {
+    state: State,
+    line: u64,
+    column: u64,
 }
 
-impl<R: Read> Hexadecimal<R> {
-    // The next byte, or `None` at the end. The clause is about a text of less than 2^63 bytes.
-    fn next(&mut self) -> io::Result<Option<u8>>
-        ensures outcome { YieldsNext R.remaining self.old result self.new }
-        ensures kind { IfErr result (λ e. IsSome self.new.fault
-            → error_kind e ≡ ErrorKind.InvalidData) }
-    {
-        if self.fault.is_some() {
-            return Err(io::Error::from(ErrorKind::InvalidData));
-        }
-        for _ in 0..u64::MAX {
-            match self.step()? {
-                Step::Taken(None) => {}
-                Step::Taken(Some(byte)) => return Ok(Some(byte)),
-                Step::End => return Ok(None),
-            }
-        }
-        Err(io::Error::from(ErrorKind::FileTooLarge))
-    }
-
-    // Takes the next character.
-    fn step(&mut self) -> io::Result<Step>
-        requires { self.old.fault ≡ None }
-        ensures outcome { TakesNext R.remaining self.old result self.new }
-        ensures goes { OnOk result (self.new.fault ≡ None) }
-        ensures kind { IfErr result (λ e. IsSome self.new.fault
-            → error_kind e ≡ ErrorKind.InvalidData) }
-    {
-        let mut spelling = self.current_spelling()?;
-        match self.text.next()? {
-            Some(character) => match spelling.take(character) {
-                Ok(byte) => {
-                    self.spelling = Some(spelling);
-                    Ok(Step::Taken(byte))
-                }
-                Err(fault) => Err(self.fail(fault)),
-            },
-            None => match spelling.finish() {
-                Ok(()) => Ok(Step::End),
-                Err(fault) => Err(self.fail(fault)),
-            },
+impl Decoder {
+    /// Nothing yet.
+    pub fn new() -> Self {
+        Decoder {
+            state: State::Between,
+            line: 1,
+            column: 0,
         }
     }
 
-    // What was taken. Reads on until it is known how the text is written, unless it is.
-    fn current_spelling(&mut self) -> io::Result<Spelling>
-        requires { self.old.fault ≡ None }
-        ensures yielded { KeepsYielded R.remaining self.old self.new }
-        ensures is { IfOk result (λ spelling. self.new.spelling ≡ Some spelling) }
-        ensures goes { self.new.fault ≡ None }
-    {
-        if let Some(spelling) = self.spelling {
-            return Ok(spelling);
-        }
-        let spelling = Spelling::new(self.text.form()?);
-        self.spelling = Some(spelling);
-        Ok(spelling)
+    /// Whether nothing was read.
+    pub fn is_at_start(&self) -> bool {
+        self.line == 1 && self.column == 0
     }
-}
 
-impl<R: Read> Read for Hexadecimal<R> {
-    fn read(&mut self, buf: &mut [u8]) -> io::Result<usize>
-        ensures bound { ReadsAtMost result buf.new }
-        ensures bytes { ReadConsumes None None result buf.new }
-        ensures outcome { YieldsInto R.remaining self.old result buf.new self.new }
-        ensures kind { IfErr result (λ e. IsSome self.new.fault
-            → error_kind e ≡ ErrorKind.InvalidData) }
-    {
-        if buf.is_empty() {
-            return Ok(0);
+    /// Reads the next character, and returns the byte that it completes, if any.
+    pub fn take(&mut self, character: u8) -> Result<Option<u8>, NotHexadecimal> {
+        self.column = self.column.saturating_add(1);
+        let Some((state, byte)) = next(self.state, character) else {
+            return Err(NotHexadecimal::At(self.line, self.column));
+        };
+        if character == b'\n' {
+            self.line = self.line.saturating_add(1);
+            self.column = 0;
         }
-        match self.next()? {
-            None => Ok(0),
-            Some(byte) => {
-                buf[0] = byte;
-                Ok(1)
-            }
+        self.state = state;
+        Ok(byte)
+    }
+
+    /// Ends the text.
+    pub fn finish(&self) -> Result<(), NotHexadecimal> {
+        match self.state {
+            State::Between | State::Comment => Ok(()),
+            State::SecondOrPrefix(_) | State::Prefix | State::First | State::Second(_) => Err(
+                NotHexadecimal::Unfinished,
+            ),
         }
     }
 }
 
-// How a text is written that begins so, if that is known yet.
-fn form_of(head: &[u8]) -> Option<Form>
-    requires { length head.now ≤ HEAD }
-    ensures known { IfSome result (λ f. (rest : List ℕ) → form_of_text (head.now ++ rest) ≡ f) }
-    ensures short { IsNone result → length head.now < HEAD }
-    ensures whole { IsNone result → form_of_text head.now ≡ Form.Plain }
-{
-    let (hexdump, xxd): (&[u8], &[u8]) = (b"00000000  ", b"00000000: ");
-    if head == hexdump {
-        return Some(Form::Hexdump);
+/// Whether a text begins as a dump does, whose offsets would be taken for bytes.
+pub fn dump_of(text: &[u8]) -> Option<NotHexadecimal> {
+    if text.starts_with(b"00000000: ") {
+        Some(NotHexadecimal::Xxd)
+    } else if text.starts_with(b"00000000  ") {
+        Some(NotHexadecimal::Hexdump)
+    } else {
+        None
     }
-    if head == xxd {
-        return Some(Form::Xxd);
-    }
-    if hexdump.starts_with(head) || xxd.starts_with(head) {
-        return None;
-    }
-    Some(Form::Plain)
 }
 
-// The next byte of a reader, or `None` at its end.
-fn next_of<R: Read>(reader: &mut R) -> io::Result<Option<u8>>
-    ensures ok { IfOk result (λ b.
-        Consumes (R.remaining reader.old) (R.remaining reader.new) (option_to_list b)) }
-    ensures end { IfOk result (λ b. IsNone b → IsAtEnd (R.remaining reader.new)) }
-    ensures err { OnErr result (Keeps (R.remaining reader.old) (R.remaining reader.new)) }
-{
-    let mut byte = [0];
-    if reader.read(&mut byte)? == 0 {
-        return Ok(None);
+/// Whether the bytes are themselves a text that spells some.
+pub fn is_hexadecimal(text: &[u8]) -> bool {
+    let mut decoder = Decoder::new();
+    let mut has_bytes = false;
+    for character in text {
+        match decoder.take(*character) {
+            Ok(byte) => has_bytes |= byte.is_some(),
+            Err(_) => return false,
+        }
     }
-    Ok(Some(byte[0]))
+    has_bytes && decoder.finish().is_ok()
+}
+
+// The state after the next character, and the byte that it completes; `None` if it can't come.
+fn next(state: State, character: u8) -> Option<(State, Option<u8>)> {
+    match state {
+        State::Between => Some((between(character)?, None)),
+        State::SecondOrPrefix(0) if character == b'x' || character == b'X' => {
+            Some((State::First, None))
+        }
+        State::SecondOrPrefix(first) | State::Second(first) => {
+            Some((State::Between, Some(byte_of(first, value_of(character)?))))
+        }
+        State::Prefix => (character == b'x').then_some((State::First, None)),
+        State::First => Some((State::Second(value_of(character)?), None)),
+        State::Comment if character == b'\n' => Some((State::Between, None)),
+        State::Comment => Some((State::Comment, None)),
+    }
+}
+
+// The state after a character that doesn't belong to the byte before it.
+fn between(character: u8) -> Option<State> {
+    match character {
+        b' ' | b'\t' | b'\r' | b'\n' | 0x0c | b',' | b':' => Some(State::Between),
+        b'#' => Some(State::Comment),
+        b'\\' => Some(State::Prefix),
+        _ => Some(State::SecondOrPrefix(value_of(character)?)),
+    }
+}
+
+fn byte_of(first: u8, second: u8) -> u8 {
+    first % 16 * 16 + second % 16
+}
+
+fn value_of(digit: u8) -> Option<u8> {
+    match digit {
+        b'0'..=b'9' => Some(digit - b'0'),
+        b'a'..=b'f' => Some(digit - b'a' + 10),
+        b'A'..=b'F' => Some(digit - b'A' + 10),
+        _ => None,
+    }
 }

@@ -1,154 +1,157 @@
-//! What is read.
+//! What is read: the bytes of a file, or those that it spells in hexadecimal.
 
-ghost use Rattle.std.specs.Prelude.{◌≡◌};
-ghost use Rattle.amqp_show.specs.Outcomes.{encoding_of};
-
-use crate::arguments::{Settings, Subject};
 use crate::fault::{Fault, Result};
-use crate::hexadecimal::Hexadecimal;
-use crate::spelling;
-use std::alloc::Global;
+use crate::hexadecimal::{Decoder, NotHexadecimal, dump_of};
+use amq_protocol_types::parsing::SliceInput;
+use amq_protocol_types::parsing::header::value_len;
 use std::fs::File;
 use std::io;
-use std::io::{BufReader, ErrorKind, Read, Stdin};
-use thiserror::Error;
+use std::io::{ErrorKind, Read, Stdin};
 
-/// That many bytes of a stream are read at once, at most.
+/// As many bytes are read at once, at most.
 pub const BLOCK: usize = 65_536;
 
-/// Why a file can't be read.
-#[derive(Debug, Drop, Error)]
-pub enum Unread {
-    /// Opening it failed, or reading on.
-    #[error("can't be read: {0}")]
-    Failed(io::Error),
-    /// It isn't hexadecimal.
-    #[error("{0}")]
-    NotHexadecimal(spelling::Fault),
-}
-
-impl Unread {
-    /// Why a file can't be read after an error, unless memory ran out: that ends the program.
-    pub fn after(error: io::Error) -> Result<Unread> {
-        match error.kind() {
-            ErrorKind::OutOfMemory => Err(Fault::OutOfMemory),
-            _ => Ok(Unread::Failed(error)),
-        }
-    }
-}
-
-/// What is read of a file, or why it can't be read.
-pub type Content<T> = Result<T, Unread>;
-
-/// A file, or the standard input.
 #[derive(Drop)]
-pub enum Input {
+enum Source {
     File(File),
     Stdin(Stdin),
 }
 
-impl Input {
-    /// Opens a file, or the standard input if it is called `-`.
-    pub fn open(rt: &HostRuntime, file: &str) -> io::Result<Self> {
-        if file == "-" {
-            return Ok(Input::Stdin(rt.stdin()));
-        }
-        Ok(Input::File(File::open(rt, file)?))
-    }
-
-    /// How many bytes it has, if that is known.
-    pub fn size(&self) -> Option<u64> {
-        match self {
-            Input::File(file) => {
-                let metadata = file.metadata().ok()?;
-                metadata.is_file().then_some(metadata.len())
-            }
-            Input::Stdin(_) => None,
-        }
-    }
-}
-
-impl Read for Input {
+impl Source {
     fn read(&mut self, buf: &mut [u8]) -> io::Result<usize> {
         match self {
-            Input::File(file) => file.read(buf),
-            Input::Stdin(stdin) => stdin.read(buf),
+            Source::File(file) => file.read(buf),
+            Source::Stdin(stdin) => stdin.read(buf),
         }
     }
 }
 
-/// The bytes of an input, and the type tag of a table before them.
+/// A file or the standard input, and what was read of it and isn't done with.
 #[derive(Drop)]
-pub struct Tagged {
+pub struct Input {
+    source: Source,
+    decoder: Option<Decoder>,
+    block: Vec<u8>,
     bytes: Vec<u8>,
+    start: usize,
+    // What ends the bytes, if it is known.
+    end: Option<Result<(), NotHexadecimal>>,
 }
 
-impl Tagged {
-    // The bytes that a reader yields until it ends, after the type tag.
-    fn read<R: Read + Drop>(alloc: Global, mut reader: R) -> io::Result<Self> {
-        let mut bytes = Vec::new(alloc);
-        bytes.push(b'F')?;
-        reader.read_to_end(&mut bytes)?;
-        Ok(Tagged { bytes })
+impl Input {
+    /// Opens a file, or the standard input if it is called `-`.
+    pub fn open(rt: &HostRuntime, file: &str, is_hexadecimal: bool) -> Result<Input> {
+        let source = if file == "-" {
+            Source::Stdin(rt.stdin())
+        } else {
+            Source::File(File::open(rt, file).map_err(Fault::of_input)?)
+        };
+        Ok(Input {
+            source,
+            decoder: is_hexadecimal.then(Decoder::new),
+            block: vec![in rt.alloc(); 0; BLOCK]?,
+            bytes: Vec::new(rt.alloc()),
+            start: 0,
+            end: None,
+        })
     }
 
-    /// The encoding that is read: the bytes, for a table with the type tag.
-    pub fn encoding(&self, subject: Subject) -> &[u8]
-        ensures { result.now ≡ encoding_of subject self.now }
-    {
-        match subject {
-            Subject::Value => match self.bytes.as_slice().split_first() {
-                Some((_, bytes)) => bytes,
-                None => &[],
-            },
-            Subject::Table => self.bytes.as_slice(),
+    /// Puts a byte before those that are read.
+    pub fn put(&mut self, byte: u8) -> Result<()> {
+        self.bytes.extend_from_slice(&[byte])?;
+        Ok(())
+    }
+
+    // The bytes that were read and aren't done with.
+    fn there(&self) -> &[u8] {
+        self.bytes.get(self.start..).unwrap_or(&[])
+    }
+
+    /// The next bytes, as many if the input doesn't end before.
+    pub fn up_to(&mut self, count: usize) -> Result<&[u8]> {
+        self.fill(count)?;
+        let there = self.there();
+        Ok(there.get(..count).unwrap_or(there))
+    }
+
+    /// The bytes of the next value, or if it has more than `most`, or is none, as many as show that:
+    /// fewer if the input ends before.
+    pub fn next_value(&mut self, most: u32) -> Result<&[u8]> {
+        self.fill(1)?;
+        // (the first byte determines the length, or that it is in four more)
+        for _ in 0..2 {
+            let len = value_len(SliceInput::new(self.there()));
+            if len <= most as usize {
+                self.fill(len)?;
+            }
         }
+        let there = self.there();
+        let len = value_len(SliceInput::new(there)).max(1);
+        Ok(there.get(..len).unwrap_or(there))
     }
-}
 
-/// All bytes of a file.
-pub fn read_file(rt: &HostRuntime, file: &str) -> Result<Content<Vec<u8>>> {
-    content_of(all_of(rt, file))
-}
-
-fn all_of(rt: &HostRuntime, file: &str) -> io::Result<Vec<u8>> {
-    let mut bytes = Vec::new(rt.alloc());
-    Input::open(rt, file)?.read_to_end(&mut bytes)?;
-    Ok(bytes)
-}
-
-/// The bytes of a file, or those that it denotes if it is hexadecimal: as many that the encoding
-/// has at most the limit and one byte, so that it is known whether there are more.
-pub fn read_input(rt: &HostRuntime, file: &str, settings: Settings) -> Result<Content<Tagged>> {
-    let input = match Input::open(rt, file) {
-        Ok(input) => input,
-        Err(error) => return Ok(Err(Unread::after(error)?)),
-    };
-    let left_out = settings.subject.left_out_count() as u64;
-    let most = u64::from(settings.limits.frame)
-        .saturating_add(1)
-        .saturating_sub(left_out);
-    if settings.hex {
-        let text = BufReader::with_capacity(rt.alloc(), BLOCK, input)?;
-        return bytes_of(rt.alloc(), text, most);
+    /// Whether the next value is there, so that it needn't be awaited.
+    pub fn has_next(&self) -> bool {
+        let there = self.there();
+        !there.is_empty() && value_len(SliceInput::new(there)) <= there.len()
     }
-    content_of(Tagged::read(rt.alloc(), input.take(most)))
-}
 
-// The bytes that hexadecimal denotes, at most that many.
-fn bytes_of<R: Read + Drop>(alloc: Global, text: R, most: u64) -> Result<Content<Tagged>> {
-    let mut digits = Hexadecimal::new(text);
-    let read = Tagged::read(alloc, digits.by_ref().take(most));
-    match digits.fault() {
-        Some(fault) => Ok(Err(Unread::NotHexadecimal(fault))),
-        None => content_of(read),
+    /// Is done with that many bytes.
+    pub fn pass(&mut self, count: usize) {
+        self.start = self.start.saturating_add(count);
     }
-}
 
-// What was read, or why it can't be.
-fn content_of<T: Drop>(read: io::Result<T>) -> Result<Content<T>> {
-    match read {
-        Ok(content) => Ok(Ok(content)),
-        Err(error) => Ok(Err(Unread::after(error)?)),
+    // Reads on until there are that many bytes, or the input ends.
+    fn fill(&mut self, count: usize) -> Result<()> {
+        for _ in 0..u64::MAX {
+            if self.there().len() >= count {
+                return Ok(());
+            }
+            match self.end {
+                Some(Ok(())) => return Ok(()),
+                Some(Err(fault)) => return Err(Fault::NotHexadecimal(fault)),
+                None => {}
+            }
+            self.bytes.drain(..self.start.min(self.bytes.len()));
+            self.start = 0;
+            match self.source.read(&mut self.block) {
+                Ok(count) => self.add(count)?,
+                Err(error) if error.kind() == ErrorKind::Interrupted => {}
+                Err(error) => return Err(Fault::of_input(error)),
+            }
+        }
+        Ok(())
+    }
+
+    // Adds that many bytes of the block, or what they spell. With none the input ends.
+    fn add(&mut self, count: usize) -> Result<()> {
+        let read = self.block.get(..count).unwrap_or(&[]);
+        let Some(decoder) = &mut self.decoder else {
+            self.bytes.extend_from_slice(read)?;
+            if read.is_empty() {
+                self.end = Some(Ok(()));
+            }
+            return Ok(());
+        };
+        if read.is_empty() {
+            self.end = Some(decoder.finish());
+        }
+        if decoder.is_at_start()
+            && let Some(dump) = dump_of(read)
+        {
+            self.end = Some(Err(dump));
+            return Ok(());
+        }
+        for character in read {
+            match decoder.take(*character) {
+                Ok(Some(byte)) => self.bytes.extend_from_slice(&[byte])?,
+                Ok(None) => {}
+                Err(fault) => {
+                    self.end = Some(Err(fault));
+                    return Ok(());
+                }
+            }
+        }
+        Ok(())
     }
 }

@@ -1,146 +1,66 @@
 //! A value as JSON.
 
-ghost use Rattle.std.specs.Prelude.{◌≡◌, ◌≤◌, IfOk, IfSome};
-ghost use Rattle.amqp_screen.specs.Escapes.{in_json};
-ghost use Rattle.amqp_screen.specs.Pushes.{shown, PushesText};
-ghost use Rattle.amqp_show.specs.Printed.{IsPrinted};
-ghost use Rattle.amqp_show.specs.Text.{line};
+ghost use Rattle.std.specs.Prelude.{OnOk};
+ghost use Rattle.amqp_show.specs.JsonLines.{AddsJsonLine};
 
 use crate::arguments::Settings;
-use crate::failures::{complain_of_rest, refuse};
-use crate::fault::{Fault, Result};
-use crate::input::Tagged;
+use crate::fault::{Fault, Result, Status};
 use crate::messages::complain;
+use crate::parts::parts_of;
+use crate::problems::problem_text;
+use crate::screen::Screen;
 use amq_protocol_types::stream::Limits;
+use amqp_in_place::{Rules, first_problem};
 use amqp_json::{DecodeError, json_of_encoding};
-use amqp_screen::{Screen, Status};
-use std::alloc::{AllocError, Global};
+use std::alloc::Global;
 
-// Readers of JSON texts take those that nest that deep, `--encode` among them.
-const DEEPEST: u32 = 127;
-
-/// Prints the JSON of the value at the beginning of a file's bytes on a line, and reports what is
-/// amiss: that there is no value, or that bytes follow it.
-pub fn show_input(
-    rt: &HostRuntime,
-    file: &str,
-    input: &Tagged,
+/// Adds the JSON of the value of these bytes, if it isn't rejected.
+pub fn show_json(
+    alloc: Global,
+    screen: &mut Screen,
+    bytes: &[u8],
     settings: Settings,
 ) -> Result<Status> {
-    let (encoding, limits) = (input.encoding(settings.subject), settings.limits);
-    match json_and_rest(rt.alloc(), encoding, limits) {
-        Ok((printed, rest)) => {
-            let status = print(rt, file, printed)?;
-            complain_of_rest(rt, file, encoding, rest, settings)?;
-            Ok(status)
-        }
-        Err(DecodeError::Refused(_)) => refuse(rt, file, input, settings),
+    match push_json(alloc, screen, bytes, settings.limits) {
+        Ok(()) => Ok(Status::Read),
+        Err(DecodeError::Refused(_)) => Ok(Status::Rejected),
         Err(DecodeError::OutOfMemory) => Err(Fault::OutOfMemory),
     }
 }
 
-// What is printed of a value that is read.
-#[derive(Drop)]
-enum Printed {
-    // Its JSON on a line.
-    Line(Screen),
-    // A message about JSON that nests deeper than its readers take.
-    TooDeep(String),
-}
-
-// The JSON of the value at the beginning of an encoding, on a line, and the bytes after the value.
-fn json_and_rest<'a>(
+// Adds the JSON of the value at the start of the bytes, on a line.
+fn push_json(
     alloc: Global,
-    encoding: &'a [u8],
+    screen: &mut Screen,
+    bytes: &[u8],
     limits: Limits,
-) -> Result<(Printed, &'a [u8]), DecodeError>
-    ensures printed { IfOk result (λ x. IsPrinted limits encoding.entry.now x.0 x.1.now) }
+) -> Result<(), DecodeError>
+    ensures { OnOk result (AddsJsonLine limits bytes.now screen.old screen.new) }
 {
-    let (json, rest) = json_of_encoding(alloc, encoding, limits)?;
-    if let Some(why) = why_not_printed(alloc, json.as_str(), limits)? {
-        return Ok((Printed::TooDeep(why), rest));
-    }
-    let screen = json_line(alloc, json.as_str())?;
-    Ok((Printed::Line(screen), rest))
+    let (json, _) = json_of_encoding(alloc, bytes, limits)?;
+    screen.push_line(json.as_str())?;
+    Ok(())
 }
 
-// Prints a line, or the message.
-fn print(rt: &HostRuntime, file: &str, printed: Printed) -> Result<Status> {
-    match printed {
-        Printed::Line(mut screen) => {
-            screen.print(rt)?;
-            Ok(Status::Read)
+/// Reports why the value of these bytes is rejected, which are at this offset of a stream, if one.
+pub fn complain_of(
+    rt: &HostRuntime,
+    file: &str,
+    bytes: &[u8],
+    offset: Option<u64>,
+    settings: Settings,
+) -> Result<()> {
+    let alloc = rt.alloc();
+    let Some(problem) = first_problem(bytes, Rules::Reading, settings.limits) else {
+        return Ok(());
+    };
+    let parts = parts_of(alloc, bytes, settings.limits.depth)?;
+    let why = problem_text(alloc, bytes, parts.as_slice(), problem, settings)?;
+    match offset {
+        Some(offset) => {
+            let why = format!(in alloc; "the value at {offset}: {why}")?;
+            complain(rt, file, why.as_str())
         }
-        Printed::TooDeep(why) => {
-            complain(rt, file, why.as_str())?;
-            Ok(Status::Refused)
-        }
+        None => complain(rt, file, why.as_str()),
     }
-}
-
-/// Why a JSON text isn't printed, if it nests deeper than its readers take and the limits don't go
-/// beyond that.
-pub fn why_not_printed(
-    alloc: Global,
-    json: &str,
-    limits: Limits,
-) -> Result<Option<String>, AllocError>
-    ensures limits { IfOk result (λ why. IfSome why (λ _. limits.depth ≤ 127)) }
-{
-    if limits.depth > DEEPEST {
-        return Ok(None);
-    }
-    too_deep(alloc, json)
-}
-
-/// A JSON text on a line.
-pub fn json_line(alloc: Global, json: &str) -> Result<Screen, AllocError>
-    ensures line { IfOk result (λ screen. shown screen ≡ line (in_json json.now)) }
-{
-    let mut screen = Screen::new(alloc, false);
-    push_json_line(&mut screen, json)?;
-    Ok(screen)
-}
-
-/// Adds a JSON text on a line.
-pub fn push_json_line(screen: &mut Screen, json: &str) -> Result<(), AllocError>
-    ensures line { PushesText result screen.old screen.new (line (in_json json.now)) }
-{
-    screen.push_json(json)?;
-    screen.end_line()
-}
-
-// Reports how deep a JSON text nests, if that is deeper than its readers take.
-fn too_deep(alloc: Global, json: &str) -> Result<Option<String>, AllocError> {
-    // (each level begins and ends)
-    if json.len() / 2 <= DEEPEST as usize {
-        return Ok(None);
-    }
-    let depth = nesting(json);
-    if depth <= DEEPEST {
-        return Ok(None);
-    }
-    let why = format!(in alloc; "the JSON nests {depth} deep, and --encode takes {DEEPEST}")?;
-    Ok(Some(why))
-}
-
-// How deep the arrays and objects of a JSON text nest.
-fn nesting(json: &str) -> u32 {
-    let (mut depth, mut deepest) = (0_u32, 0_u32);
-    let (mut is_text, mut is_escaped) = (false, false);
-    for byte in json.bytes() {
-        match byte {
-            _ if is_escaped => is_escaped = false,
-            b'\\' => is_escaped = true,
-            b'"' => is_text = !is_text,
-            _ if is_text => {}
-            b'[' | b'{' => {
-                depth = depth.saturating_add(1);
-                deepest = deepest.max(depth);
-            }
-            b']' | b'}' => depth = depth.saturating_sub(1),
-            _ => {}
-        }
-    }
-    deepest
 }

@@ -1,45 +1,36 @@
-//! Shows AMQP field-table values to people and programs: as a tree, byte by byte up to the place at
-//! which one fails, as JSON or by measures, one or a stream of them; by what RabbitMQ makes of one;
-//! and encodes the values that JSON denotes.
+//! Shows AMQP field tables: as a tree, byte by byte, as JSON, or by what RabbitMQ makes of one; and
+//! encodes JSON.
 #![tactic(auto)]
 
 ghost use Rattle.std.specs.Prelude.{◌≡◌};
 ghost use Rattle.std.specs.Process.{exit_status};
-ghost use Rattle.amqp_screen.specs.Statuses.{code_of};
-ghost use Rattle.amqp_show.specs.Outcomes.{status_after};
+ghost use Rattle.amqp_show.specs.Statuses.{code_of, status_after};
 
 mod arguments;
-mod bytes;
 mod check;
-mod cut;
 mod encode;
-mod failures;
 mod fault;
 mod hexadecimal;
 mod input;
 mod json;
-mod measure;
 mod messages;
-mod notes;
-mod payload;
+mod parts;
+mod problems;
 mod progress;
-mod recorder;
-mod repeats;
+mod screen;
 mod show;
-mod spelling;
-mod stream;
-mod tag_hints;
+mod terminal;
 mod texts;
 mod tree;
-mod whole;
 
-use amqp_screen::{Screen, Status, exit_status, is_terminal, worse};
-use arguments::{Settings, Task};
+use arguments::Settings;
 use clap::error::ErrorKind;
-use fault::{Fault, Result};
-use messages::fail;
+use fault::{Fault, Result, Status};
+use messages::{complain, say};
+use screen::Screen;
 use std::env;
 use std::process::ExitCode;
+use terminal::is_terminal;
 
 fn main(rt: HostRuntime) -> ExitCode {
     let outcome = run(&rt);
@@ -55,30 +46,51 @@ fn exit_code(outcome: &Result<Status>) -> ExitCode
     ensures { exit_status result ≡ code_of (status_after outcome.now) }
 {
     match outcome {
-        Ok(status) => ExitCode::from(exit_status(*status)),
-        Err(_) => ExitCode::from(exit_status(Status::Mistake)),
+        Ok(status) => ExitCode::from(status.code()),
+        Err(_) => ExitCode::from(Status::Mistake.code()),
     }
+}
+
+// Reports why the program can't go on, unless that is since nobody reads what it prints.
+fn fail(rt: &HostRuntime, fault: &Fault) -> Result<()> {
+    if let Fault::Closed = fault {
+        return Ok(());
+    }
+    let why = format!(in rt.alloc(); "{fault}")?;
+    say(rt, why.as_str())
 }
 
 fn run(rt: &HostRuntime) -> Result<Status> {
     let alloc = rt.alloc();
-    let words: Vec<String> = env::args(rt)?.collect(alloc)?;
+    let words: Vec<String> = env::args(rt).map_err(Fault::of_input)?.collect(alloc)?;
     let matches = match arguments::command(alloc)?.try_get_matches_from(words.as_slice()) {
         Ok(matches) => matches,
         Err(error) => return show_usage(rt, &error),
     };
-    let colours = is_terminal(rt) && allows_colours(rt);
-    let settings = Settings::from_matches(&matches, colours);
+    let settings = Settings::from_matches(&matches, is_terminal(rt) && allows_colours(rt));
     let mut status = Status::Read;
     for file in matches.get_strs("FILE").unwrap_or(&["-"]) {
-        let shown = match settings.task {
-            Task::Show => show::show_file(rt, *file, settings)?,
-            Task::Stream { .. } => stream::show_stream(rt, *file, settings)?,
-            Task::Encode { raw } => encode::encode_file(rt, *file, raw, settings.subject)?,
+        let shown = if matches.get_flag("encode") {
+            encode::encode_file(rt, *file, matches.get_flag("raw"), settings)
+        } else {
+            show::show_file(rt, *file, settings)
         };
-        status = worse(status, shown);
+        status = status.and(match shown {
+            Ok(status) => status,
+            Err(fault) => unless_of_file(rt, *file, fault)?,
+        });
     }
     Ok(status)
+}
+
+// Reports a fault of a file, after which the next one follows.
+fn unless_of_file(rt: &HostRuntime, file: &str, fault: Fault) -> Result<Status> {
+    if !fault.is_of_file() {
+        return Err(fault);
+    }
+    let why = format!(in rt.alloc(); "{fault}")?;
+    complain(rt, file, why.as_str())?;
+    Ok(Status::Mistake)
 }
 
 // Prints what the arguments ask for, or why they can't be understood.
@@ -89,7 +101,9 @@ fn show_usage(rt: &HostRuntime, error: &clap::Error) -> Result<Status> {
     }
     let text = format!(in rt.alloc(); "{error}")?;
     let mut screen = Screen::new(rt.alloc(), false);
-    screen.push_lines(text.as_str())?;
+    for line in text.lines() {
+        screen.push_line(line)?;
+    }
     if error.use_stderr() {
         screen.print_error(rt)?;
         return Ok(Status::Mistake);

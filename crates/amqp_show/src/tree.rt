@@ -1,164 +1,206 @@
-//! A value as a tree.
+//! The parts of a value, as a tree or each on a line.
 
-ghost use Rattle.std.specs.Prelude.{◌≡◌, OnOk};
-ghost use Rattle.amqp_screen.specs.Pushes.{AddsText};
-ghost use Rattle.amqp_show.specs.Tree.{line_break, level_start, before_value, line_after, key_shown, ShowsNode, ShowsKey, ShowsValue, ShowsTree};
-ghost use Rattle.amqp_show.specs.Keys.{key_of};
-
-use crate::cut::is_cut;
-use crate::notes::{Keys, key_of, push_remark};
-use crate::texts::{push_indent, quoted_text, typed_text};
-use amq_protocol_types::AMQPType;
-use amqp_dissect::{Field, Part};
-use amqp_screen::{Colour, Screen};
+use crate::fault::Result;
+use crate::input::BLOCK;
+use crate::parts::{Field, Note, Part, leaf_of};
+use crate::screen::{Colour, Screen};
+use crate::texts::{quoted, value_text};
 use std::alloc::{AllocError, Global};
 
-// What the last line of a tree ends in.
-#[derive(Clone, Copy, Debug)]
-enum Line {
-    // There is no line yet.
-    Nothing,
-    // A key, whose value comes next.
-    Key,
-    // A value.
-    Value,
-}
+// As many levels are indented.
+const INDENTED: u32 = 64;
 
-/// Adds a line for each value: its key in a table, its type, and what it is; indented by its depth;
-/// with what isn't canonical, if that is asked for. What is cut begins at the offsets
-/// of `cut`.
-pub fn push_tree(
-    alloc: Global,
+// How many characters the bytes of a part take, and the two spaces after them.
+const COLUMN: usize = 20;
+
+// As many as a line has side by side, at most.
+const SPACES: &str =
+    "                                                                                                                                                    ";
+
+// How many bytes of a part are shown in hexadecimal, and how many of what isn't read in quotes.
+const SHOWN: usize = 8;
+
+const REST: usize = 64;
+
+/// Shows a line for each value: its key in a table, its type, and what it is, indented by its depth.
+pub fn show_tree(
+    rt: &HostRuntime,
     screen: &mut Screen,
+    encoding: &[u8],
     parts: &[Part<'_>],
-    canonical: bool,
-    cut: &[usize],
-) -> Result<(), AllocError>
-    ensures { OnOk result (ShowsTree canonical cut.now parts.now screen.old screen.new) }
-{
-    let mut keys = Keys::new(alloc, canonical);
-    let mut line = Line::Nothing;
+    is_canonical: bool,
+) -> Result<()> {
+    let (mut value, mut is_after_key) = (encoding, false);
     for (index, part) in parts.iter().enumerate() {
-        push_node(alloc, screen, line, part, &parts[index..])?;
-        line = after(line, part.field);
-        let note = keys.note(part, &parts[index..])?;
-        push_remark(alloc, screen, is_cut(part, cut), note)?;
+        match part.field {
+            Field::KeyLength(_) | Field::Length(_) => continue,
+            Field::TypeTag(_) if is_after_key => screen.push(": ")?,
+            Field::Payload => {}
+            Field::TypeTag(_) | Field::Key | Field::Rest => begin_line(screen, index, part.level)?,
+        }
+        if let Field::TypeTag(_) = part.field {
+            value = encoding.get(part.offset..).unwrap_or(&[]);
+        }
+        is_after_key = part.field == Field::Key;
+        push_node(rt.alloc(), screen, part, value)?;
+        push_note(screen, part.note, is_canonical)?;
+        if screen.len() >= BLOCK {
+            screen.print(rt)?;
+        }
     }
-    end_last(screen, line)?;
+    if !parts.is_empty() {
+        screen.end_line()?;
+    }
     Ok(())
 }
 
-// What the last line ends in after a part of this kind.
-fn after(line: Line, field: Field) -> Line
-    ensures { result ≡ line_after line field }
-{
-    match field {
-        Field::KeyLength => Line::Key,
-        Field::TypeTag(_) => Line::Value,
-        Field::Length(_) | Field::Key | Field::Payload(_) => line,
+// Ends the line before, unless this is the first, and indents the next.
+fn begin_line(screen: &mut Screen, index: usize, level: u32) -> Result<(), AllocError> {
+    if index > 0 {
+        screen.end_line()?;
     }
+    push_spaces(screen, indentation(level))
 }
 
-// Adds what the tree has of a part, the first of the parts: a key at its length, a value at its type
-// tag, and of others nothing.
+fn indentation(level: u32) -> usize {
+    level.min(INDENTED) as usize * 2
+}
+
+fn push_spaces(screen: &mut Screen, count: usize) -> Result<(), AllocError> {
+    screen.push(SPACES.get(..count).unwrap_or(SPACES))
+}
+
+// Adds what the tree has of a part, of the value at the beginning of some bytes.
 fn push_node(
     alloc: Global,
     screen: &mut Screen,
-    line: Line,
     part: &Part<'_>,
-    parts: &[Part<'_>],
-) -> Result<(), AllocError>
-    ensures { OnOk result (ShowsNode line part.now.field part.now.level parts.now
-        screen.old screen.new) }
-{
+    value: &[u8],
+) -> Result<(), AllocError> {
     match part.field {
-        Field::KeyLength => push_key(alloc, screen, line, part.level, parts),
-        Field::TypeTag(amqp_type) => push_value(alloc, screen, line, part.level, amqp_type, parts),
-        Field::Length(_) | Field::Key | Field::Payload(_) => Ok(()),
+        Field::KeyLength(_) | Field::Length(_) => Ok(()),
+        Field::Key => {
+            let key = quoted(alloc, part.bytes)?;
+            screen.push_coloured(key.as_str(), Colour::Key)
+        }
+        Field::TypeTag(amqp_type) => {
+            let name = format!(in alloc; "{amqp_type}")?;
+            screen.push(name.as_str())
+        }
+        Field::Payload => push_payload(alloc, screen, " ", value),
+        Field::Rest => push_rest(alloc, screen, part.bytes),
     }
 }
 
-// Adds a line that begins with the key whose length is the first of the parts.
-fn push_key(
+/// Shows a line for each part: its offset, of which `left_out` bytes aren't in the input; its bytes in
+/// hexadecimal, the first of them if they are many; and what it is, indented by its depth.
+pub fn show_parts(
+    rt: &HostRuntime,
+    screen: &mut Screen,
+    encoding: &[u8],
+    parts: &[Part<'_>],
+    left_out: usize,
+    is_canonical: bool,
+) -> Result<()> {
+    let alloc = rt.alloc();
+    let mut value = encoding;
+    let mut text = String::new(alloc);
+    for part in parts {
+        if let Field::TypeTag(_) = part.field {
+            value = encoding.get(part.offset..).unwrap_or(&[]);
+        }
+        let Some(offset) = part.offset.checked_sub(left_out) else {
+            continue;
+        };
+        let digits = first_digits(alloc, part.bytes)?;
+        text.clear();
+        write!(text, "{offset:>6}  {digits}")?;
+        screen.push(text.as_str())?;
+        let column = COLUMN.saturating_sub(digits.len());
+        push_spaces(screen, column.saturating_add(indentation(part.level)))?;
+        push_field(alloc, screen, &mut text, part, value)?;
+        push_note(screen, part.note, is_canonical)?;
+        screen.end_line()?;
+        if screen.len() >= BLOCK {
+            screen.print(rt)?;
+        }
+    }
+    Ok(())
+}
+
+// The first bytes in hexadecimal.
+fn first_digits(alloc: Global, bytes: &[u8]) -> Result<String, AllocError> {
+    let mut digits = hex::encode(alloc, bytes.get(..SHOWN).unwrap_or(bytes))?;
+    if bytes.len() > SHOWN {
+        digits.push_str("..")?;
+    }
+    Ok(digits)
+}
+
+// Adds what a part is, of the value at the beginning of some bytes. The text is for words.
+fn push_field(
     alloc: Global,
     screen: &mut Screen,
-    line: Line,
-    level: u32,
-    parts: &[Part<'_>],
-) -> Result<(), AllocError>
-    ensures { OnOk result (ShowsKey line level parts.now screen.old screen.new) }
-{
-    begin_line(alloc, screen, line, level)?;
-    push_key_text(alloc, screen, parts)?;
-    Ok(())
-}
-
-// Adds the key whose length is the first of the parts, or a mark if its bytes aren't one.
-fn push_key_text(alloc: Global, screen: &mut Screen, parts: &[Part<'_>]) -> Result<(), AllocError>
-    ensures { OnOk result (AddsText screen.old screen.new
-        (key_shown screen.old.has_colours (key_of parts.now))) }
-{
-    match key_of(parts) {
-        Some(key) => {
-            let text = quoted_text(alloc, key)?;
-            screen.push_coloured(text.as_str(), Colour::Key)?;
-            Ok(())
+    text: &mut String,
+    part: &Part<'_>,
+    value: &[u8],
+) -> Result<(), AllocError> {
+    text.clear();
+    match part.field {
+        Field::TypeTag(amqp_type) => {
+            let tag = value.first().map_or(' ', |tag| char::from(*tag));
+            write!(text, "type tag {tag}, {amqp_type}")?;
         }
-        None => {
-            screen.push_text("?")?;
-            Ok(())
+        Field::Length(len) => write!(text, "length {len}")?,
+        Field::KeyLength(len) => write!(text, "key length {len}")?,
+        Field::Key => {
+            let key = quoted(alloc, part.bytes)?;
+            write!(text, "key {key}")?;
+            return screen.push_coloured(text.as_str(), Colour::Key);
         }
+        Field::Payload => return push_payload(alloc, screen, "", value),
+        Field::Rest => return push_rest(alloc, screen, part.bytes),
     }
+    screen.push(text.as_str())
 }
 
-// Adds the value whose type tag is the first of the parts, after its key or on a line of its own.
-fn push_value(
+// Adds the value at the beginning of some bytes, unless its text is empty.
+fn push_payload(
     alloc: Global,
     screen: &mut Screen,
-    line: Line,
-    level: u32,
-    amqp_type: AMQPType,
-    parts: &[Part<'_>],
-) -> Result<(), AllocError>
-    ensures { OnOk result (ShowsValue line level amqp_type parts.now screen.old screen.new) }
-{
-    begin_value(alloc, screen, line, level)?;
-    let text = typed_text(alloc, amqp_type, parts)?;
-    screen.push_text(text.as_str())?;
-    Ok(())
-}
-
-// Adds what is before a value: a colon after its key, or else what begins a line.
-fn begin_value(alloc: Global, screen: &mut Screen, line: Line, level: u32) -> Result<(), AllocError>
-    ensures { OnOk result (AddsText screen.old screen.new (before_value line level)) }
-{
-    match line {
-        Line::Key => {
-            screen.push_text(": ")?;
-            Ok(())
-        }
-        Line::Nothing | Line::Value => begin_line(alloc, screen, line, level),
+    before: &str,
+    value: &[u8],
+) -> Result<(), AllocError> {
+    let Some((leaf, _)) = leaf_of(value) else {
+        return Ok(());
+    };
+    let text = value_text(alloc, leaf)?;
+    if text.is_empty() {
+        return Ok(());
     }
+    screen.push(before)?;
+    screen.push(text.as_str())
 }
 
-// Ends the line before, if there is one, and indents the next.
-fn begin_line(alloc: Global, screen: &mut Screen, line: Line, level: u32) -> Result<(), AllocError>
-    ensures { OnOk result (AddsText screen.old screen.new (level_start line level)) }
-{
-    end_last(screen, line)?;
-    push_indent(alloc, screen, level)?;
-    Ok(())
+// Adds what isn't read: the first bytes if they are many.
+fn push_rest(alloc: Global, screen: &mut Screen, bytes: &[u8]) -> Result<(), AllocError> {
+    let first = quoted(alloc, bytes.get(..REST).unwrap_or(bytes))?;
+    let dots = if bytes.len() > REST { ".." } else { "" };
+    let text = format!(in alloc; "{first}{dots} (not read)")?;
+    screen.push_coloured(text.as_str(), Colour::Failure)
 }
 
-// Ends the last line, if there is one.
-fn end_last(screen: &mut Screen, line: Line) -> Result<(), AllocError>
-    ensures { OnOk result (AddsText screen.old screen.new (line_break line)) }
-{
-    match line {
-        Line::Nothing => Ok(()),
-        Line::Key | Line::Value => {
-            screen.end_line()?;
-            Ok(())
+// Adds what readers may differ on, if anything: what isn't canonical if that is asked for, and a
+// repeated key always.
+fn push_note(
+    screen: &mut Screen,
+    note: Option<Note>,
+    is_canonical: bool,
+) -> Result<(), AllocError> {
+    match note {
+        Some(note) if is_canonical || note == Note::Repeated => {
+            screen.push_coloured(note.text(), Colour::Note)
         }
+        _ => Ok(()),
     }
 }

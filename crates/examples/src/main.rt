@@ -6,6 +6,7 @@ mod arguments;
 mod headers;
 mod in_place;
 mod json;
+mod repeated_keys;
 mod stream;
 
 use anyhow::Result;
@@ -15,6 +16,7 @@ fn main(rt: HostRuntime) -> Result<()> {
     arguments::run(&rt, alloc)?;
     headers::run(&rt, alloc)?;
     in_place::run(&rt)?;
+    repeated_keys::run(&rt, alloc)?;
     stream::run(&rt, alloc)?;
     json::run(&rt, alloc)
 }

@@ -323,6 +323,8 @@ fn warnings_text(alloc: Global, warned: Result<Warned, AllocError>) -> Answer {
         ("key_not_utf8", warned.key_not_utf8),
         ("empty_key", warned.empty_key),
         ("too_deep", warned.too_deep),
+        ("decimal", warned.decimal),
+        ("nested_header", warned.nested_header),
     ] {
         if let Some(offset) = offset {
             write!(text, "{name} {offset} ")?;

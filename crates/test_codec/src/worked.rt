@@ -3,7 +3,6 @@
 //! Nothing here does anything when it runs: the contracts are the examples, and they hold by
 //! computation.
 
-pub mod dissections;
 pub mod encodings;
 pub mod flags;
 pub mod numbers;

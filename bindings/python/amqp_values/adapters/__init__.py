@@ -3,6 +3,6 @@
 Each has `install()`, to be called before a connection is opened, and `uninstall()`. What isn't read comes as `Refused`.
 """
 
-from amqp_values.adapters.shared import Headers, Refused, UntestedVersion
+from amqp_values.adapters.shared import Headers, IncompatibleClient, Refused, UntestedVersion
 
-__all__ = ["Headers", "Refused", "UntestedVersion"]
+__all__ = ["Headers", "IncompatibleClient", "Refused", "UntestedVersion"]

@@ -1,9 +1,11 @@
 """The codec of pamqp, and so of aiormq and aio-pika, in place of its own: `install()` and `uninstall()`.
 
-aiormq waits for ever if what it is to send has no encoding. With this adapter it raises, before it sends, what pamqp does.
+If a message has no encoding, aiormq waits for ever, or from 6.8 on counts confirms wrongly afterwards. With this adapter it raises
+what pamqp does, before it sends anything.
 """
 
 from calendar import timegm
+from collections.abc import Callable
 from datetime import datetime
 from importlib import import_module
 from importlib.util import find_spec
@@ -12,8 +14,11 @@ from typing import Any
 
 import pamqp.decode
 import pamqp.encode
+from pamqp import commands, frame
+from pamqp.header import ContentHeader
 
 from amqp_values import Error, LongString, Timestamp
+from amqp_values.adapters.self_check import Frame, header_frame, start_frame, table_in
 from amqp_values.adapters.shared import Client, Codec, Headers, Places
 
 
@@ -22,7 +27,12 @@ class Undecoded(bytearray):
 
 
 class Pamqp(Client):
-    versions = {"pamqp": ("3.2.1",), "aiormq": ("6.4.2",), "aio_pika": ("8.2.5",)}
+    tested = {
+        "pamqp": ("3.2.1", "3.3.0", "4.0.0"),
+        "aiormq": ("6.4.2", "6.8.1"),
+        "aio-pika": ("8.2.5", "9.5.5", "9.5.6"),
+    }
+    otherwise = ("U",)
     keys = "surrogateescape"
     how = {"integers": "smallest", "ascending": True, "bytes_are_text": True, "bytearrays": True}
 
@@ -59,11 +69,35 @@ class Pamqp(Client):
             if find_spec(name):
                 change(self.places)
 
+    def frames(self) -> dict[str, Frame]:
+        def read(data: bytes) -> Any:
+            return frame.unmarshal(data)[2]
+
+        def write_method(arguments: Any) -> bytes:
+            return table_in(frame.marshal(commands.Queue.Declare(arguments=arguments), 1), 8)
+
+        return {
+            "header": Frame(lambda it: read(header_frame(it)).properties.headers, write_header),
+            "method": Frame(lambda it: read(start_frame(it)).server_properties, write_method),
+        }
+
+    def relays(self) -> dict[str, Callable[[Any], bytes]]:
+        if not find_spec("aio_pika"):
+            return {}
+        message = import_module("aio_pika").Message
+        return {"message of aio-pika": lambda it: write_header(message(b"", headers=it).properties.headers)}
+
+
+def write_header(headers: Any) -> bytes:
+    """The table in the frame of a content header that pamqp writes."""
+    return table_in(frame.marshal(ContentHeader(properties=commands.Basic.Properties(headers=headers)), 1), 14)
+
 
 def take_any_properties(places: Places) -> None:
     """Has pamqp take what the broker delivers next to headers: strings that aren't UTF-8, and times after the year 9999."""
     read_string, write_string = pamqp.decode.short_str, pamqp.encode.short_string
     read_time: Any = pamqp.decode.METHODS["timestamp"]
+    last_second = datetime.max.replace(microsecond=0, tzinfo=read_time(bytes(8))[1].tzinfo)
 
     def short_str(value: bytes) -> tuple[int, str]:
         try:
@@ -83,7 +117,7 @@ def take_any_properties(places: Places) -> None:
         try:
             return read_time(value)
         except (ValueError, OverflowError, OSError):
-            return 8, datetime.max.replace(microsecond=0)
+            return 8, last_second
 
     places.put_everywhere(pamqp.decode, "short_str", short_str)
     places.put(pamqp.decode.METHODS, "shortstr", short_str)

@@ -9,9 +9,11 @@ from typing import Any
 import amqp.abstract_channel
 import amqp.sasl
 from amqp import serialization
+from amqp.basic_message import Message
 from amqp.exceptions import FrameSyntaxError
 
 from amqp_values import Error
+from amqp_values.adapters.self_check import Frame, header_payload
 from amqp_values.adapters.shared import Client, Codec
 
 
@@ -35,7 +37,8 @@ def parts_of(format: str | bytes) -> list[str]:
 
 
 class PyAmqp(Client):
-    versions = {"amqp": ("5.1.1",)}
+    tested = {"amqp": ("5.1.1", "5.3.1")}
+    otherwise = ("s",)
     keys = "surrogateescape"
     how = {"integers": "py-amqp", "bytes_are_text": True, "short_decimals": True}
 
@@ -82,6 +85,27 @@ class PyAmqp(Client):
         self.places.put_everywhere(serialization, "dumps", dumps)
         self.places.put(vars(serialization), "pstr_t", text_of)
         self.places.put_everywhere(serialization, "_write_table", write_table)
+
+    def frames(self) -> dict[str, Frame]:
+        channel: Any = amqp.abstract_channel
+
+        def read_header(table: bytes) -> Any:
+            message = Message()
+            message.inbound_header(header_payload(table))
+            return message.headers
+
+        def write_header(headers: Any) -> bytes:
+            properties: bytes = Message("", application_headers=headers)._serialize_properties()
+            return properties[2:]
+
+        def write_method(arguments: Any) -> bytes:
+            method: bytes = channel.dumps("BsbbbbbF", (0, "", False, False, False, False, False, arguments))
+            return method[4:]
+
+        return {
+            "header": Frame(read_header, write_header),
+            "method": Frame(lambda it: channel.loads("ooFSS", b"\0\x09" + it + bytes(8), 0)[0][2], write_method),
+        }
 
 
 client = PyAmqp()

@@ -1,23 +1,28 @@
 """What the adapters share: the headers that applications get, how tables are read and written, and what is put in place."""
 
 import sys
+import warnings
 from collections.abc import Callable, Mapping
 from contextlib import suppress
 from functools import partial
-from importlib import import_module, metadata
-from importlib.util import find_spec
+from importlib import metadata
 from types import ModuleType
 from typing import Any, Literal, NoReturn
 
 from amqp_values import DEPTH, Error, _native
+from amqp_values.adapters.self_check import Frame, differences, of, probed
 
 # The largest length of a table: what the client has read is there already.
 FRAME = 2**32 - 1
-EqualKeys = Literal["first", "last"]
+EqualKeys = Literal["first", "last", "refuse"]
 
 
-class UntestedVersion(RuntimeError):
+class UntestedVersion(UserWarning):
     """The client has a version that the adapter wasn't tested with."""
+
+
+class IncompatibleClient(RuntimeError):
+    """The self-check of `install` failed: the client isn't as the adapter needs it. Nothing was changed."""
 
 
 class Headers(dict[Any, Any]):
@@ -82,11 +87,18 @@ class Codec:
     """Reads and writes the tables of a client, by the two methods of a native one."""
 
     def __init__(
-        self, client: "Client", depth: int, frame: int, equal_keys: EqualKeys, exact: bool, raises: bool
+        self,
+        client: "Client",
+        depth: int = DEPTH,
+        frame: int = FRAME,
+        equal_keys: EqualKeys = "last",
+        exact: bool = True,
+        raises: bool = False,
+        **manner: Any,
     ) -> None:
         self.client, self.raises = client, raises
         how: dict[str, Any] = {"signed_decimals": True, "depth": depth, "keys": client.keys, "text": "bytes"}
-        how |= {**client.how, "frame": frame, "equal_keys": equal_keys}
+        how |= {**client.how, **manner, "frame": frame, "equal_keys": equal_keys}
         how |= {"finite": True, "naive_datetimes": True, "others": client.sent}
         native = _native.Codec(self, Headers, Headers if exact else None, **how)
         self.read: Callable[[Any, int], tuple[dict[Any, Any], int]] = native.read
@@ -124,11 +136,13 @@ class Codec:
 class Client:
     """A client: how its tables differ from the package's, and where the codec is put."""
 
-    # The modules and the versions that the adapter was tested with; but for the first they needn't be there.
-    versions: dict[str, tuple[str, ...]]
+    # The distributions that the adapter changes, each with the versions that it was tested with. The first is always there.
+    tested: dict[str, tuple[str, ...]] = {}
     keys: Literal["bytes", "surrogateescape"] = "bytes"
     # Options of a native codec, which has them for adapters only.
     how: dict[str, Any] = {}
+    # The probes of the self-check that the client by itself reads otherwise, as the rows of docs/PYTHON.md say.
+    otherwise: tuple[str, ...] = ()
 
     def __init__(self) -> None:
         self.places = Places()
@@ -149,6 +163,20 @@ class Client:
         """Puts a codec into its places."""
         raise NotImplementedError
 
+    def frames(self) -> dict[str, Frame]:
+        """The client's own frames that have tables."""
+        raise NotImplementedError
+
+    def relays(self) -> dict[str, Callable[[Any], bytes]]:
+        """Other ways in which headers that came are sent: the bytes of their table there."""
+        return {}
+
+    def manner(self) -> dict[str, Any]:
+        """Options of a native codec for what the versions of a client do differently, as its own codec does it now."""
+        read = self.frames()["header"].read
+        early, late = (read(of((b"k", b"T" + it.to_bytes(8, "big"))))["k"] for it in (0, 2**32))
+        return {"aware_datetimes": early.tzinfo is not None, "milliseconds": late.year < 2000}
+
     def install(
         self,
         *,
@@ -158,26 +186,60 @@ class Client:
         exact: bool = True,
         raises: bool = False,
     ) -> None:
-        """Puts this codec in place of the client's, with these options.
+        """Puts this codec in place of the client's, with these options, after a self-check.
 
         If it raises an exception, nothing has changed: the client has its own codec, or that of an earlier `install`.
         """
-        for name in filter(find_spec, self.versions):
-            tested(import_module(name), *self.versions[name])
-        codec = Codec(self, depth, frame, equal_keys, exact, raises)
+        options: dict[str, Any] = {"depth": depth, "frame": frame, "equal_keys": equal_keys, "exact": exact}
+        options |= {"raises": raises}
+        Codec(self, **options)
+        self.warn()
         earlier = [*self.places.changes]
         try:
             self.uninstall()
-            self.put(codec)
-        except BaseException:
+            self.put(Codec(self, **options, **self.checked_manner()))
+        except BaseException as why:
             self.uninstall()
             for it in earlier:
                 self.places.change(*it)
+            if isinstance(why, Exception) and not isinstance(why, IncompatibleClient):
+                raise IncompatibleClient(f"{', '.join(self.versions())}: {why!r}") from why
             raise
+
+    def checked_manner(self) -> dict[str, Any]:
+        """The `manner` of a client that passes the self-check; it has its own codec, before and after that."""
+        with warnings.catch_warnings():
+            # (a client may warn of what it does by itself)
+            warnings.simplefilter("ignore")
+            manner, before = self.manner(), probed(self)
+            self.put(Codec(self, **manner))
+            wrong = [*differences(self, before)]
+        self.uninstall()
+        if wrong:
+            more = f"; and {len(wrong) - 5} differences more" if len(wrong) > 5 else ""
+            raise IncompatibleClient(f"{', '.join(self.versions())}: {'; '.join(wrong[:5])}{more}")
+        return manner
 
     def uninstall(self) -> None:
         """Puts the client's own codec, and what is around it, back."""
         self.places.restore()
+
+    def versions(self) -> list[str]:
+        """The distributions that are there, each with its version."""
+        found = []
+        for at, name in enumerate(self.tested):
+            try:
+                found.append(f"{name} {metadata.version(name)}")
+            except metadata.PackageNotFoundError:
+                found += [f"{name} of an unknown version"] * (at == 0)
+        return found
+
+    def warn(self) -> None:
+        """Warns of versions that the adapter wasn't tested with, once for all of them."""
+        known = {f"{name} {it}" for name, versions in self.tested.items() for it in versions}
+        if others := [it for it in self.versions() if it not in known]:
+            message = f"the adapter wasn't tested with {', '.join(others)}, but with {', '.join(sorted(known))}"
+            warnings.warn(f"{message}; it checks itself now", UntestedVersion, stacklevel=3)
 
 
 class Places:
@@ -228,14 +290,3 @@ def rebind(before: Any, after: Any) -> None:
             names = names_of(module)
             for name in [it for it, value in [*names.items()] if value is before]:
                 assign(names, name, before, after)
-
-
-def tested(module: ModuleType, *versions: str) -> None:
-    """Fails unless the version of a client is one that the adapter was tested with."""
-    found = getattr(module, "__version__", None)
-    with suppress(metadata.PackageNotFoundError):
-        # (aiormq has had no `__version__` since 6.8)
-        found = found or metadata.version(module.__name__)
-    if found not in versions:
-        name = f"{module.__name__} {found or 'of no version'}"
-        raise UntestedVersion(f"{name}: the adapter was tested with {', '.join(versions)} only")

@@ -34,8 +34,9 @@
 //!   nesting that the limits of the call allow, on x86-64 and on aarch64
 //!         56    64 bytes in amqpv_read, amqpv_read_table, amqpv_measure_value, amqpv_measure_table, amqpv_put_value
 //!         56    64       in amqpv_read_pairs
+//!         80   112       in amqpv_is_canonical and amqpv_is_canonical_table
 //!        160   176       in amqpv_first_problem and amqpv_first_problem_in_table
-//!        160   176       in amqpv_read_by, amqpv_read_table_by, amqpv_is_canonical and amqpv_is_canonical_table
+//!        160   176       in amqpv_read_by and amqpv_read_table_by
 //!        160   176       in amqpv_put_value of any keys
 //!        208   224       in amqpv_write_json
 //!        736   800       in amqpv_from_json and amqpv_from_json_or_problem
@@ -230,7 +231,10 @@ pub struct amqpv_pair {
     pub scale: u8,
 }
 
-/// Which of equal keys counts: the last, as for amqpv_find, or the first, as for amqpv_find_first.
+/// Which of equal keys counts: the last, as for amqpv_find, or the first, as for amqpv_find_first. Of arguments the
+/// first is what RabbitMQ 3.10.8, 4.0.5 and 4.3.6 use. Of a message's headers 3.10.8 delivers all and routes by the
+/// first; 4.0.5 and 4.3.6 deliver the first and route by the last. amqpv_first_warnings finds equal keys, to reject
+/// them.
 pub const AMQPV_LAST_KEY: u32 = 0;
 /// See [`AMQPV_LAST_KEY`].
 pub const AMQPV_FIRST_KEY: u32 = 1;
@@ -251,8 +255,8 @@ pub struct amqpv_measure {
 pub const AMQPV_RULES_READ: u32 = 0;
 /// What amqpv_read reads, and any bytes as keys.
 pub const AMQPV_RULES_ANY_KEYS: u32 = 1;
-/// What RabbitMQ 3.10.8 takes; for anything else it closes the connection: any bytes as keys, but no tag `U`, and no
-/// Float or Double that isn't finite.
+/// What RabbitMQ 3.10.8, 4.0.5 and 4.3.6 take; for anything else they close the connection: any bytes as keys, but no
+/// tag `U`, and no Float or Double that isn't finite.
 pub const AMQPV_RULES_RABBITMQ: u32 = 2;
 
 /// The byte is no type tag, or none that RabbitMQ knows.

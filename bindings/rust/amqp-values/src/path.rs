@@ -34,7 +34,8 @@ impl<'a> TableRef<'a> {
         find(self.body(), key).map(|entry| ValueRef::of(self.body(), &entry))
     }
 
-    /// Returns the value at a key, of equal keys the first one's.
+    /// Returns the value at a key, of equal keys the first one's: what RabbitMQ 3.10.8, 4.0.5 and 4.3.6 use of arguments.
+    /// Of a message's headers 3.10.8 routes by it; 4.0.5 and 4.3.6 deliver it, and route by the last.
     #[must_use]
     pub fn get_first(self, key: &str) -> Option<ValueRef<'a>> {
         find_first(self.body(), key).map(|entry| ValueRef::of(self.body(), &entry))

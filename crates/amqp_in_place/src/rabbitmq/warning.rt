@@ -1,10 +1,10 @@
-//! What RabbitMQ takes, and others may not.
+//! What a peer of RabbitMQ, or a stream queue, may reject in a value that RabbitMQ accepts.
 
-ghost use Rattle.std.specs.Prelude.{◌≡◌, ◌<◌, ◌+◌, ◌-◌, ◌^◌, ◌&&◌, ◌∷◌, nat_lt, suc, IfOk, IfSome, OnErr, length};
+ghost use Rattle.std.specs.Prelude.{◌≡◌, ◌<◌, ◌+◌, ◌-◌, ◌^◌, ◌&&◌, ◌∷◌, nat_lt, suc, min, IfOk, IfSome, OnErr, length};
 ghost use Rattle.amqp_value_core.specs.Ids.{id_of};
 ghost use Rattle.amq_protocol_types.specs.parsing.Headers.{extent};
 ghost use Rattle.amqp_in_place.specs.RabbitmqSeen.{IsKeyFaultReport, key_of, after_key};
-ghost use Rattle.amqp_in_place.specs.RabbitmqWarnings.{is_too_deep, fault_inside, value_fault, values_fault, pairs_fault, table_fault, warnings_of, warnings_in_table_of, AreInside};
+ghost use Rattle.amqp_in_place.specs.RabbitmqWarnings.{is_value_faulty, fault_inside, value_fault, values_fault, pairs_fault, first_repeated_key, first_key_not_utf8, first_empty_key, first_too_deep, first_decimal, in_untagged, passes_frame, AreInside};
 
 use crate::read::check_utf8;
 use amq_protocol_types::parsing::Limits;
@@ -15,41 +15,53 @@ use std::alloc::{AllocError, Global};
 use std::collections::BTreeSet;
 
 /// A depth of containers that every client read that was tried. Go's amqp091 1.16 breaks at 34;
-/// docs/DIFFERENCES.md has the others.
+/// docs/INTEROP.md has the others.
 pub const CLIENT_LEVELS: u32 = 32;
 
-/// What is doubtful in a value that RabbitMQ takes. Offsets are the number of bytes before a pair,
-/// or before a container.
+/// What may go wrong with a value that RabbitMQ accepts. Offsets are the number of bytes before a
+/// pair, or before the type tag of a value. docs/INTEROP.md says how each was tried.
 #[derive(Clone, Copy, Debug, PartialEq, Eq)]
 pub struct Warned {
     /// The first pair whose key an earlier pair of the same table has. This library uses the last
-    /// of equal keys. RabbitMQ 3.10.8 used the first; 4.0.5 and 4.3.6 deliver the first of a
-    /// message's headers and route by the last. Reject such a table.
+    /// of equal keys. RabbitMQ 3.10.8 delivers both of a message's headers and routes by the first;
+    /// 4.0.5 and 4.3.6 deliver the first and route by the last. Reject such a table.
     pub repeated_key: Option<usize>,
-    /// The first pair whose key isn't UTF-8.
+    /// The first pair whose key isn't UTF-8. RabbitMQ 3.10.8, 4.0.5 and 4.3.6 relay it; most
+    /// clients can't read such a key.
     pub key_not_utf8: Option<usize>,
-    /// The first pair whose key is empty. RabbitMQ relays it, and some clients break on it.
+    /// The first pair whose key is empty. RabbitMQ 3.10.8, 4.0.5 and 4.3.6 relay it; php-amqp and
+    /// librabbitmq's `amqp_consume_message` fail.
     pub empty_key: Option<usize>,
-    /// The first container that nests deeper than a number of levels. RabbitMQ relays it, and most
-    /// clients break at some depth.
+    /// The first container that nests deeper than a number of levels. RabbitMQ 3.10.8, 4.0.5 and
+    /// 4.3.6 relay it; most clients fail at some depth.
     pub too_deep: Option<usize>,
+    /// The first decimal. If a message with a decimal as a header gets to a stream queue, RabbitMQ
+    /// 3.10.8, 4.0.5 and 4.3.6 close the connection; 4.0.5 and 4.3.6 also do so for one inside a
+    /// header that the queue keeps.
+    pub decimal: Option<usize>,
+    /// The first array or table inside the outermost one. A stream queue of RabbitMQ 3.10.8 drops
+    /// such a header without an error; 4.0.5 and 4.3.6 keep it only if its key is `CC` or begins
+    /// with `x-`, and drop `x-death`.
+    pub nested_header: Option<usize>,
     /// Whether the value's bytes without its type tag, and the 8 bytes of a frame (its type,
     /// channel, size and end), are more than the frame-max.
     pub exceeds_frame: bool,
 }
 
-// What is looked for: what may be wrong with a key, or a container that nests too deep.
+// What is looked for: what may be wrong with a key, or with a value.
 #[derive(Clone, Copy)]
 enum Fault {
     Repeated,
     NotUtf8,
     Empty,
     TooDeep,
+    Decimal,
 }
 
-/// What is doubtful in the value at the start of the bytes, if `first_problem` finds no problem in
-/// it. Of the limits only `depth` counts: it looks no deeper. A `frame_max` of 0 means that there is
-/// none. A container is too deep that nests deeper than `levels`, as `CLIENT_LEVELS`, or than `depth`.
+/// What may go wrong with the value at the start of the bytes, if `first_problem` finds no problem
+/// in it. Of the limits only `depth` counts: it looks no deeper. A `frame_max` of 0 means that there
+/// is none. A container is too deep that nests deeper than `levels`, as `CLIENT_LEVELS`, or than
+/// `depth`.
 ///
 /// Only what finds repeated keys allocates. Keys of a table, and of those around it, are retained in
 /// sets until one is repeated, in at most some 40 bytes each: n log n comparisons for n pairs, whoever
@@ -61,7 +73,20 @@ pub fn warnings(
     frame_max: u32,
     levels: u32,
 ) -> Result<Warned, AllocError>
-    ensures warned { IfOk result (λ warned. warned ≡ warnings_of limits frame_max levels bytes.now) }
+    ensures repeated_key { IfOk result (λ it.
+        it.repeated_key ≡ first_repeated_key limits.depth bytes.now) }
+    ensures key_not_utf8 { IfOk result (λ it.
+        it.key_not_utf8 ≡ first_key_not_utf8 limits.depth bytes.now) }
+    ensures empty_key { IfOk result (λ it.
+        it.empty_key ≡ first_empty_key limits.depth bytes.now) }
+    ensures too_deep { IfOk result (λ it.
+        it.too_deep ≡ first_too_deep (min levels limits.depth) bytes.now) }
+    ensures decimal { IfOk result (λ it.
+        it.decimal ≡ first_decimal limits.depth bytes.now) }
+    ensures nested_header { IfOk result (λ it.
+        it.nested_header ≡ first_too_deep (min 1 limits.depth) bytes.now) }
+    ensures exceeds_frame { IfOk result (λ it.
+        it.exceeds_frame ≡ passes_frame frame_max bytes.now) }
     ensures inside { IfOk result (AreInside (length bytes.now)) }
     ensures err { OnErr result (5 < length bytes.now) }
 {
@@ -70,13 +95,15 @@ pub fn warnings(
         key_not_utf8: in_value(alloc, Fault::NotUtf8, bytes, limits.depth)?,
         empty_key: in_value(alloc, Fault::Empty, bytes, limits.depth)?,
         too_deep: in_value(alloc, Fault::TooDeep, bytes, levels.min(limits.depth))?,
+        decimal: in_value(alloc, Fault::Decimal, bytes, limits.depth)?,
+        nested_header: in_value(alloc, Fault::TooDeep, bytes, limits.depth.min(1))?,
         exceeds_frame: exceeds(value_len(SliceInput::new(bytes)), frame_max),
     })
 }
 
-/// What is doubtful in a table without its type tag, which begins with its length, as in methods
-/// and content headers: what `warnings` returns for the table with its type tag, but for the
-/// offsets, which count from the length on, and are 0 for the table itself.
+/// What may go wrong with a table without its type tag, which begins with its length, as in methods
+/// and content headers. Finds what `warnings` finds in the table with its type tag; the offsets count
+/// from the length on, and are 0 for the table itself.
 pub fn warnings_in_table(
     alloc: Global,
     table: &[u8],
@@ -84,8 +111,20 @@ pub fn warnings_in_table(
     frame_max: u32,
     levels: u32,
 ) -> Result<Warned, AllocError>
-    ensures warned { IfOk result (λ warned.
-        warned ≡ warnings_in_table_of limits frame_max levels table.now) }
+    ensures repeated_key { IfOk result (λ it.
+        it.repeated_key ≡ in_untagged (first_repeated_key limits.depth) table.now) }
+    ensures key_not_utf8 { IfOk result (λ it.
+        it.key_not_utf8 ≡ in_untagged (first_key_not_utf8 limits.depth) table.now) }
+    ensures empty_key { IfOk result (λ it.
+        it.empty_key ≡ in_untagged (first_empty_key limits.depth) table.now) }
+    ensures too_deep { IfOk result (λ it.
+        it.too_deep ≡ in_untagged (first_too_deep (min levels limits.depth)) table.now) }
+    ensures decimal { IfOk result (λ it.
+        it.decimal ≡ in_untagged (first_decimal limits.depth) table.now) }
+    ensures nested_header { IfOk result (λ it.
+        it.nested_header ≡ in_untagged (first_too_deep (min 1 limits.depth)) table.now) }
+    ensures exceeds_frame { IfOk result (λ it.
+        it.exceeds_frame ≡ passes_frame frame_max (id_of AMQPType.FieldTable ∷ table.now)) }
     ensures inside { IfOk result (AreInside (suc (length table.now))) }
     ensures err { OnErr result (4 < length table.now) }
 {
@@ -95,6 +134,8 @@ pub fn warnings_in_table(
         key_not_utf8: in_table(alloc, Fault::NotUtf8, table, len, limits.depth)?,
         empty_key: in_table(alloc, Fault::Empty, table, len, limits.depth)?,
         too_deep: in_table(alloc, Fault::TooDeep, table, len, levels.min(limits.depth))?,
+        decimal: in_table(alloc, Fault::Decimal, table, len, limits.depth)?,
+        nested_header: in_table(alloc, Fault::TooDeep, table, len, limits.depth.min(1))?,
         exceeds_frame: exceeds(len, frame_max),
     })
 }
@@ -117,7 +158,7 @@ fn in_table(
 ) -> Result<Option<usize>, AllocError>
     requires { len ≡ extent (id_of AMQPType.FieldTable ∷ table.now) }
     ensures err { OnErr result (4 < length table.now) }
-    ensures first { IfOk result (λ x. x ≡ table_fault fault depth table.now) }
+    ensures first { IfOk result (λ x. x ≡ in_untagged (value_fault fault depth) table.now) }
     ensures inside { IfOk result (λ x. IfSome x (λ n. n < suc (length table.now))) }
 {
     let payload = &table[..table.len().min(len.saturating_sub(1))];
@@ -153,6 +194,7 @@ fn in_value(
 
 // The first in a payload, with offsets from its type tag on.
 #[cycle(faults)]
+#[tactic(auto, using(crate::proofs::KeyFaults::in_no_container))]
 fn inside(
     alloc: Global,
     fault: Fault,
@@ -165,19 +207,20 @@ fn inside(
     ensures err { OnErr result (4 < length payload.now) }
 {
     if depth == 0 {
-        return Ok(if is_too_deep(fault, amqp_type) {
-            Some(0)
-        } else {
-            None
-        });
+        return Ok(is_value_faulty(fault, depth, amqp_type).then_some(0));
     }
     let (_, body) = payload.split_at(payload.len().min(4));
-    let place = match amqp_type {
-        Some(AMQPType::FieldArray) => in_values(alloc, fault, body, depth - 1)?,
-        Some(AMQPType::FieldTable) => in_pairs(alloc, fault, body, depth - 1)?,
-        _ => None,
-    };
-    Ok(place.map(|offset| 5 + offset))
+    match amqp_type {
+        Some(AMQPType::FieldArray) => {
+            let place = in_values(alloc, fault, body, depth - 1)?;
+            Ok(place.map(|offset| 5 + offset))
+        }
+        Some(AMQPType::FieldTable) => {
+            let place = in_pairs(alloc, fault, body, depth - 1)?;
+            Ok(place.map(|offset| 5 + offset))
+        }
+        _ => Ok(is_value_faulty(fault, depth, amqp_type).then_some(0)),
+    }
 }
 
 // The first in values one after another.
@@ -219,7 +262,7 @@ fn in_pairs(
     let mut at = 0;
     'pairs: while at < body.len() {
         let (key, value) = split_key(&body[at..]);
-        if is_faulty(fault, &mut seen, key)? {
+        if is_key_faulty(fault, &mut seen, key)? {
             return Ok(Some(at));
         }
         let after = at + 1 + key.len();
@@ -245,7 +288,7 @@ fn split_key(bytes: &[u8]) -> (&[u8], &[u8])
 }
 
 // Whether a key has the fault, after pairs with the keys in `seen`, and puts it there.
-fn is_faulty<'a>(
+fn is_key_faulty<'a>(
     fault: Fault,
     seen: &mut BTreeSet<&'a [u8]>,
     key: &'a [u8],
@@ -257,15 +300,17 @@ fn is_faulty<'a>(
         Fault::NotUtf8 => Ok(check_utf8(key).is_err()),
         Fault::Empty => Ok(key.is_empty()),
         Fault::TooDeep => Ok(false),
+        Fault::Decimal => Ok(false),
     }
 }
 
-// Whether a value of the type is too deep, where no level is left.
-fn is_too_deep(fault: Fault, amqp_type: Option<AMQPType>) -> bool
-    ensures { result ≡ is_too_deep fault amqp_type }
+// Whether a value of the type has the fault, where containers may still nest `depth` deep.
+fn is_value_faulty(fault: Fault, depth: u32, amqp_type: Option<AMQPType>) -> bool
+    ensures { result ≡ is_value_faulty fault depth amqp_type }
 {
     match (fault, amqp_type) {
-        (Fault::TooDeep, Some(AMQPType::FieldArray | AMQPType::FieldTable)) => true,
+        (Fault::TooDeep, Some(AMQPType::FieldArray | AMQPType::FieldTable)) => depth == 0,
+        (Fault::Decimal, Some(AMQPType::DecimalValue)) => true,
         _ => false,
     }
 }

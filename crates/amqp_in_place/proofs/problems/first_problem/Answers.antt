@@ -1,4 +1,4 @@
-use Rattle.std.proofs.Common.{arith}
+use Rattle.std.proofs.Common.{None, sym, arith}
 use Rattle.std.proofs.lemmas.Grind.{common_steps}
 use Rattle.amqp_in_place.proofs.Canonicals.{bytes_all}
 use Rattle.amqp_in_place.proofs.ProblemReadings.{reads_if_none, fails_if_some}
@@ -16,3 +16,8 @@ pub returns-clause-fails : goal.returns-clause-fails
 returns-clause-fails c = λ is.
     let s = c.args.bytes.now in
     fails_if_some c.args.rules c.args.limits s (bytes_all s c.type_inv.bytes) is _ (returns-clause-first c)
+
+pub returns-then-is_read-clause-read : goal.returns-then-is_read-clause-read
+returns-then-is_read-clause-read c = λ is.
+    let s = c.args.bytes.now in
+    reads_if_none c.args.rules c.args.limits s (bytes_all s c.type_inv.bytes) is None (sym (c.is_read.ensures c.if-is_read.true))

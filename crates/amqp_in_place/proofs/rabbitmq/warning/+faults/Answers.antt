@@ -17,5 +17,5 @@ in_pairs-pairs-preserved t c =
     let s = c.args.body.now in
     let n = c.pairs.at in
     let len = c.value_len.ensures.extent ∙ ap extent c.new.ensures in
-    PairsPassed-on c.args.fault (fault_in_value (fault_inside c.args.fault c.args.depth)) s (take (length s - n) (drop n s)) c.split_key.result.0.now c.split_key.result.1.now n (n + 1 + length c.split_key.result.0.now + c.value_len.result) c.pairs.seen c.is_faulty.new.seen c.in_ok-is_faulty.field-0
-    c.pairs.invariant (omega (arith, c.pairs-test.true)) refl c.split_key.ensures.key c.split_key.ensures.after (c.in_ok-is_faulty.ensures {u = tt}) c.if-branch.false (sym (c.in_ok-offset.ensures {u = tt}).first ∙ c.in_default.is) (omega (arith, len))
+    PairsPassed-on c.args.fault (fault_in_value (fault_inside c.args.fault c.args.depth)) s (take (length s - n) (drop n s)) c.split_key.result.0.now c.split_key.result.1.now n (n + 1 + length c.split_key.result.0.now + c.value_len.result) c.pairs.seen c.is_key_faulty.new.seen c.in_ok-is_key_faulty.field-0
+    c.pairs.invariant (omega (arith, c.pairs-test.true)) refl c.split_key.ensures.key c.split_key.ensures.after (c.in_ok-is_key_faulty.ensures {u = tt}) c.if-branch.false (sym (c.in_ok-offset.ensures {u = tt}).first ∙ c.in_default.is) (omega (arith, len))

@@ -1,9 +1,0 @@
-mod Windows
-mod Parts
-mod Refused
-mod Pieces
-mod Entries
-mod Puts
-mod Starts
-mod Partials
-mod Escapes

@@ -1,5 +1,0 @@
-mod Screens
-pub mod Adding
-mod Writing
-mod Printing
-pub mod Plain

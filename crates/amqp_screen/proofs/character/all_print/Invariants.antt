@@ -1,7 +1,0 @@
-use Rattle.std.specs.Prelude.{IsTrue}
-use Rattle.amqp_screen.specs.Screens.{all_print}
-use Rattle.amqp_screen.proofs.character.all_print.Given as goal
-
--- the characters so far print
-abbrev pub invariant-loop-c : goal.invariant-loop-c
-invariant-loop-c l = IsTrue (all_print l.yielded)

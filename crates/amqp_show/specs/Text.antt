@@ -1,6 +1,0 @@
--- Lines of text.
-use Rattle.std.specs.Prelude.{ℕ, List, [], ◌∷◌, ◌++◌}
-
--- a text, and the end of its line
-abbrev pub line : List ℕ → List ℕ
-line text = text ++ 10 ∷ []

@@ -1,0 +1,28 @@
+"""The Python package, built before the tests are read that import it: once, also if several processes run them."""
+
+import os
+import shutil
+import sys
+import tempfile
+from functools import partial
+from pathlib import Path
+
+import pytest
+from crates import Crates
+from wheels import build_package
+
+# The folder that has the package, in the environment of the processes that run tests side by side.
+BUILT = "AMQP_VALUES_PACKAGE"
+
+
+def put_package(config: pytest.Config) -> None:
+    """Puts the package on the path."""
+    if BUILT not in os.environ:
+        # (it isn't in the last folders that pytest keeps, since those of processes that run side by side begin anew)
+        folder = tempfile.mkdtemp(prefix="amqp-values-")
+        config.add_cleanup(partial(shutil.rmtree, folder))
+        wrong = build_package(Crates(), Path(folder), bool(config.getoption("--built")))
+        if wrong:
+            raise pytest.UsageError(wrong)
+        os.environ[BUILT] = folder
+    sys.path.insert(0, os.environ[BUILT])
