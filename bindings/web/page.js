@@ -10,8 +10,8 @@ import { failure, hexadecimal, indentation, jsonText, keyText, outcome, rabbitmq
 // typed, and how many a link has. For more levels a call's stack might not suffice.
 const HEIGHT = 22, TALLEST = 8e6, MOST_SHOWN = 300, MOST_TYPED = 65536, MOST_LINKED = 500000, MOST_LEVELS = 1000;
 // What is said of bytes that are the other, by whether they are taken for a table without its type tag.
-const OTHER = ["the input is a table without its type tag; --table reads it",
-    "the input has a type tag; without --table it is read"];
+const OTHER = ["the input seems to be a table without its type tag; --table reads it",
+    "the input seems to have a type tag; without --table it is read"];
 const modules = {}, $ = (id) => document.getElementById(id);
 // What is shown: bytes and what was read of them, the rows that are closed and those that are seen, what is marked.
 const now = { bytes: new Uint8Array(), reading: null, closed: new Set(), seen: [], row: 0, byte: -1, width: 16 };
@@ -169,19 +169,17 @@ function showJson(reading) {
 
 // A button that leads to a byte.
 function jump(text, to) {
-    const made = element("button", { type: "button" }, text);
-    made.addEventListener("click", () => {
+    const onclick = () => {
         markByte(Math.min(to, now.bytes.length - 1));
         $("bytes").focus();
-    });
-    return made;
+    };
+    return element("button", { type: "button", onclick }, text);
 }
 
 // Says why nothing was read.
 function complain(why) {
-    $("outcome").textContent = "";
+    ["outcome", "notes"].forEach((id) => $(id).replaceChildren());
     $("failure").replaceChildren(why);
-    $("notes").replaceChildren();
 }
 
 // Says what came of reading.
@@ -193,7 +191,7 @@ function tell(note) {
         note,
         rabbitmq ? jump(said, Math.max(0, rabbitmq.offset - shift)) : said,
         again && jump(again[1], rows.start[again[0]] - shift),
-        code === AMQPV.OK && count < data.length ? `more bytes follow the ${shift ? "table" : "value"}` : "",
+        code === AMQPV.OK && count < data.length ? `more bytes follow, from offset ${count - shift}` : "",
         why ? "" : isCanonical ? "canonical" : "not canonical"];
     $("module").textContent = $("bits").selectedOptions[0].title;
     $("outcome").textContent = outcome(reading);

@@ -1,14 +1,16 @@
 // What the module reads of some bytes, as rows, also of malformed and of cut bytes.
 import { AMQPV } from "./header.js";
 
-// Of a row: it isn't read; only its type tag is, or only its key; its table has the key already.
-export const REST = 1, BARE = 2, AGAIN = 4;
+// Of a row: it isn't decoded; only its type tag is, or its key; its table has the key already; its payload is cut.
+export const REST = 1, BARE = 2, AGAIN = 4, CUT = 8;
+// Whether the input ends inside the value.
+export const isTruncated = ({ kind, offset }) => kind === AMQPV.PROBLEM_CUT && offset === 0;
 // Whether entries are the payload, and whether a length is before it.
 export const isContainer = (tag) => tag === AMQPV.ARRAY || tag === AMQPV.TABLE;
 export const isCounted = (tag) => isContainer(tag) || tag === AMQPV.LONG_STRING || tag === AMQPV.BYTE_ARRAY;
 
 // Rows by columns. A row is a value, in a table with its key, or such a key, whose type tag is 0, or what isn't read.
-// Row 0 stands for all.
+// Row 0 stands for all. A payload that is cut has `whole` bytes.
 class Rows {
     constructor(length) {
         for (const name of ["start", "value", "end", "parent", "level", "index", "size", "tag", "flags"]) {
@@ -19,14 +21,9 @@ class Rows {
 
     add(parent, start, value, end, tag, flags) {
         const row = this.count++;
-        this.start[row] = start;
-        this.value[row] = value;
-        this.end[row] = end;
-        this.parent[row] = parent;
-        this.level[row] = this.level[parent] + 1;
-        this.index[row] = this.size[parent]++;
-        this.tag[row] = tag;
-        this.flags[row] = flags;
+        [this.start[row], this.value[row], this.end[row], this.parent[row]] = [start, value, end, parent];
+        [this.level[row], this.index[row]] = [this.level[parent] + 1, this.size[parent]++];
+        [this.tag[row], this.flags[row]] = [tag, flags];
         return row;
     }
 
@@ -49,9 +46,9 @@ class Rows {
         if (this.flags[row] & REST) {
             return [["rest", value, end]];
         }
+        const payload = isContainer(tag) ? "entries" : this.flags[row] & CUT ? "rest" : "payload";
         const parts = [["key's length", start, Math.min(start + 1, value)], ["key", start + 1, value],
-            ["type tag", value, value + 1], ["length", value + 1, content],
-            [isContainer(tag) ? "entries" : "payload", content, end]];
+            ["type tag", value, value + 1], ["length", value + 1, content], [payload, content, end]];
         return parts.filter(([, from, to]) => from < Math.min(to, end));
     }
 }
@@ -92,9 +89,11 @@ function walk(module, data, depth) {
                 parent = row;
             }
         } else {
-            const content = isCounted(tag) && hasLength ? value + 5 : value + 1;
-            rows.add(parent, start, value, content, tag, BARE);
-            rest(parent, content, rows.count > 2 ? all : end);
+            const content = isCounted(tag) && hasLength ? value + 5 : value + 1, last = rows.count > 1 ? all : end;
+            rows.whole = isCounted(tag) && !hasLength ? 0 : value + extent(module, data, value) - content;
+            const isCut = content < last && last - content < rows.whole;
+            rows.add(parent, start, value, isCut ? last : content, tag, isCut ? BARE | CUT : BARE);
+            isCut || rest(parent, content, last);
             break;
         }
     }
@@ -142,8 +141,12 @@ export function read(module, bytes, { isTable = false, frame = AMQPV.FRAME, dept
     const rabbitmq = code === AMQPV.MORE ? null : module.problem(AMQPV.RULES_RABBITMQ, frame, depth);
     const rows = code === AMQPV.TOO_LARGE ? new Rows(0) : walk(module, data, depth);
     for (const problem of [failed, rabbitmq].filter(Boolean)) {
-        const { kind, offset } = problem, row = rows.at(offset);
-        const isRead = row && rows.value[row] === offset && rows.tag[row];
+        const { kind, offset } = problem, isCut = isTruncated(problem);
+        let row = isCut ? rows.count - (rows.flags[rows.count - 1] & REST ? 2 : 1) : rows.at(offset);
+        // (the input ends inside the innermost value that isn't whole)
+        const ends = () => rows.tag[row] && rows.value[row] + extent(module, data, rows.value[row]) > data.length;
+        for (; isCut && row && !ends(); row = rows.parent[row]);
+        const isRead = row && (isCut || rows.value[row] === offset) && rows.tag[row];
         // (a header that its container cuts isn't read on after that)
         const there = data.subarray(0, isRead ? rows.end[rows.parent[row]] : data.length);
         problem.size = kind === AMQPV.PROBLEM_CUT && isRead || kind === AMQPV.PROBLEM_TOO_LARGE

@@ -1,6 +1,6 @@
 // What is read, in the words of amqp_show.
 import { AMQPV, NAMES } from "./header.js";
-import { AGAIN, BARE, REST, isContainer } from "./reading.js";
+import { AGAIN, BARE, CUT, REST, isContainer, isCounted, isTruncated } from "./reading.js";
 
 const UNPRINTABLE = /["\\\u0000-\u001f\u007f-\u009f\u061c\u200e\u200f\u202a-\u202e\u2066-\u2069]/g;
 const DIGITS = Array.from({ length: 256 }, (_, it) => it.toString(16).padStart(2, "0"));
@@ -91,25 +91,25 @@ export function jsonText({ module, data, code, limits: { frame, depth } }) {
 }
 
 export const keyText = ({ data, rows }, row) => quoted(data.subarray(rows.start[row] + 1, rows.value[row]));
+const bytesText = (count) => `${count} byte${count === 1 ? "" : "s"}`;
 export const indentation = (level) => "  ".repeat(Math.min(level - 1, 64));
 
 // A row as the tree has it, in parts: the key, that it comes again, what is between it and the value, the value, and
-// what isn't read.
+// what isn't decoded.
 export function rowParts(reading, row, most) {
-    const { data, rows } = reading, flags = rows.flags[row], rest = data.subarray(rows.value[row], rows.end[row]);
-    if (flags & REST) {
-        return ["", "", "", "", `${quoted(rest.subarray(0, 64))}${rest.length > 64 ? ".." : ""} (not read)`];
-    }
+    const { data, rows } = reading, flags = rows.flags[row], tag = rows.tag[row], isCut = flags & CUT;
+    const rest = data.subarray(rows.value[row] + (!isCut ? 0 : isCounted(tag) ? 5 : 1), rows.end[row]);
+    const shown = rest.subarray(0, 64), isDigits = isCut && tag !== AMQPV.LONG_STRING;
+    const begin = () => (isDigits ? hexadecimal(shown) : quoted(shown)) + (rest.length > 64 ? ".." : "");
+    const said = isCut ? ` ${begin()} (${rest.length} of ${rows.whole} bytes)`
+        : flags & REST ? `${begin()} (not decoded)` : "";
     const key = rows.isPair(row) ? keyText(reading, row) : "", again = flags & AGAIN ? " (the key comes again)" : "";
-    const value = rows.tag[row] ? valueText(reading, row, most) : "";
-    return [key, again, key && value ? ": " : "", value, ""];
+    const value = tag ? valueText(reading, row, most) : "";
+    return [key, again, key && value ? ": " : "", value, said];
 }
 
 export const treeLines = (reading) => Array.from({ length: reading.rows.count - 1 }, (_, it) =>
     indentation(reading.rows.level[it + 1]) + rowParts(reading, it + 1).join(""));
-
-// Whether the input ends inside the value.
-const isTruncated = ({ kind, offset }) => kind === AMQPV.PROBLEM_CUT && offset === 0;
 
 // The offset of a problem, and its words.
 function problemText({ data, shift, limits: { frame, depth } }, problem) {
@@ -123,11 +123,11 @@ function problemText({ data, shift, limits: { frame, depth } }, problem) {
             ? `RabbitMQ doesn't know the type tag ${String.fromCharCode(tag)} (${NAMES[tag]})`
             : `a type tag is expected; ${DIGITS[tag]} is none`,
         [AMQPV.PROBLEM_CUT]: isTruncated(problem) ? inside : past,
-        [AMQPV.PROBLEM_KEY_CUT]: `the key of ${data[offset]} bytes goes past the end of its table`,
+        [AMQPV.PROBLEM_KEY_CUT]: `the key of ${bytesText(data[offset])} goes past the end of its table`,
         [AMQPV.PROBLEM_KEY_NOT_UTF8]: `the key ${quoted(key)} isn't UTF-8`,
         [AMQPV.PROBLEM_NOT_FINITE]: "the number is an infinity or a NaN",
         [AMQPV.PROBLEM_TOO_DEEP]: `containers nest deeper than --depth ${depth} allows`,
-        [AMQPV.PROBLEM_TOO_LARGE]: `the ${shift ? "table with its type tag" : "value"} has ${size} bytes, `
+        [AMQPV.PROBLEM_TOO_LARGE]: `the ${shift ? "table with its type tag" : "value"} has ${bytesText(size)}, `
             + `more than --max-bytes ${frame} allows`,
     }[kind];
     return [Math.max(0, at - shift), why];
@@ -140,7 +140,7 @@ export const failure = (reading) => reading.failed && problemText(reading, readi
 
 // What reading resulted in.
 export function outcome({ code, count, shift, failed }) {
-    return code === AMQPV.OK ? `a ${shift ? "table" : "value"} of ${count - shift} bytes`
+    return code === AMQPV.OK ? `a ${shift ? "table" : "value"} of ${bytesText(count - shift)}`
         : isBeyondLimits(failed) ? "beyond the limits"
             : code === AMQPV.MORE ? `truncated; more bytes needed: ${count}` : "malformed";
 }

@@ -144,6 +144,8 @@ class Part:
     # The value's type, and what readers may differ on.
     type: str = ""
     note: str = ""
+    # Of what isn't decoded: how many bytes the payload has whose beginning it is, if it is one.
+    whole: int = 0
 
     def noted(self, asks_notes: bool) -> str:
         """What readers may differ on: a repeated key always, the rest if notes are asked for."""
@@ -152,16 +154,19 @@ class Part:
 
 TRUNCATED = "the input ends"
 AGAIN, AFTER_GREATER = "the key comes again", "the key comes after a greater one"
+READERS_DIFFER = "readers differ in which value they take"
 
 
 class Dissection:
     """The parts of some bytes, as far as they are read, and then one of what isn't; and the first problem.
 
-    A table is read as if its type tag came before the bytes, and offsets are those of the bytes.
+    A table is read as if its type tag came before the bytes, and offsets are those of the bytes. In a stream `start` bytes
+    are before them.
     """
 
-    def __init__(self, data: bytes, subject: str = "value") -> None:
-        self.subject, self.left_out = subject, int(subject == "table")
+    def __init__(self, data: bytes, subject: str = "value", start: int = 0) -> None:
+        self.subject, self.left_out, self.start = subject, int(subject == "table"), start
+        self.whole = 0
         self.data = data = b"F" * self.left_out + data
         self.parts: list[Part] = []
         self.failure: Failure | None = None
@@ -180,19 +185,57 @@ class Dissection:
             while self.at < self.end:
                 self.value(self.end, 0)
         except NotRead:
-            self.part(self.end - self.at, "rest")
+            count = self.end - self.at
+            is_payload = 0 < count < self.whole
+            self.part(count, "rest", self.parts[-1].type if is_payload else "", whole=self.whole if is_payload else 0)
 
     def offset(self, at: int) -> int:
-        return max(0, at - self.left_out)
+        return self.start + max(0, at - self.left_out)
 
-    def failed(self) -> str:
-        """The offset at which it fails, and why."""
+    def failed(self, names_keys: bool = False) -> str:
+        """The offset at which it fails, and why; and the keys that lead there, if they are asked for."""
         assert self.failure
         at, why, *_ = self.failure.args
-        return f"offset {self.offset(len(self.data) if TRUNCATED in why else at)}: {why}"
+        place = at
+        if TRUNCATED in why:
+            place, at = self.innermost(), len(self.data)
+            name = TYPES.get(chr(self.data[place]), ("", 0))[0] if self.data else ""
+            why = f"{TRUNCATED} inside the {name}" if name else why
+        return f"offset {self.offset(at)}: {why}{self.path(place) if names_keys else ''}"
 
-    def part(self, count: int, kind: str, type: str = "", note: str = "") -> bytes:
-        part = Part(self.at, self.level, kind, self.data[self.at : self.at + count], type, note)
+    def innermost(self) -> int:
+        """Where the innermost value begins inside of which the input ends."""
+        level = len(self.data)
+        for it in reversed(self.parts):
+            if it.kind == "tag" and it.level < level:
+                if it.offset + extent(self.data[it.offset :][:5]) > len(self.data):
+                    return it.offset
+                level = it.level
+        return 0
+
+    def path(self, at: int) -> str:
+        """The keys and indices that lead to what is at an offset."""
+        # of each container around an index or a key, or that it is a table in which no key has come
+        steps: list[str | int | None] = []
+        last = ""
+        for part in self.parts:
+            if part.offset > at or part.kind in ("length", "payload"):
+                continue
+            del steps[part.level :]
+            if part.kind == "key":
+                steps[-1] = quoted(part.bytes)
+            elif part.level and isinstance(steps[-1], int):
+                steps[-1] += 1
+            elif part.level and last != "key":
+                steps[-1] = None
+            if part.kind == "tag" and part.type in ("FieldArray", "FieldTable") and part.offset < at:
+                steps.append(-1 if part.type == "FieldArray" else None)
+            last = part.kind
+        path = "".join(f"[{it}]" if isinstance(it, int) else "" if it is None else f".{it}" for it in steps)
+        return f", in {path.removeprefix('.')}" if path else ""
+
+    def part(self, count: int, kind: str, type: str = "", note: str = "", whole: int = 0) -> bytes:
+        part = Part(self.at, self.level, kind, self.data[self.at : self.at + count], type, note, whole)
         # (a key and a string may be empty)
         self.parts += [part] if count or kind == "key" or type in ("LongString", "ByteArray") else []
         self.at += count
@@ -214,6 +257,7 @@ class Dissection:
         if tag in "AF":
             self.entries(tag, min(end, self.at + width), level + 1)
         elif end - self.at < width:
+            self.whole = width
             raise NotRead
         else:
             is_other = tag == "t" and self.data[self.at] > 1
@@ -241,14 +285,18 @@ class Dissection:
 
 def too_large(data: bytes, left_out: int) -> str:
     name = "table with its type tag" if left_out else "value"
-    return f"the {name} has {extent(data)} bytes, more than --max-bytes {FRAME} allows"
+    return f"the {name} has {size_of(extent(data))}, more than --max-bytes {FRAME} allows"
+
+
+def size_of(count: int) -> str:
+    return f"{count} byte{'s' * (count != 1)}"
 
 
 def outcome(dissection: Dissection) -> str:
     """What reading within the limits results in."""
     data = dissection.data
     if not dissection.failure:
-        return f"a {dissection.subject} of {dissection.offset(dissection.end)} bytes"
+        return f"a {dissection.subject} of {size_of(dissection.end - dissection.left_out)}"
     if needs := lack(data):
         return "beyond the limits" if extent(data) > FRAME else f"truncated; more bytes needed: {needs}"
     return "beyond the limits" if " allows" in dissection.failure.args[1] else "malformed"
@@ -259,21 +307,16 @@ HEXADECIMAL = re.compile(rb"(?:B*(?:0[xX]|\\x)?[\da-fA-F]{2})+B*".replace(b"B", 
 
 
 def hints(data: bytes, subject: str) -> list[str]:
-    """What rejected bytes may be instead."""
+    """What bytes seem to be instead. (A length that begins as the type tag F is beyond the limits.)"""
     if subject == "table":
-        is_other = data[:1] == b"F" and is_all(data, "value")
-        return ["the input has a type tag; without --table it is read"] if is_other else []
+        return ["the input seems to have a type tag; without --table it is read"] if data[:1] == b"F" else []
     if data and chr(data[0]) in TYPES:
         return []
-    if HEXADECIMAL.fullmatch(data):
-        return ["the input seems to be hexadecimal; --hex reads it"]
-    return ["the input is a table without its type tag; --table reads it"] if is_all(data, "table") else []
-
-
-def is_all(data: bytes, subject: str) -> bool:
-    """Whether bytes are that to their end."""
-    found = Dissection(data, subject)
-    return not found.failure and found.end == len(found.data)
+    if data[:1] == b"\0":
+        return ["the input seems to be a table without its type tag; --table reads it"]
+    if data[:1] in (b"{", b"["):
+        return ["the input seems to be JSON; --encode reads it"]
+    return ["the input seems to be hexadecimal; --hex reads it"] if HEXADECIMAL.fullmatch(data) else []
 
 
 # Strings
@@ -357,7 +400,7 @@ def repeated(dissection: Dissection) -> list[str]:
     for part in dissection.parts:
         if part.note == AGAIN:
             at = dissection.offset(part.offset - 1)
-            return [f"* offset {at}: the key {quoted(part.bytes)} comes again; readers differ in which value they take"]
+            return [f"* offset {at}: the key {quoted(part.bytes)} comes again; {READERS_DIFFER}"]
     return []
 
 
@@ -365,8 +408,10 @@ def indentation(level: int) -> str:
     return "  " * min(level, 64)
 
 
-def not_read(data: bytes) -> str:
-    return f"{quoted(data[:64])}{'..' * (len(data) > 64)} (not read)"
+def not_decoded(part: Part) -> str:
+    is_digits, data = part.whole and part.type != "LongString", part.bytes[:64]
+    said = f"{len(part.bytes)} of {part.whole} bytes" if part.whole else "not decoded"
+    return f"{data.hex() if is_digits else quoted(data)}{'..' * (len(part.bytes) > 64)} ({said})"
 
 
 def tree(parts: Iterable[Part], asks_notes: bool) -> list[str]:
@@ -379,6 +424,8 @@ def tree(parts: Iterable[Part], asks_notes: bool) -> list[str]:
             lines[-1] += f": {part.type}"
         elif part.kind == "payload":
             lines[-1] += f" {text_of(part.type, part.bytes)}".rstrip(" ")
+        elif part.whole:
+            lines[-1] += f" {not_decoded(part)}"
         else:
             lines.append(indentation(part.level) + node(part))
         lines[-1] += part.noted(asks_notes)
@@ -387,7 +434,7 @@ def tree(parts: Iterable[Part], asks_notes: bool) -> list[str]:
 
 
 def node(part: Part) -> str:
-    return {"tag": part.type, "key": quoted(part.bytes), "rest": not_read(part.bytes)}[part.kind]
+    return {"tag": part.type, "key": quoted(part.bytes), "rest": not_decoded(part)}[part.kind]
 
 
 def meaning(part: Part) -> str:
@@ -402,7 +449,7 @@ def meaning(part: Part) -> str:
         case "key":
             return f"key {quoted(part.bytes)}"
         case "rest":
-            return not_read(part.bytes)
+            return not_decoded(part)
     return text_of(part.type, part.bytes)
 
 
@@ -422,29 +469,39 @@ def message(why: str) -> str:
     return f'amqp_show: "-": {why}\n'
 
 
-def ending(found: Dissection, data: bytes) -> tuple[str, int]:
-    """What is said of what is after a value, or of what the bytes may be instead; and the status."""
-    if found.failure:
-        return "".join(map(message, hints(data, found.subject))), 1
-    more = "" if found.left_out else "; --stream shows values one after another"
-    return message(f"more bytes follow the {found.subject}{more}") if found.end < len(found.data) else "", 0
+def ending(found: Dissection) -> tuple[str, int]:
+    """What is said of what is after a value; and the status."""
+    hint = "" if found.left_out else "; --stream shows values one after another"
+    more = message(f"more bytes follow, from offset {found.offset(found.end)}{hint}")
+    has_more = not found.failure and found.end < len(found.data)
+    return more * has_more, int(bool(found.failure))
 
 
-def printed(data: bytes, form: str = "tree", asks_notes: bool = False, subject: str = "value") -> Printed:
+def instead(data: bytes, subject: str) -> Printed | None:
+    """All that is said if the bytes seem to be something else."""
+    said = "".join(map(message, hints(data, subject)))
+    return ("", said, 1) if said else None
+
+
+def printed(
+    data: bytes, form: str = "tree", asks_notes: bool = False, subject: str = "value", start: int = 0
+) -> Printed:
     """Of `amqp_show --tree` or `--bytes`, with `--canonical` and with `--table`, or without them."""
-    found = Dissection(data, subject)
+    found = Dissection(data, subject, start)
     lines = [*(part_lines(found, asks_notes) if form == "bytes" else tree(found.parts, asks_notes)), *repeated(found)]
     lines += [f"! {found.failed()}"] if found.failure else []
-    return "".join(f"{line}\n" for line in [*lines, f"= {outcome(found)}"]), *ending(found, data)
+    shown = "".join(f"{line}\n" for line in [*lines, f"= {outcome(found)}"]), *ending(found)
+    return instead(data, subject) or shown
 
 
-def printed_json(data: bytes, subject: str = "value") -> Printed:
+def printed_json(data: bytes, subject: str = "value", start: int = 0) -> Printed:
     """Of `amqp_show --json`, with `--table` or without it."""
-    found = Dissection(data, subject)
-    said, status = ending(found, data)
+    found = Dissection(data, subject, start)
+    said, status = ending(found)
     if found.failure:
-        return "", message(found.failed()) + said, status
-    return f"{json_text(read(found.data)[0])}\n", said, status
+        return instead(data, subject) or ("", message(found.failed(names_keys=True)), status)
+    again = [it[2:].replace(READERS_DIFFER, "only its last value is shown") for it in repeated(found)]
+    return f"{json_text(read(found.data)[0])}\n", "".join(map(message, again)) + said, status
 
 
 def streamed(values: Iterable[bytes]) -> dict[str, Printed]:
@@ -452,12 +509,10 @@ def streamed(values: Iterable[bytes]) -> dict[str, Printed]:
     shown, said, status, offset = dict.fromkeys(("tree", "bytes", "JSON"), ""), "", 0, 0
     for data in values:
         for form in ("tree", "bytes"):
-            shown[form] += printed(data, form)[0].replace("\n= ", f"\n= at {offset}: ")
-        found = Dissection(data)
-        if found.failure:
-            said, status = message(f"the value at {offset}: {found.failed()}"), 1
-        else:
-            shown["JSON"] += printed_json(data)[0]
+            shown[form] += printed(data, form, start=offset)[0].replace("\n= ", f"\n= at {offset}: ")
+        text, why, status = printed_json(data, start=offset)
+        shown["JSON"] += text
+        said += why
         offset += len(data)
     return {form: (text, said if form == "JSON" else "", status) for form, text in shown.items()}
 
@@ -474,21 +529,26 @@ EQUAL_KEYS = {
 
 def checked(data: bytes, subject: str = "value", version: str = "4.3") -> Printed:
     """Of `amqp_show --check rabbitmq-VERSION`, with `--table` or without it."""
-    left_out = int(subject == "table")
     found = Dissection(data, subject)
+    return instead(data, subject) or (judged(found, version), *ending(found))
+
+
+def judged(found: Dissection, version: str = "4.3") -> str:
+    """The lines of bytes that don't seem to be something else. The failure is then what RabbitMQ fails at."""
     lines: list[str] = []
     try:
         if extent(found.data) > FRAME:
-            raise Failure(0, too_large(found.data, left_out))
+            raise Failure(0, too_large(found.data, found.left_out))
         end = taken(found.data, 0, len(found.data), DEPTH)
-        lines += warned(found.data, end, left_out, subject, version)
-        verdict, found.failure = f"RabbitMQ {version} accepts the {subject}", None
+        lines += warned(found, end, version)
+        verdict, found.failure = f"accepts it{', except as the warnings say' * bool(lines)}", None
     except Failure as failure:
         found.failure = failure
-        lines.append(f"! {found.failed()}")
-        is_beyond = " allows" in failure.args[1]
-        verdict = "not checked beyond the limits" if is_beyond else f"RabbitMQ {version} closes the connection"
-    return "".join(f"{it}\n" for it in [*lines, f"= {verdict}"]), *ending(found, data)
+        lines.append(f"! {found.failed(names_keys=True)}")
+        verdict = "closes the connection; warnings weren't looked for"
+        if " allows" in failure.args[1]:
+            verdict = "isn't checked beyond the limits"
+    return "".join(f"{it}\n" for it in [*lines, f"= RabbitMQ {version} {verdict}"])
 
 
 def taken(data: bytes, at: int, end: int, depth: int, inside: str = "", rules: str = "RabbitMQ", most: int = -1) -> int:
@@ -513,7 +573,7 @@ def taken(data: bytes, at: int, end: int, depth: int, inside: str = "", rules: s
     while tag in "AF" and at < stop:
         if tag == "F":
             if at + 1 + data[at] > stop:
-                raise Failure(at, f"the key of {data[at]} bytes goes past the end of its table", tag)
+                raise Failure(at, f"the key of {size_of(data[at])} goes past the end of its table", tag)
             key = data[at + 1 : at + 1 + data[at]]
             if rules == "read" and not is_utf8(key):
                 raise Failure(at, f"the key {quoted(key)} isn't UTF-8", tag)
@@ -591,25 +651,26 @@ def exceeds(end: int, frame_max: int) -> bool:
 
 
 WARNINGS = {
-    "repeated_key": "the key {key} comes again; this library takes the last, RabbitMQ {version} {equal_keys}",
-    "key_not_utf8": "the key {key} isn't UTF-8; this library rejects it",
+    "repeated_key": "the key {key} comes again; the broker {equal_keys}",
+    "key_not_utf8": "the key {key} isn't UTF-8; most clients can't read it",
     "empty_key": "the key {key} is empty; some clients break on it",
-    "too_deep": "containers nest deeper than 32; most clients break on some depth",
-    "decimal": "a decimal; RabbitMQ {version} closes the connection for such a header if the message goes to a stream",
-    "nested_header": "an array or a table; RabbitMQ {version} drops such a header if the message goes to a stream{kept}",
+    "too_deep": "containers nest deeper than 32{path}; most clients break on some depth",
+    "decimal": "a decimal{path}; the broker closes the connection if a stream gets such a header",
+    "nested_header": "an array or a table{path}; a stream drops such a header{kept}",
 }
 
 
-def warned(data: bytes, end: int, left_out: int, subject: str, version: str) -> Iterator[str]:
+def warned(found: Dissection, end: int, version: str) -> Iterator[str]:
     """A line for the first of each that is doubtful in a value that RabbitMQ takes, and for its size."""
+    data = found.data
     kept = "" if version == "3.10" else " unless its key is CC or begins with x-"
     for kind, places in (doubtful(data, CLIENT_LEVELS) | unfit_for_streams(data)).items():
         for at in places[:1]:
-            key = quoted(data[at + 1 : at + 1 + data[at]])
-            what = WARNINGS[kind].format(key=key, version=version, equal_keys=EQUAL_KEYS[version], kept=kept)
-            yield f"* offset {max(0, at - left_out)}: {what}"
+            words = {"key": quoted(data[at + 1 : at + 1 + data[at]]), "path": found.path(at), "kept": kept}
+            what = WARNINGS[kind].format(**words, equal_keys=EQUAL_KEYS[version])
+            yield f"* offset {found.offset(at)}: {what}"
     if exceeds(end, FRAME_MAX):
-        yield f"* the {subject} takes a frame of more than {FRAME_MAX} bytes, RabbitMQ's usual frame_max"
+        yield f"* the {found.subject} takes a frame of more than {FRAME_MAX} bytes, RabbitMQ's usual frame_max"
 
 
 # Inputs

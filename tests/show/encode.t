@@ -21,12 +21,12 @@ encode_long_key
 
 encode_no_type_tag
   $ echo '[{"$ShortString":"key"}]' | amqp_show --encode
-  2> amqp_show: "-": expected the name of a type after `$` at byte 2: "$ShortString":"key"}]
+  2> amqp_show: "-": expected the name of a type after `$` (--help lists them) at byte 2: "$ShortString":"key"}]
   [1]
 
 encode_not_a_value
   $ echo '{"$ShortInt":"5"}' | amqp_show --encode
-  2> amqp_show: "-": expected a number at byte 13: "5"}
+  2> amqp_show: "-": expected a ShortInt (an integer from -32768 to 32767) at byte 13: "5"}
   [1]
 
 encode_not_utf8
@@ -36,17 +36,17 @@ encode_not_utf8
 
 encode_number
   $ echo '{"a":[1,null,{"$Double":"3ff0000000000000"},{"b c":1.5}],"z":2.5}' | amqp_show --encode
-  2> amqp_show: "-": expected an integer that the type holds at byte 51; a Double is written by its bits, as {"$Double":"3ff0000000000000"}
+  2> amqp_show: "-": expected a LongLongInt (an integer from -9223372036854775808 to 9223372036854775807) at byte 51; 1.5 is {"$Double":"3ff8000000000000"}: 1.5}],"z":2.5}
   [1]
 
 encode_exponent_in_upper_case
   $ echo '1E400' | amqp_show --encode
-  2> amqp_show: "-": expected an integer that the type holds at byte 0; a Double is written by its bits, as {"$Double":"3ff0000000000000"}
+  2> amqp_show: "-": expected a LongLongInt (an integer from -9223372036854775808 to 9223372036854775807) at byte 0: 1E400
   [1]
 
 encode_out_of_range
   $ echo '{"FieldTable":{"Void":[{"$ShortInt":-32768},{"$ShortInt":70000}]}}' | amqp_show --encode
-  2> amqp_show: "-": expected an integer that the type holds at byte 57: 70000}]}}
+  2> amqp_show: "-": expected a ShortInt (an integer from -32768 to 32767) at byte 57: 70000}]}}
   [1]
 
 encode_digits_in_upper_case
@@ -83,20 +83,60 @@ encode_x_death
 
 empty_encode
   $ printf '' | amqp_show --encode
-  2> amqp_show: "-": not JSON at byte 0, where the line ends
+  2> amqp_show: "-": the input is empty
   [1]
 
 encode_table_other
   $ echo '{"$LongInt":5}' | amqp_show --encode --table
-  2> amqp_show: "-": --table writes a FieldTable, not a LongInt
+  2> amqp_show: "-": --table writes a FieldTable, and the JSON is another value
   [1]
 
 encode_odd_digits
   $ echo '{"$ByteArray":"01a"}' | amqp_show --encode
-  2> amqp_show: "-": expected an even number of hexadecimal digits at byte 14: "01a"}
+  2> amqp_show: "-": expected a ByteArray (two hexadecimal digits a byte, in quotes) at byte 14; the number of digits is odd: "01a"}
   [1]
 
 encode_escape_in_excerpt
   $ printf '["\\x1b[31m' | amqp_show --encode
   2> amqp_show: "-": not JSON at byte 1: "\x1b[31m
+  [1]
+
+encode_not_hexadecimal
+  $ echo '{"$ByteArray":"ff 00"}' | amqp_show --encode
+  2> amqp_show: "-": expected a ByteArray (two hexadecimal digits a byte, in quotes) at byte 14; ' ' isn't a hexadecimal digit: "ff 00"}
+  [1]
+
+encode_number_of_a_double
+  $ echo '{"$Double":-1.5}' | amqp_show --encode
+  2> amqp_show: "-": expected a Double (its bits, as 16 hexadecimal digits in quotes) at byte 11; -1.5 is {"$Double":"bff8000000000000"}: -1.5}
+  [1]
+
+encode_number_of_a_float
+  $ echo '{"$Float": 1.5}' | amqp_show --encode
+  2> amqp_show: "-": expected a Float (its bits, as 8 hexadecimal digits in quotes) at byte 11; 1.5 is {"$Float":"3fc00000"}: 1.5}
+  [1]
+
+encode_digits_of_a_float
+  $ echo '{"$Float":"3f80"}' | amqp_show --encode
+  2> amqp_show: "-": expected a Float (its bits, as 8 hexadecimal digits in quotes) at byte 10: "3f80"}
+  [1]
+
+encode_not_a_decimal
+  $ echo '{"$DecimalValue":"3.14"}' | amqp_show --encode
+  2> amqp_show: "-": expected a DecimalValue (a number and a scale, as "314e-2") at byte 17: "3.14"}
+  [1]
+
+encode_repeated_keys
+  $ echo '{"b":1,"a":{"b":2,"\u0062":true}}' | amqp_show --encode
+  4600000016016146000000040162740101626c0000000000000001
+  2> amqp_show: "-": the key "b" comes again; only its last value is written
+
+encode_not_alone
+  $ echo '{"$ShortInt":5,"a":1}' | amqp_show --encode
+  2> amqp_show: "-": expected no other key beside a type name at byte 15: "a":1}
+  [1]
+
+encode_with_another_name
+  $ echo '{"\u0024ShortInt":"5"}' | amqp_show --encode
+  2> amqp_show: "-": expected a number at byte 18: "5"}
   [1]

@@ -9,7 +9,7 @@ files
     "x-queue-type": LongString "quorum"
   = a value of 66 bytes
   no_id.hex:
-  "z" (not read)
+  "z" (not decoded)
   ! offset 0: a type tag is expected; 7a is none
   = malformed
   2> amqp_show: "missing.hex": can't be read: No such file or directory (os error 2)

@@ -82,8 +82,10 @@ dump_of_hexdump
 
 without_hex
   $ echo 46 00000003 0161 56 | amqp_show
-  "4" (not read)
-  ! offset 0: a type tag is expected; 34 is none
-  = malformed
   2> amqp_show: "-": the input seems to be hexadecimal; --hex reads it
   [1]
+
+line_of_a_log
+  $ echo 12:34 headers=460000 | amqp_show --hex
+  2> amqp_show: "-": line 1, column 7: a byte of two hexadecimal digits is expected
+  [2]

@@ -7,11 +7,12 @@ json
   {"x-max-length":{"$LongInt":10000},"x-message-ttl":{"$LongUInt":60000},"x-queue-type":"quorum"}
   [false,{"$ShortShortInt":-1},{"$ShortShortUInt":255},{"$ShortInt":-2},{"$ShortUInt":65534},{"$LongInt":-3},{"$LongUInt":4294967293},-4,{"$Float":"3fc00000"},{"$Double":"bfd0000000000000"},{"$DecimalValue":"31415e-2"},"say \"hi\"\n",{"$ByteArray":"009bff"},[],{},{"$Timestamp":1},null]
   {"":null,"a":1,"b":true}
+  2> amqp_show: "not_canonical.hex": offset 14: the key "a" comes again; only its last value is shown
 
 json_follow
   $ echo 56 7401 | xxd -r -p | amqp_show --json
   null
-  2> amqp_show: "-": more bytes follow the value; --stream shows values one after another
+  2> amqp_show: "-": more bytes follow, from offset 1; --stream shows values one after another
 
 json_empty
   $ printf '' | amqp_show --json
@@ -24,3 +25,14 @@ json_texts
   > 46000000120853686f7274496e746c0000000000000005
   > END
   ["é",{"$LongString":"68ff"},"\u001b[1m\u007f\u0085\u202e","😀",{"ShortInt":5}]
+
+json_without_encode
+  $ echo '{"a":1}' | amqp_show --json
+  2> amqp_show: "-": the input seems to be JSON; --encode reads it
+  [1]
+
+json_stream_repeated
+  $ echo 56 4600000006 016156 016156 | xxd -r -p | amqp_show --stream --json
+  null
+  {"a":null}
+  2> amqp_show: "-": offset 9: the key "a" comes again; only its last value is shown

@@ -4,14 +4,14 @@ depth
   $ echo 4100000006 56 4100000000 | xxd -r -p | amqp_show --depth 1
   FieldArray
     Void
-    "A\u0000\u0000\u0000\u0000" (not read)
+    "A\u0000\u0000\u0000\u0000" (not decoded)
   ! offset 6: containers nest deeper than --depth 1 allows
   = beyond the limits
   [1]
 
 depth_0
   $ echo 4100000000 | xxd -r -p | amqp_show --depth 0
-  "A\u0000\u0000\u0000\u0000" (not read)
+  "A\u0000\u0000\u0000\u0000" (not decoded)
   ! offset 0: containers nest deeper than --depth 0 allows
   = beyond the limits
   [1]
@@ -25,7 +25,7 @@ depth_1001
 
 depth_json
   $ echo 4100000005 4100000000 | xxd -r -p | amqp_show --json --depth 1
-  2> amqp_show: "-": offset 5: containers nest deeper than --depth 1 allows
+  2> amqp_show: "-": offset 5: containers nest deeper than --depth 1 allows, in [0]
   [1]
 
 max_bytes
@@ -53,7 +53,7 @@ max_bytes_json
 max_bytes_stream
   $ echo 56 7401 | xxd -r -p | amqp_show --stream --max-bytes 1
   Void
-  = at 0: a value of 1 bytes
-  ! offset 0: the value has 2 bytes, more than --max-bytes 1 allows
+  = at 0: a value of 1 byte
+  ! offset 1: the value has 2 bytes, more than --max-bytes 1 allows
   = at 1: beyond the limits
   [1]

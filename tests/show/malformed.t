@@ -5,31 +5,27 @@ unknown_tag
   unknown_id.hex:
   FieldArray
     Boolean true
-    "z\u0000" (not read)
+    "z\u0000" (not decoded)
   ! offset 7: a type tag is expected; 7a is none
   = malformed
   [1]
 
 unknown_first_tag
   $ echo 7a0102 | xxd -r -p | amqp_show
-  "z" (not read)
+  "z" (not decoded)
   ! offset 0: a type tag is expected; 7a is none
   = malformed
   [1]
 
 endless
   $ amqp_show /dev/zero
-  /dev/zero:
-  "\u0000" (not read)
-  ! offset 0: a type tag is expected; 00 is none
-  = malformed
+  2> amqp_show: "/dev/zero": the input seems to be a table without its type tag; --table reads it
   [1]
 
 number_past_array
   $ echo 41 00000002 49 00 000001 | xxd -r -p | amqp_show
   FieldArray
-    LongInt
-    "\u0000" (not read)
+    LongInt 00 (1 of 4 bytes)
   ! offset 5: the LongInt of 5 bytes goes past the end of its container
   = malformed
   [1]
@@ -39,7 +35,7 @@ number_past_array_by_bytes
        0  41                  type tag A, FieldArray
        1  00000002            length 2
        5  49                    type tag I, LongInt
-       6  00                    "\u0000" (not read)
+       6  00                    00 (1 of 4 bytes)
   ! offset 5: the LongInt of 5 bytes goes past the end of its container
   = malformed
   [1]
@@ -47,8 +43,7 @@ number_past_array_by_bytes
 string_past_array
   $ echo 41 00000008 53 00000008 616263 64656667 | xxd -r -p | amqp_show
   FieldArray
-    LongString
-    "abc" (not read)
+    LongString "abc" (3 of 8 bytes)
   ! offset 5: the LongString of 13 bytes goes past the end of its container
   = malformed
   [1]
@@ -69,7 +64,7 @@ length_past_array
        0  41                  type tag A, FieldArray
        1  00000004            length 4
        5  53                    type tag S, LongString
-       6  000056                "\u0000\u0000V" (not read)
+       6  000056                "\u0000\u0000V" (not decoded)
   ! offset 5: the LongString of 5 bytes goes past the end of its container
   = malformed
   [1]
@@ -79,7 +74,7 @@ no_value_after_key
   FieldArray
     FieldTable
       "a"
-      "V" (not read)
+      "V" (not decoded)
   ! offset 12: a value is expected; its table ends here
   = malformed
   [1]
@@ -88,8 +83,16 @@ key_past_table
   $ amqp_show --hex key_past_body.hex
   key_past_body.hex:
   FieldTable
-    "\u0005ab" (not read)
+    "\u0005ab" (not decoded)
   ! offset 5: the key of 5 bytes goes past the end of its table
+  = malformed
+  [1]
+
+key_of_one_byte
+  $ echo 46 00000001 01 | xxd -r -p | amqp_show
+  FieldTable
+    "\u0001" (not decoded)
+  ! offset 5: the key of 1 byte goes past the end of its table
   = malformed
   [1]
 
@@ -106,6 +109,6 @@ key_not_utf8
 json_of_malformed
   $ amqp_show --hex --json unknown_id.hex key_not_utf8.hex queue_arguments.hex
   {"x-max-length":{"$LongInt":10000},"x-message-ttl":{"$LongUInt":60000},"x-queue-type":"quorum"}
-  2> amqp_show: "unknown_id.hex": offset 7: a type tag is expected; 7a is none
+  2> amqp_show: "unknown_id.hex": offset 7: a type tag is expected; 7a is none, in [1]
   2> amqp_show: "key_not_utf8.hex": offset 9: the key "\xff\xfe" isn't UTF-8
   [1]

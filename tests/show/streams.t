@@ -25,38 +25,36 @@ stream_malformed
   = at 0: a value of 2 bytes
   FieldArray
     Boolean true
-    LongInt
-    "\u0000\u0000" (not read)
-  ! offset 7: the LongInt of 5 bytes goes past the end of its container
+    LongInt 0000 (2 of 4 bytes)
+  ! offset 9: the LongInt of 5 bytes goes past the end of its container
   = at 2: malformed
   [1]
 
 stream_malformed_json
   $ echo 7401 4100000005 7401490000 7401 | xxd -r -p | amqp_show --stream --json
   true
-  2> amqp_show: "-": the value at 2: offset 7: the LongInt of 5 bytes goes past the end of its container
+  2> amqp_show: "-": offset 9: the LongInt of 5 bytes goes past the end of its container, in [1]
   [1]
 
 stream_truncated
   $ echo 7401 5300000004 6f6e | xxd -r -p | amqp_show --stream
   Boolean true
   = at 0: a value of 2 bytes
-  LongString
-  "on" (not read)
-  ! offset 7: the input ends inside the LongString
+  LongString "on" (2 of 4 bytes)
+  ! offset 9: the input ends inside the LongString
   = at 2: truncated; more bytes needed: 2
   [1]
 
 stream_repeated
   $ echo 56 460000000c01615601625601615601625656 | xxd -r -p | amqp_show --stream
   Void
-  = at 0: a value of 1 bytes
+  = at 0: a value of 1 byte
   FieldTable
     "a": Void
     "b": Void
     "a" (the key comes again): Void
     "b" (the key comes again): Void
-  * offset 11: the key "a" comes again; readers differ in which value they take
+  * offset 12: the key "a" comes again; readers differ in which value they take
   = at 1: a value of 17 bytes
   Void
-  = at 18: a value of 1 bytes
+  = at 18: a value of 1 byte

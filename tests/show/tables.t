@@ -23,19 +23,19 @@ table_follow
   $ echo 00000000 0000 | xxd -r -p | amqp_show --table
   FieldTable
   = a table of 4 bytes
-  2> amqp_show: "-": more bytes follow the table
+  2> amqp_show: "-": more bytes follow, from offset 4
 
 table_json
   $ echo 00000007 04566f6964 7401 5656 | amqp_show --table --hex --json
   {"Void":true}
-  2> amqp_show: "-": more bytes follow the table
+  2> amqp_show: "-": more bytes follow, from offset 11
 
 table_malformed
   $ echo 00000004 0161 7a00 | xxd -r -p | amqp_show --table --bytes
        0  00000004            length 4
        4  01                    key length 1
        5  61                    key "a"
-       6  7a00                  "z\u0000" (not read)
+       6  7a00                  "z\u0000" (not decoded)
   ! offset 6: a type tag is expected; 7a is none
   = malformed
   [1]
@@ -43,9 +43,8 @@ table_malformed
 table_truncated
   $ echo 00000009 0161 4900 | xxd -r -p | amqp_show --table
   FieldTable
-    "a": LongInt
-    "\u0000" (not read)
-  ! offset 8: the input ends inside the FieldTable
+    "a": LongInt 00 (1 of 4 bytes)
+  ! offset 8: the input ends inside the LongInt
   = truncated; more bytes needed: 5
   [1]
 
@@ -71,41 +70,17 @@ table_at_limit
 
 no_type_tag
   $ echo 00000007 0161 7401 0162 56 | xxd -r -p | amqp_show
-  "\u0000" (not read)
-  ! offset 0: a type tag is expected; 00 is none
-  = malformed
-  2> amqp_show: "-": the input is a table without its type tag; --table reads it
-  [1]
-
-no_type_tag_json
-  $ echo 00000007 0161 7401 0162 56 | amqp_show --hex --json
-  2> amqp_show: "-": offset 0: a type tag is expected; 00 is none
-  2> amqp_show: "-": the input is a table without its type tag; --table reads it
-  [1]
-
-no_type_tag_follow
-  $ echo 00000007 0161 7401 0162 56 00 | xxd -r -p | amqp_show
-  "\u0000" (not read)
-  ! offset 0: a type tag is expected; 00 is none
-  = malformed
+  2> amqp_show: "-": the input seems to be a table without its type tag; --table reads it
   [1]
 
 no_type_tag_stream
   $ echo 00000007 0161 7401 0162 56 | xxd -r -p | amqp_show --stream
-  "\u0000" (not read)
+  "\u0000" (not decoded)
   ! offset 0: a type tag is expected; 00 is none
   = at 0: malformed
   [1]
 
 type_tag_with_table
   $ echo 46 00000007 0161 7401 0162 56 | xxd -r -p | amqp_show --table
-  ! offset 0: the table with its type tag has 1174405125 bytes, more than --max-bytes 1048576 allows
-  = beyond the limits
-  2> amqp_show: "-": the input has a type tag; without --table it is read
-  [1]
-
-type_tag_with_table_follow
-  $ echo 46 00000007 0161 7401 0162 56 00 | xxd -r -p | amqp_show --table
-  ! offset 0: the table with its type tag has 1174405125 bytes, more than --max-bytes 1048576 allows
-  = beyond the limits
+  2> amqp_show: "-": the input seems to have a type tag; without --table it is read
   [1]

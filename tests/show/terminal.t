@@ -5,8 +5,7 @@ tree_on_terminal
   FieldTable
     \x1b[36m"a"\x1b[0m: Void (esc)
     \x1b[36m"a"\x1b[0m\x1b[33m (the key comes again)\x1b[0m: Void (esc)
-    \x1b[36m"b"\x1b[0m: LongInt (esc)
-    \x1b[31m"\\u0000" (not read)\x1b[0m (esc)
+    \x1b[36m"b"\x1b[0m: LongInt \x1b[31m00 (1 of 4 bytes)\x1b[0m (esc)
   \x1b[33m* offset 8: the key "a" comes again; readers differ in which value they take\x1b[0m (esc)
   \x1b[31m! offset 13: the LongInt of 5 bytes goes past the end of its container\x1b[0m (esc)
   = malformed
@@ -17,19 +16,19 @@ bytes_on_terminal
        0  46                  type tag F, FieldTable
        1  00000006            length 6
        5  01                    key length 1
-       6  61                    \x1b[36mkey "a"\x1b[0m (esc)
+       6  61                    key \x1b[36m"a"\x1b[0m (esc)
        7  74                    type tag t, Boolean
        8  07                    true\x1b[33m (the byte isn't canonical, 01 is)\x1b[0m (esc)
        9  01                    key length 1
-      10  62                    \x1b[36mkey "b"\x1b[0m (esc)
+      10  62                    key \x1b[36m"b"\x1b[0m (esc)
   \x1b[31m! offset 11: a value is expected; its table ends here\x1b[0m (esc)
   = malformed
   [1]
 
 check_on_terminal
   $ echo 4600000004 01ff 7407 | xxd -r -p | amqp_show --check rabbitmq >/dev/tty
-  \x1b[33m* offset 5: the key "\\xff" isn't UTF-8; this library rejects it\x1b[0m (esc)
-  = RabbitMQ 4.3 accepts the value
+  \x1b[33m* offset 5: the key "\\xff" isn't UTF-8; most clients can't read it\x1b[0m (esc)
+  = RabbitMQ 4.3 accepts it, except as the warnings say
 
 no_color
   $ echo 4600000004 01ff 7407 | xxd -r -p | NO_COLOR=1 amqp_show >/dev/tty

@@ -3,9 +3,8 @@
 truncated_number
   $ echo 4600000009 0161 490000 | xxd -r -p | amqp_show
   FieldTable
-    "a": LongInt
-    "\u0000\u0000" (not read)
-  ! offset 10: the input ends inside the FieldTable
+    "a": LongInt 0000 (2 of 4 bytes)
+  ! offset 10: the input ends inside the LongInt
   = truncated; more bytes needed: 4
   [1]
 
@@ -13,9 +12,8 @@ truncated_string
   $ echo 4600000028 0161 4600000009 0162 5300000009 6162 | xxd -r -p | amqp_show
   FieldTable
     "a": FieldTable
-      "b": LongString
-      "ab" (not read)
-  ! offset 21: the input ends inside the FieldTable
+      "b": LongString "ab" (2 of 9 bytes)
+  ! offset 21: the input ends inside the LongString
   = truncated; more bytes needed: 24
   [1]
 
@@ -23,7 +21,7 @@ truncated_key
   $ echo 460000000c 0162 56 05 6162 | xxd -r -p | amqp_show
   FieldTable
     "b": Void
-    "\u0005ab" (not read)
+    "\u0005ab" (not decoded)
   ! offset 11: the input ends inside the FieldTable
   = truncated; more bytes needed: 6
   [1]
@@ -40,15 +38,14 @@ truncated_after_key
 truncated_length
   $ echo 4600 | xxd -r -p | amqp_show
   FieldTable
-  "\u0000" (not read)
+  "\u0000" (not decoded)
   ! offset 2: the input ends inside the FieldTable
   = truncated; more bytes needed: 3
   [1]
 
 truncated_decimal
   $ echo 4402 | xxd -r -p | amqp_show
-  DecimalValue
-  "\u0002" (not read)
+  DecimalValue 02 (1 of 5 bytes)
   ! offset 2: the input ends inside the DecimalValue
   = truncated; more bytes needed: 4
   [1]
@@ -58,22 +55,21 @@ truncated_and_malformed
   FieldArray
     Void
     FieldArray
-      "zV" (not read)
+      "zV" (not decoded)
   ! offset 13: the input ends inside the FieldArray
   = truncated; more bytes needed: 12
   [1]
 
 truncated_json
   $ amqp_show --hex --json truncated.hex
-  2> amqp_show: "truncated.hex": offset 21: the input ends inside the FieldTable
+  2> amqp_show: "truncated.hex": offset 21: the input ends inside the LongInt, in "x-max-length"
   [1]
 
 truncated_long
   $ xxd -r -p <<'END' | amqp_show
   > 5300000100 3030303030303030303030303030303030303030303030303030303030303030303030303030303030303030303030303030303030303030303030303030303030303030
   > END
-  LongString
-  "0000000000000000000000000000000000000000000000000000000000000000".. (not read)
+  LongString "0000000000000000000000000000000000000000000000000000000000000000".. (68 of 256 bytes)
   ! offset 73: the input ends inside the LongString
   = truncated; more bytes needed: 188
   [1]

@@ -11,36 +11,45 @@ help
 
   Options:
         --hex            Read hexadecimal text instead of bytes
-        --table          Read a table without its type tag, as methods and headers have it; with --encode write one
-        --stream         Read values one after another, and show each as it comes
-        --tree           Show a tree with the type of each value (the default)
-        --bytes          Show each part of the encoding with its offset and its bytes
+        --table          Read, or encode, a table without its type tag
+        --stream         Read values one after another, as they come
+        --tree           Show a tree of values and types (the default)
+        --bytes          Show each part with its offset and its bytes
         --json           Show JSON, on a line for each value
-        --encode         Read JSON, and write the encoding of its value in hexadecimal
-        --check <PEER>   Show why a peer closes the connection, or else warnings [possible values: rabbitmq, rabbitmq-3.10, rabbitmq-4.0, rabbitmq-4.3]
+        --encode         Read JSON, and write its encoding in hexadecimal
         --raw            With --encode: write the bytes themselves
-        --canonical      Note in the tree or at the parts what isn't canonical
+        --canonical      Mark what isn't canonical, in a tree or parts
+        --check <PEER>   Show why a peer closes the connection, or else warnings [possible values: rabbitmq, rabbitmq-3.10, rabbitmq-4.0, rabbitmq-4.3]
         --max-bytes <N>  Reject values of more than N bytes [default: 1048576]
         --depth <N>      Reject containers that nest more than N deep, at most 1000 [default: 64]
     -h, --help           Print help
     -V, --version        Print version
 
   Examples:
-    A table from a log, or with --table one without its type tag (46, an F):
+    A table from a log. Most have no type tag (46, an F) there: add --table.
       echo 460000000701617401016256 | amqp_show --hex
-    Where it is malformed, and each part up to there with its offset:
+      echo 0000000701617401016256 | amqp_show --hex --table
+    Where it is malformed or cut, and each part up to there with its offset:
       echo 4600000007016174010162 | amqp_show --hex --bytes
     How many values a file has, one after another:
       amqp_show --stream --json values.bin | wc -l
-    JSON to bytes for a test; docs/JSON.md has how types are named:
+    JSON to bytes for a test:
       echo '{"a":true,"b":{"$LongInt":5}}' | amqp_show --encode
+
+  JSON: an integer is a LongLongInt, a string a LongString, null a Void. Other types are named:
+    {"$LongInt":5}, also ShortShortInt, ShortShortUInt, ShortInt, ShortUInt, LongUInt, Timestamp
+    {"$Double":"3ff8000000000000"}, the bits of 1.5, also Float
+    {"$ByteArray":"00ff"}, its digits, also LongString; {"$DecimalValue":"314e-2"}, 3.14
+  Keys are sorted. One that begins with $ is written with one more.
+
+  --check rabbitmq is rabbitmq-4.3, and 4.0 does the same: use either for 4.1 and 4.2. These
+  weren't tried, nor 3.11 to 3.13.
 
   A line that begins with ! has the offset of the first problem and what it is,
   one with * what readers may differ on, and one with = what came of reading.
 
-  Exit status: 0 if each value was read, 1 if one was rejected or is truncated,
-  2 after a mistake in the arguments, the input's hexadecimal, or if a file
-  can't be read or the output can't be written.
+  Exit status: 0 if each value was read, 1 if a value or JSON was rejected or is truncated, 2 after
+  a mistake in the arguments or the hexadecimal, or if a file can't be read or the output written.
 
 version
   $ amqp_show --version

@@ -31,7 +31,7 @@ empty_ones
     FieldArray
     FieldTable
       "": Void
-  ! offset 27: the input ends inside the FieldArray
+  ! offset 27: the input ends inside the FieldTable
   = truncated; more bytes needed: 3
   [1]
 

@@ -14,8 +14,9 @@ NOTE = re.compile(r" \((?:the key comes after|the type tag|the byte)[^)]*\)")
 PART = re.compile(r" *\d+  (?:[0-9a-f]{2}| {18})")
 FAULT = re.compile(r'amqp_show: ".*?": (line \d+, column \d+: .*|the text ends inside a byte.*|a dump of .*)')
 WITH_WORD = ("--depth", "--max-bytes", "--check")
-# A failure as a message, and the last line of a value of a stream.
-MESSAGE = re.compile(r'amqp_show: "(.*?)": (?:the value at (\d+): )?(offset \d+: .*)')
+# The file of a failure, and the last line of a value of a stream.
+FAILED = re.compile(r'amqp_show: "(.*?)": (?!more bytes follow|.* comes again;)')
+OFFSET = re.compile(r"^([!*] offset )(\d+):")
 IN_STREAM = re.compile(r"= at (\d+): (.*)")
 # What the page doesn't do, and cases in which amqp_show does nothing with its input.
 OTHERS = {"--encode", "--raw", "--help", "--version", "/dev/zero", "other", "1001", "folder", "--hex=1"}
@@ -79,9 +80,10 @@ def blocks_of(lines: list[str]) -> Iterator[tuple[int, list[str]]]:
         block.append(line)
         if line[:2] == "= ":
             found = IN_STREAM.fullmatch(line)
-            if found:
-                block[-1] = f"= {found[2]}"
-            yield int(found[1]) if found else 0, block
+            at = int(found[1]) if found else 0
+            block[-1] = f"= {found[2]}" if found else line
+            # (the page reads each value of a stream by itself)
+            yield at, [OFFSET.sub(lambda it: f"{it[1]}{int(it[2]) - at}:", it) for it in block]
             block = []
 
 
@@ -112,7 +114,7 @@ def stored_json() -> Iterator[tuple[str, str | None, bytes, dict[str, Any], str]
         words, lines = case.words, case.wants.out.decode().splitlines()
         if "--json" not in words or OTHERS & {*words} or {"--stream", "--max-bytes"} & {*words} or case.output.value:
             continue
-        failed = {file for file, _, _ in MESSAGE.findall(case.wants.error.decode())}
+        failed = {*FAILED.findall(case.wants.error.decode())}
         files = [it for it in files_of(words) if it not in failed and (it == "-" or (DATA / it).is_file())]
         for file, line in zip(files, lines):
             given = case.given if file == "-" else (DATA / file).read_bytes()

@@ -221,10 +221,10 @@ def test_a_table_without_its_type_tag(browser: Browser) -> None:
     browser.type("00000007 0161 7401 0162 56")
     assert drawn(browser) == ["FieldTable", '  "a": Boolean true', '  "b": Void']
     browser.choose("form", "value")
-    assert "the input is a table without its type tag; --table reads it" in browser.text("notes")
+    assert "the input seems to be a table without its type tag; --table reads it" in browser.text("notes")
     browser.choose("form", "table")
     browser.type("46 00000007 0161 7401 0162 56")
-    assert "the input has a type tag; without --table it is read" in browser.text("notes")
+    assert "the input seems to have a type tag; without --table it is read" in browser.text("notes")
 
 
 def test_a_link_has_the_bytes(browser: Browser) -> None:

@@ -18,23 +18,45 @@ const DEEPEST: i64 = 1_000;
 // The peers of which it is known what they close the connection for.
 const PEERS: &[&str] = &["rabbitmq", "rabbitmq-3.10", "rabbitmq-4.0", "rabbitmq-4.3"];
 
+// The options without a value.
+const FLAGS: &[(&str, &str)] = &[
+    ("hex", "Read hexadecimal text instead of bytes"),
+    ("table", "Read, or encode, a table without its type tag"),
+    ("stream", "Read values one after another, as they come"),
+    ("tree", "Show a tree of values and types (the default)"),
+    ("bytes", "Show each part with its offset and its bytes"),
+    ("json", "Show JSON, on a line for each value"),
+    ("encode", "Read JSON, and write its encoding in hexadecimal"),
+    ("raw", "With --encode: write the bytes themselves"),
+    ("canonical", "Mark what isn't canonical, in a tree or parts"),
+];
+
 const EXAMPLES: &str = "\
 Examples:
-  A table from a log, or with --table one without its type tag (46, an F):
+  A table from a log. Most have no type tag (46, an F) there: add --table.
     echo 460000000701617401016256 | amqp_show --hex
-  Where it is malformed, and each part up to there with its offset:
+    echo 0000000701617401016256 | amqp_show --hex --table
+  Where it is malformed or cut, and each part up to there with its offset:
     echo 4600000007016174010162 | amqp_show --hex --bytes
   How many values a file has, one after another:
     amqp_show --stream --json values.bin | wc -l
-  JSON to bytes for a test; docs/JSON.md has how types are named:
+  JSON to bytes for a test:
     echo '{\"a\":true,\"b\":{\"$LongInt\":5}}' | amqp_show --encode
+
+JSON: an integer is a LongLongInt, a string a LongString, null a Void. Other types are named:
+  {\"$LongInt\":5}, also ShortShortInt, ShortShortUInt, ShortInt, ShortUInt, LongUInt, Timestamp
+  {\"$Double\":\"3ff8000000000000\"}, the bits of 1.5, also Float
+  {\"$ByteArray\":\"00ff\"}, its digits, also LongString; {\"$DecimalValue\":\"314e-2\"}, 3.14
+Keys are sorted. One that begins with $ is written with one more.
+
+--check rabbitmq is rabbitmq-4.3, and 4.0 does the same: use either for 4.1 and 4.2. These
+weren't tried, nor 3.11 to 3.13.
 
 A line that begins with ! has the offset of the first problem and what it is,
 one with * what readers may differ on, and one with = what came of reading.
 
-Exit status: 0 if each value was read, 1 if one was rejected or is truncated,
-2 after a mistake in the arguments, the input's hexadecimal, or if a file
-can't be read or the output can't be written.";
+Exit status: 0 if each value was read, 1 if a value or JSON was rejected or is truncated, 2 after
+a mistake in the arguments or the hexadecimal, or if a file can't be read or the output written.";
 
 /// How a value is shown.
 #[derive(Clone, Copy, Debug, PartialEq, Eq)]
@@ -75,6 +97,8 @@ pub struct Settings {
     pub is_stream: bool,
     /// How a value is shown.
     pub form: Form,
+    /// How many bytes of a stream are before the value.
+    pub start: u64,
     /// What isn't canonical is noted.
     pub is_canonical: bool,
     /// The output is a terminal that is to have colours.
@@ -91,6 +115,7 @@ impl Settings {
             hex: matches.get_flag("hex"),
             is_stream: matches.get_flag("stream"),
             form: Form::from_matches(matches),
+            start: 0,
             is_canonical: matches.get_flag("canonical"),
             colours,
             limits: Limits {
@@ -105,133 +130,65 @@ impl Settings {
         if self.is_table { "table" } else { "value" }
     }
 
-    /// What has the bytes that the limits count.
-    pub fn tagged_name(&self) -> &'static str {
-        if self.is_table {
-            "table with its type tag"
-        } else {
-            "value"
-        }
-    }
-
     /// How many bytes of a value's encoding the input is without: a table's type tag.
     pub fn left_out(&self) -> usize {
         usize::from(self.is_table)
     }
 
     /// The offset in the input of what is at an offset of the value's encoding.
-    pub fn offset(&self, offset: usize) -> usize {
-        offset.saturating_sub(self.left_out())
+    pub fn offset(&self, offset: usize) -> u64 {
+        let offset = offset.saturating_sub(self.left_out());
+        self.start.saturating_add(offset as u64)
     }
 }
 
 /// The command line.
 pub fn command<'a>(alloc: Global) -> Result<Command<'a>, AllocError> {
-    let command = Command::new(alloc, "amqp_show")
+    let mut command = Command::new(alloc, "amqp_show")
         .version("0.1.0")
         .about("Shows AMQP 0-9-1 field tables, and at which byte one is malformed")
         .after_help(EXAMPLES);
-    let command = with_inputs(alloc, command)?;
-    let command = with_forms(alloc, command)?;
-    with_values(alloc, command)
+    for (name, help) in FLAGS {
+        let flag = Arg::new(alloc, name)
+            .long(name)
+            .action(ArgAction::SetTrue)
+            .help(help);
+        command = command.arg(with_relations(flag, name)?)?;
+    }
+    let check = Arg::new(alloc, "check")
+        .long("check")
+        .value_name("PEER")
+        .value_parser(PEERS)
+        .help("Show why a peer closes the connection, or else warnings")
+        .group("form")?
+        .conflicts_with("canonical")?;
+    let bytes = number(
+        alloc,
+        "max-bytes",
+        "1048576",
+        "Reject values of more than N bytes",
+    );
+    let deep = "Reject containers that nest more than N deep, at most 1000";
+    let depth = number(alloc, "depth", "64", deep).value_parser(value_parser!(u32).range(
+        0..=DEEPEST,
+    ));
+    let files = Arg::new(alloc, "FILE")
+        .action(ArgAction::Append)
+        .num_args(0..)
+        .help("Files; - or none is the standard input");
+    command.arg(check)?.arg(bytes)?.arg(depth)?.arg(files)
 }
 
-// Adds what is read.
-fn with_inputs<'a>(alloc: Global, command: Command<'a>) -> Result<Command<'a>, AllocError> {
-    command
-        .arg(flag(alloc, "hex", "Read hexadecimal text instead of bytes").conflicts_with(
-            "encode",
-        )?)?
-        .arg(flag(
-            alloc,
-            "table",
-            "Read a table without its type tag, as methods and headers have it; with --encode write one",
-        )
-        .conflicts_with("stream")?)?
-        .arg(flag(
-            alloc,
-            "stream",
-            "Read values one after another, and show each as it comes",
-        )
-        .conflicts_with("encode")?)
-}
-
-// Adds how it is shown. Of the options in the group only one may be used.
-fn with_forms<'a>(alloc: Global, command: Command<'a>) -> Result<Command<'a>, AllocError> {
-    command
-        .arg(form_flag(
-            alloc,
-            "tree",
-            "Show a tree with the type of each value (the default)",
-        )?)?
-        .arg(form_flag(
-            alloc,
-            "bytes",
-            "Show each part of the encoding with its offset and its bytes",
-        )?)?
-        .arg(form_flag(alloc, "json", "Show JSON, on a line for each value")?.conflicts_with(
-            "canonical",
-        )?)?
-        .arg(form_flag(
-            alloc,
-            "encode",
-            "Read JSON, and write the encoding of its value in hexadecimal",
-        )?
-        .conflicts_with("canonical")?)?
-        .arg(
-            Arg::new(alloc, "check")
-                .long("check")
-                .value_name("PEER")
-                .value_parser(PEERS)
-                .help("Show why a peer closes the connection, or else warnings")
-                .group("form")?
-                .conflicts_with("canonical")?,
-        )?
-        .arg(flag(alloc, "raw", "With --encode: write the bytes themselves").requires_arg(
-            "encode",
-        )?)?
-        .arg(flag(
-            alloc,
-            "canonical",
-            "Note in the tree or at the parts what isn't canonical",
-        ))
-}
-
-// Adds the limits, and the files.
-fn with_values<'a>(alloc: Global, command: Command<'a>) -> Result<Command<'a>, AllocError> {
-    command
-        .arg(number(
-            alloc,
-            "max-bytes",
-            "1048576",
-            "Reject values of more than N bytes",
-        ))?
-        .arg(number(
-            alloc,
-            "depth",
-            "64",
-            "Reject containers that nest more than N deep, at most 1000",
-        )
-        .value_parser(value_parser!(u32).range(0..=DEEPEST)))?
-        .arg(
-            Arg::new(alloc, "FILE")
-                .action(ArgAction::Append)
-                .num_args(0..)
-                .help("Files; - or none is the standard input"),
-        )
-}
-
-// One of the ways to show a value.
-fn form_flag<'a>(alloc: Global, name: &'a str, help: &'a str) -> Result<Arg<'a>, AllocError> {
-    flag(alloc, name, help).group("form")
-}
-
-// An option without a value.
-fn flag<'a>(alloc: Global, name: &'a str, help: &'a str) -> Arg<'a> {
-    Arg::new(alloc, name)
-        .long(name)
-        .action(ArgAction::SetTrue)
-        .help(help)
+// Which options an option without a value needs or excludes. Of those in the group only one may be used.
+fn with_relations<'a>(flag: Arg<'a>, name: &str) -> Result<Arg<'a>, AllocError> {
+    match name {
+        "hex" | "stream" => flag.conflicts_with("encode"),
+        "table" => flag.conflicts_with("stream"),
+        "tree" | "bytes" => flag.group("form"),
+        "json" | "encode" => flag.group("form")?.conflicts_with("canonical"),
+        "raw" => flag.requires_arg("encode"),
+        _ => Ok(flag),
+    }
 }
 
 // An option whose value is a number.

@@ -7,25 +7,36 @@ use crate::arguments::Settings;
 use crate::fault::{Fault, Result, Status};
 use crate::messages::complain;
 use crate::parts::parts_of;
-use crate::problems::problem_text;
+use crate::problems::{key_text, problem_text};
 use crate::screen::Screen;
 use amq_protocol_types::stream::Limits;
-use amqp_in_place::{Rules, first_problem};
+use amqp_in_place::rabbitmq::warnings;
+use amqp_in_place::{Rules, first_problem, is_canonical};
 use amqp_json::{DecodeError, json_of_encoding};
-use std::alloc::Global;
+use std::alloc::{AllocError, Global};
 
-/// Adds the JSON of the value of these bytes, if it isn't rejected.
+/// Shows the JSON of the value of these bytes, and reports a key that comes again; or reports why it is
+/// rejected.
 pub fn show_json(
-    alloc: Global,
+    rt: &HostRuntime,
     screen: &mut Screen,
+    file: &str,
     bytes: &[u8],
     settings: Settings,
 ) -> Result<Status> {
-    match push_json(alloc, screen, bytes, settings.limits) {
-        Ok(()) => Ok(Status::Read),
-        Err(DecodeError::Refused(_)) => Ok(Status::Rejected),
-        Err(DecodeError::OutOfMemory) => Err(Fault::OutOfMemory),
+    let (status, why) = match push_json(rt.alloc(), screen, bytes, settings.limits) {
+        Ok(()) => (Status::Read, repeated_text(rt.alloc(), bytes, settings)?),
+        Err(DecodeError::Refused(_)) => (
+            Status::Rejected,
+            failure_text(rt.alloc(), bytes, settings)?,
+        ),
+        Err(DecodeError::OutOfMemory) => return Err(Fault::OutOfMemory),
+    };
+    if let Some(why) = why {
+        screen.print(rt)?;
+        complain(rt, file, why.as_str())?;
     }
+    Ok(status)
 }
 
 // Adds the JSON of the value at the start of the bytes, on a line.
@@ -42,25 +53,32 @@ fn push_json(
     Ok(())
 }
 
-/// Reports why the value of these bytes is rejected, which are at this offset of a stream, if one.
-pub fn complain_of(
-    rt: &HostRuntime,
-    file: &str,
+// The first key that comes again in its table.
+fn repeated_text(
+    alloc: Global,
     bytes: &[u8],
-    offset: Option<u64>,
     settings: Settings,
-) -> Result<()> {
-    let alloc = rt.alloc();
+) -> Result<Option<String>, AllocError> {
+    if is_canonical(bytes, settings.limits) {
+        return Ok(None);
+    }
+    let warned = warnings(alloc, bytes, settings.limits, 0, u32::MAX)?;
+    let Some(pair) = warned.repeated_key else {
+        return Ok(None);
+    };
+    let what = "comes again; only its last value is shown";
+    Ok(Some(key_text(alloc, bytes, pair, what, settings)?))
+}
+
+// Why the value is rejected.
+fn failure_text(
+    alloc: Global,
+    bytes: &[u8],
+    settings: Settings,
+) -> Result<Option<String>, AllocError> {
     let Some(problem) = first_problem(bytes, Rules::Reading, settings.limits) else {
-        return Ok(());
+        return Ok(None);
     };
     let parts = parts_of(alloc, bytes, settings.limits.depth)?;
-    let why = problem_text(alloc, bytes, parts.as_slice(), problem, settings)?;
-    match offset {
-        Some(offset) => {
-            let why = format!(in alloc; "the value at {offset}: {why}")?;
-            complain(rt, file, why.as_str())
-        }
-        None => complain(rt, file, why.as_str()),
-    }
+    Ok(Some(problem_text(alloc, bytes, parts.as_slice(), problem, settings)?))
 }

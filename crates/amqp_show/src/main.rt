@@ -16,7 +16,6 @@ mod json;
 mod messages;
 mod parts;
 mod problems;
-mod progress;
 mod screen;
 mod show;
 mod terminal;
@@ -77,20 +76,15 @@ fn run(rt: &HostRuntime) -> Result<Status> {
         };
         status = status.and(match shown {
             Ok(status) => status,
-            Err(fault) => unless_of_file(rt, *file, fault)?,
+            Err(fault) if fault.is_of_file() => {
+                let why = format!(in alloc; "{fault}")?;
+                complain(rt, *file, why.as_str())?;
+                Status::Mistake
+            }
+            Err(fault) => return Err(fault),
         });
     }
     Ok(status)
-}
-
-// Reports a fault of a file, after which the next one follows.
-fn unless_of_file(rt: &HostRuntime, file: &str, fault: Fault) -> Result<Status> {
-    if !fault.is_of_file() {
-        return Err(fault);
-    }
-    let why = format!(in rt.alloc(); "{fault}")?;
-    complain(rt, file, why.as_str())?;
-    Ok(Status::Mistake)
 }
 
 // Prints what the arguments ask for, or why they can't be understood.

@@ -23,6 +23,8 @@ pub enum Field {
     Key,
     /// The payload of a value that isn't a container, after its length if it has one.
     Payload,
+    /// The beginning of a payload of that many bytes, of which the others aren't there.
+    Cut(u32),
     /// What isn't read, as it isn't there to its end, or is no value.
     Rest,
 }
@@ -80,6 +82,7 @@ pub fn parts_of<'a>(alloc: Global, bytes: &'a [u8], depth: u32) -> Result<Vec<Pa
         bytes,
         at: 0,
         level: 0,
+        payload: None,
         parts: Vec::new(alloc),
     };
     let mut open = Vec::new(alloc);
@@ -121,6 +124,8 @@ struct Walk<'a> {
     bytes: &'a [u8],
     at: usize,
     level: u32,
+    // How many bytes the payload has that isn't there to its end.
+    payload: Option<u32>,
     parts: Vec<Part<'a>>,
     ghost within: { at ≤ length bytes.now },
     ghost joined: { joined parts.items ≡ take at bytes.now },
@@ -162,8 +167,12 @@ impl<'a> Walk<'a> {
         ensures at { OnOk result (self.new.at ≡ length self.old.bytes.now) }
     {
         let count = self.bytes.len() - self.at;
+        let field = match self.payload {
+            Some(len) if count < len as usize => Field::Cut(len),
+            _ => Field::Rest,
+        };
         if count > 0 {
-            self.add(count, Field::Rest, None)?;
+            self.add(count, field, None)?;
         }
         Ok(())
     }
@@ -252,7 +261,11 @@ impl<'a> Walk<'a> {
         ensures { self.new.bytes ≡ self.old.bytes }
     {
         match leaf_of(value) {
-            None => Ok(false),
+            None => {
+                let len = value_len(SliceInput::new(value)).saturating_sub(header);
+                self.payload = u32::try_from(len).ok();
+                Ok(false)
+            }
             Some((ValueRef::Void, _)) => Ok(true),
             Some((_, len)) => {
                 let count = len.saturating_sub(header);

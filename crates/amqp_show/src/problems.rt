@@ -1,15 +1,16 @@
 //! Why a value isn't read, or closes a connection.
 
-use crate::arguments::Settings;
+use crate::arguments::{Form, Settings};
 use crate::parts::{Field, Part, type_of};
-use crate::texts::quoted;
+use crate::texts::{bytes_text, quoted};
 use amq_protocol_types::AMQPType;
 use amq_protocol_types::parsing::SliceInput;
 use amq_protocol_types::parsing::header::value_len;
 use amqp_in_place::{Problem, ProblemKind};
 use std::alloc::{AllocError, Global};
 
-/// The offset of the first problem in an encoding with these parts, and what it is.
+/// The offset of the first problem in an encoding with these parts, and what it is; and the keys that
+/// lead to it, unless a tree or the parts have them.
 pub fn problem_text(
     alloc: Global,
     encoding: &[u8],
@@ -17,38 +18,57 @@ pub fn problem_text(
     problem: Problem,
     settings: Settings,
 ) -> Result<String, AllocError> {
-    let there = encoding.get(problem.offset..).unwrap_or(&[]);
-    let is_truncated = is_truncated(problem);
-    let why = match problem.kind {
-        ProblemKind::UnknownTag(tag) => unknown_tag_text(alloc, tag)?,
-        ProblemKind::NotFinite => format!(in alloc; "the number is an infinity or a NaN")?,
-        ProblemKind::Cut if is_truncated => truncated_text(alloc, there)?,
-        ProblemKind::Cut if has_tag_at(parts, problem.offset) => cut_text(alloc, there)?,
-        ProblemKind::Cut => format!(in alloc; "a value is expected; its table ends here")?,
-        ProblemKind::KeyCut => {
+    let (place, at) = if is_truncated(problem) {
+        (innermost(encoding, parts), encoding.len())
+    } else {
+        (problem.offset, problem.offset)
+    };
+    let there = encoding.get(place..).unwrap_or(&[]);
+    let len = value_len(SliceInput::new(there));
+    let why = match (problem.kind, type_of(there)) {
+        (ProblemKind::UnknownTag(tag), _) => unknown_tag_text(alloc, tag)?,
+        (ProblemKind::NotFinite, _) => format!(in alloc; "the number is an infinity or a NaN")?,
+        (ProblemKind::Cut, Some(amqp_type)) if is_truncated(problem) => format!(in alloc;
+            "the input ends inside the {amqp_type}"
+        )?,
+        (ProblemKind::Cut, _) if is_truncated(problem) => format!(in alloc;
+            "a value is expected; the input ends here"
+        )?,
+        (ProblemKind::Cut, Some(amqp_type)) if has_tag_at(parts, place) => format!(in alloc;
+            "the {amqp_type} of {len} bytes goes past the end of its container"
+        )?,
+        (ProblemKind::Cut, _) => format!(in alloc; "a value is expected; its table ends here")?,
+        (ProblemKind::KeyCut, _) => {
             let len = there.first().copied().unwrap_or(0);
-            format!(in alloc; "the key of {len} bytes goes past the end of its table")?
+            let size = bytes_text(alloc, usize::from(len))?;
+            format!(in alloc; "the key of {size} goes past the end of its table")?
         }
-        ProblemKind::KeyNotUtf8 => {
+        (ProblemKind::KeyNotUtf8, _) => {
             let key = quoted(alloc, key_of(there))?;
             format!(in alloc; "the key {key} isn't UTF-8")?
         }
-        ProblemKind::TooDeep => format!(in alloc;
+        (ProblemKind::TooDeep, _) => format!(in alloc;
             "containers nest deeper than --depth {} allows",
             settings.limits.depth
         )?,
-        ProblemKind::TooLarge => {
-            let len = value_len(SliceInput::new(encoding));
-            let (name, most) = (settings.tagged_name(), settings.limits.frame);
-            format!(in alloc; "the {name} has {len} bytes, more than --max-bytes {most} allows")?
+        (ProblemKind::TooLarge, _) => {
+            let with_tag = if settings.is_table {
+                " with its type tag"
+            } else {
+                ""
+            };
+            let (name, most) = (settings.name(), settings.limits.frame);
+            let size = bytes_text(alloc, len)?;
+            format!(in alloc;
+                "the {name}{with_tag} has {size}, more than --max-bytes {most} allows"
+            )?
         }
     };
-    let at = if is_truncated {
-        encoding.len()
-    } else {
-        problem.offset
+    let path = match settings.form {
+        Form::Tree | Form::Bytes => String::new(alloc),
+        Form::Json | Form::Check(_) => path_text(alloc, parts, place)?,
     };
-    format!(in alloc; "offset {}: {why}", settings.offset(at))
+    format!(in alloc; "offset {}: {why}{path}", settings.offset(at))
 }
 
 /// Whether it is that the input ends inside the value.
@@ -56,32 +76,42 @@ pub fn is_truncated(problem: Problem) -> bool {
     problem.kind == ProblemKind::Cut && problem.offset == 0
 }
 
-// RabbitMQ has other type tags than this library.
+// RabbitMQ has other type tags than `amq_protocol_types`.
 fn unknown_tag_text(alloc: Global, tag: u8) -> Result<String, AllocError> {
-    match AMQPType::from_id(char::from(tag)) {
+    let name = char::from(tag);
+    match AMQPType::from_id(name) {
         Some(amqp_type) => format!(in alloc;
-            "RabbitMQ doesn't know the type tag {} ({amqp_type})",
-            char::from(tag)
+            "RabbitMQ doesn't know the type tag {name} ({amqp_type})"
         ),
         None => format!(in alloc; "a type tag is expected; {tag:02x} is none"),
     }
 }
 
-fn truncated_text(alloc: Global, there: &[u8]) -> Result<String, AllocError> {
-    match type_of(there) {
-        Some(amqp_type) => format!(in alloc; "the input ends inside the {amqp_type}"),
-        None => format!(in alloc; "a value is expected; the input ends here"),
+// Where the innermost value begins inside of which the input ends.
+fn innermost(encoding: &[u8], parts: &[Part<'_>]) -> usize {
+    let mut level = u32::MAX;
+    for part in parts.iter().rev() {
+        if matches!(part.field, Field::TypeTag(_)) && part.level < level {
+            let there = encoding.get(part.offset..).unwrap_or(&[]);
+            if value_len(SliceInput::new(there)) > there.len() {
+                return part.offset;
+            }
+            level = part.level;
+        }
     }
+    0
 }
 
-fn cut_text(alloc: Global, there: &[u8]) -> Result<String, AllocError> {
-    let len = value_len(SliceInput::new(there));
-    match type_of(there) {
-        Some(amqp_type) => format!(in alloc;
-            "the {amqp_type} of {len} bytes goes past the end of its container"
-        ),
-        None => format!(in alloc; "the value goes past the end of its container"),
-    }
+/// Something about the key of the pair at an offset.
+pub fn key_text(
+    alloc: Global,
+    encoding: &[u8],
+    pair: usize,
+    what: &str,
+    settings: Settings,
+) -> Result<String, AllocError> {
+    let key = quoted(alloc, key_of(encoding.get(pair..).unwrap_or(&[])))?;
+    format!(in alloc; "offset {}: the key {key} {what}", settings.offset(pair))
 }
 
 // Whether a value begins at an offset.
@@ -89,10 +119,64 @@ fn has_tag_at(parts: &[Part<'_>], offset: usize) -> bool {
     parts.iter().any(|part| part.offset == offset && matches!(part.field, Field::TypeTag(_)))
 }
 
-/// The key at the beginning of a pair.
-pub fn key_of(pair: &[u8]) -> &[u8] {
+// The key at the beginning of a pair.
+fn key_of(pair: &[u8]) -> &[u8] {
     match pair {
         [len, after @ ..] => after.get(..usize::from(*len)).unwrap_or(after),
         [] => &[],
     }
+}
+
+// What leads into a container: the number of its values that have begun, or the part that is the key.
+#[derive(Clone, Copy)]
+enum Step {
+    Index(usize),
+    Key(usize),
+    NoKey,
+}
+
+/// The keys and indices that lead to an offset, as `, in "a"[0]`: none to the outermost value.
+pub fn path_text(alloc: Global, parts: &[Part<'_>], offset: usize) -> Result<String, AllocError> {
+    let mut steps = Vec::new(alloc);
+    let mut is_after_key = false;
+    for (index, part) in parts.iter().enumerate() {
+        let is_inside = matches!(
+            part.field,
+            Field::Length(_) | Field::Payload | Field::Cut(_)
+        );
+        if part.offset > offset || is_inside {
+            continue;
+        }
+        steps.truncate(part.level as usize);
+        if let Some(step) = steps.last_mut() {
+            *step = match *step {
+                Step::Index(count) => Step::Index(count.saturating_add(1)),
+                _ if part.field == Field::Key => Step::Key(index),
+                Step::Key(_) | Step::NoKey if !is_after_key => Step::NoKey,
+                same => same,
+            };
+        }
+        is_after_key = part.field == Field::Key;
+        if part.offset < offset {
+            steps.push(match part.field {
+                Field::TypeTag(AMQPType::FieldArray) => Step::Index(0),
+                _ => Step::NoKey,
+            })?;
+        }
+    }
+    let mut path = String::new(alloc);
+    for step in &steps {
+        match *step {
+            Step::Index(count) => write!(path, "[{}]", count.saturating_sub(1))?,
+            Step::Key(index) => if let Some(part) = parts.get(index) {
+                let key = quoted(alloc, part.bytes)?;
+                write!(path, "{}{key}", if path.is_empty() { "" } else { "." })?;
+            },
+            Step::NoKey => {}
+        }
+    }
+    if path.is_empty() {
+        return Ok(path);
+    }
+    format!(in alloc; ", in {path}")
 }

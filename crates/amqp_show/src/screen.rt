@@ -161,14 +161,6 @@ impl Screen {
         self.print_to(&mut rt.stderr()).map_err(Fault::of_output)
     }
 
-    /// The same in place of the line that a terminal has there.
-    pub fn print_over(&mut self, rt: &HostRuntime) -> Result<(), Fault> {
-        rt.stderr()
-            .write_all(b"\r\x1b[K")
-            .map_err(Fault::of_output)?;
-        self.print_error(rt)
-    }
-
     fn print_to<W: Write>(&mut self, writer: &mut W) -> io::Result<()>
         ensures written { OnOk result
             (Appends (W.contents writer.old) (W.contents writer.new) (shown self.old)) }

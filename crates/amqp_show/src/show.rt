@@ -5,32 +5,21 @@ ghost use Rattle.amqp_in_place.specs.ProblemResults.{FindsValue};
 
 use crate::arguments::{Form, Settings};
 use crate::check::push_check;
-use crate::fault::{Fault, Result, Status};
+use crate::fault::{Result, Status};
 use crate::hexadecimal::is_hexadecimal;
 use crate::input::{BLOCK, Input};
-use crate::json::{complain_of, show_json};
+use crate::json::show_json;
 use crate::messages::complain;
 use crate::parts::{Note, Part, parts_of, type_of};
-use crate::problems::{is_truncated, problem_text};
-use crate::progress::Progress;
+use crate::problems::{is_truncated, key_text, problem_text};
 use crate::screen::{Colour, Screen};
-use crate::texts::quoted;
+use crate::texts::bytes_text;
 use crate::tree::{show_parts, show_tree};
 use amq_protocol_types::parsing::{Err, Needed};
-use amqp_in_place::{
-    Problem, ProblemKind, Rules, ValueRef, first_problem, read_in_place, read_table_in_place,
-};
+use amqp_in_place::{Problem, ProblemKind, Rules, first_problem, read_in_place};
 use std::alloc::{AllocError, Global};
 
-const HAS_TYPE_TAG: &str = "the input has a type tag; without --table it is read";
-
-const LACKS_TYPE_TAG: &str = "the input is a table without its type tag; --table reads it";
-
-const IS_HEXADECIMAL: &str = "the input seems to be hexadecimal; --hex reads it";
-
-const MORE: &str = "more bytes follow the table";
-
-const MORE_VALUES: &str = "more bytes follow the value; --stream shows values one after another";
+const MORE_VALUES: &str = "; --stream shows values one after another";
 
 /// Shows the value at the beginning of a file, or each of a stream.
 pub fn show_file(rt: &HostRuntime, file: &str, settings: Settings) -> Result<Status> {
@@ -44,17 +33,15 @@ pub fn show_file(rt: &HostRuntime, file: &str, settings: Settings) -> Result<Sta
         screen.push_line(":")?;
     }
     if settings.is_stream {
-        let mut progress = Progress::new(rt);
-        let shown = show_stream(rt, &mut screen, file, input, &mut progress, settings);
-        progress.erase(rt)?;
+        let shown = show_stream(rt, &mut screen, file, input, settings);
         screen.print(rt)?;
         return shown;
     }
     show_first(rt, &mut screen, file, &mut input, settings)
 }
 
-// Shows the value at the beginning of an input, and reports that more bytes follow, or what the input
-// may be instead.
+// Shows the value at the beginning of an input, and reports that more bytes follow; or reports what the
+// input is instead.
 fn show_first(
     rt: &HostRuntime,
     screen: &mut Screen,
@@ -62,42 +49,43 @@ fn show_first(
     input: &mut Input,
     settings: Settings,
 ) -> Result<Status> {
+    if let Some(hint) = hint(input, settings)? {
+        complain(rt, file, hint)?;
+        return Ok(Status::Rejected);
+    }
     let bytes = input.next_value(settings.limits.frame)?;
     let len = bytes.len();
-    let status = show_value(rt, screen, bytes, None, settings)?;
+    let status = show_value(rt, screen, file, bytes, settings)?;
     screen.print(rt)?;
-    if status == Status::Rejected {
-        if settings.form == Form::Json {
-            complain_of(rt, file, bytes, None, settings)?;
-        }
-        if let Some(hint) = hint(input, settings)? {
-            complain(rt, file, hint)?;
-        }
-    } else if input.up_to(len.saturating_add(1))?.len() > len {
-        complain(rt, file, if settings.is_table { MORE } else { MORE_VALUES })?;
+    if status == Status::Read && input.up_to(len.saturating_add(1))?.len() > len {
+        let hint = if settings.is_table { "" } else { MORE_VALUES };
+        let offset = settings.offset(len);
+        let why = format!(in rt.alloc(); "more bytes follow, from offset {offset}{hint}")?;
+        complain(rt, file, why.as_str())?;
     }
     Ok(status)
 }
 
-// What a rejected input may be instead, if all of it is that.
+// What an input is instead that doesn't begin with a value.
 fn hint(input: &mut Input, settings: Settings) -> Result<Option<&'static str>> {
-    let limits = settings.limits;
-    if !settings.is_table && type_of(input.up_to(1)?).is_some() {
+    let most = settings.limits.frame;
+    if settings.is_table {
+        // (after the type tag that was put there; if it began a length, that would be beyond the limits)
+        let has_tag = matches!(input.up_to(2)?, b"FF") && most < 0x4600_0000;
+        return Ok(has_tag.then_some(
+            "the input seems to have a type tag; without --table it is read",
+        ));
+    }
+    if type_of(input.up_to(1)?).is_some() {
         return Ok(None);
     }
-    let bytes = input.up_to(limits.frame as usize)?;
-    if settings.is_table {
-        // (after the type tag that was put there)
-        return Ok(match read_in_place(bytes.get(1..).unwrap_or(&[]), limits) {
-            Ok((ValueRef::FieldTable(_), [])) => Some(HAS_TYPE_TAG),
-            _ => None,
-        });
-    }
-    if !settings.hex && is_hexadecimal(bytes) {
-        return Ok(Some(IS_HEXADECIMAL));
-    }
-    Ok(match read_table_in_place(bytes, limits) {
-        Ok((_, [])) => Some(LACKS_TYPE_TAG),
+    let bytes = input.up_to(most as usize)?;
+    Ok(match bytes {
+        [0, ..] => Some("the input seems to be a table without its type tag; --table reads it"),
+        [b'{' | b'[', ..] if !settings.hex => Some("the input seems to be JSON; --encode reads it"),
+        _ if !settings.hex && is_hexadecimal(bytes) => Some(
+            "the input seems to be hexadecimal; --hex reads it",
+        ),
         _ => None,
     })
 }
@@ -109,10 +97,8 @@ fn show_stream(
     screen: &mut Screen,
     file: &str,
     mut input: Input,
-    progress: &mut Progress,
-    settings: Settings,
+    mut settings: Settings,
 ) -> Result<Status> {
-    let mut offset: u64 = 0;
     for _ in 0..u64::MAX {
         if screen.len() >= BLOCK || !input.has_next() {
             screen.print(rt)?;
@@ -122,42 +108,28 @@ fn show_stream(
             break;
         }
         let len = bytes.len();
-        let status = show_value(rt, screen, bytes, Some(offset), settings)?;
+        let status = show_value(rt, screen, file, bytes, settings)?;
         if status == Status::Rejected {
-            progress.erase(rt)?;
-            screen.print(rt)?;
-            if settings.form == Form::Json {
-                complain_of(rt, file, bytes, Some(offset), settings)?;
-            }
             return Ok(status);
         }
         input.pass(len);
-        offset = offset.saturating_add(len as u64);
-        progress.reach(rt, offset)?;
+        settings.start = settings.start.saturating_add(len as u64);
     }
     Ok(Status::Read)
 }
 
-// Shows the value of these bytes, which are at this offset of a stream, if one. Why it is rejected is
-// shown too, but for JSON.
+// Shows the value of these bytes, or why it is rejected.
 fn show_value(
     rt: &HostRuntime,
     screen: &mut Screen,
+    file: &str,
     bytes: &[u8],
-    offset: Option<u64>,
     settings: Settings,
 ) -> Result<Status> {
     match settings.form {
-        Form::Tree | Form::Bytes => show_text(rt, screen, bytes, offset, settings),
-        Form::Check(version) => Ok(push_check(
-            rt.alloc(),
-            screen,
-            bytes,
-            offset,
-            version,
-            settings,
-        )?),
-        Form::Json => show_json(rt.alloc(), screen, bytes, settings),
+        Form::Tree | Form::Bytes => show_text(rt, screen, bytes, settings),
+        Form::Check(version) => Ok(push_check(rt.alloc(), screen, bytes, version, settings)?),
+        Form::Json => show_json(rt, screen, file, bytes, settings),
     }
 }
 
@@ -166,7 +138,6 @@ fn show_text(
     rt: &HostRuntime,
     screen: &mut Screen,
     bytes: &[u8],
-    offset: Option<u64>,
     settings: Settings,
 ) -> Result<Status>
     ensures { IfOk result (λ status.
@@ -181,24 +152,17 @@ fn show_text(
     let parts = parts_of(alloc, shown, settings.limits.depth)?;
     let parts = parts.as_slice();
     if settings.form == Form::Bytes {
-        show_parts(
-            rt,
-            screen,
-            bytes,
-            parts,
-            settings.left_out(),
-            settings.is_canonical,
-        )?;
+        show_parts(rt, screen, bytes, parts, settings)?;
     } else {
         show_tree(rt, screen, bytes, parts, settings.is_canonical)?;
     }
-    push_repeated(alloc, screen, parts, settings)?;
+    push_repeated(alloc, screen, bytes, parts, settings)?;
     if let Some(problem) = problem {
         let why = problem_text(alloc, bytes, parts, problem, settings)?;
-        push_failure(alloc, screen, why.as_str())?;
+        push_remark(alloc, screen, Colour::Failure, why.as_str())?;
     }
     let outcome = outcome_text(alloc, bytes, problem, settings)?;
-    push_outcome(alloc, screen, outcome.as_str(), offset)?;
+    push_outcome(alloc, screen, outcome.as_str(), settings)?;
     Ok(match problem {
         Some(_) => Status::Rejected,
         None => Status::Read,
@@ -209,19 +173,17 @@ fn show_text(
 fn push_repeated(
     alloc: Global,
     screen: &mut Screen,
+    bytes: &[u8],
     parts: &[Part<'_>],
     settings: Settings,
 ) -> Result<(), AllocError> {
     let Some(part) = parts.iter().find(|part| part.note == Some(Note::Repeated)) else {
         return Ok(());
     };
-    let key = quoted(alloc, part.bytes)?;
+    let what = "comes again; readers differ in which value they take";
     // (the key's length is before it)
-    let offset = settings.offset(part.offset.saturating_sub(1));
-    let why = format!(in alloc;
-        "offset {offset}: the key {key} comes again; readers differ in which value they take"
-    )?;
-    push_warning(alloc, screen, why.as_str())
+    let why = key_text(alloc, bytes, part.offset.saturating_sub(1), what, settings)?;
+    push_remark(alloc, screen, Colour::Note, why.as_str())
 }
 
 // What reading the bytes results in.
@@ -233,8 +195,8 @@ fn outcome_text(
 ) -> Result<String, AllocError> {
     match problem {
         None => {
-            let (name, len) = (settings.name(), settings.offset(bytes.len()));
-            format!(in alloc; "a {name} of {len} bytes")
+            let size = bytes_text(alloc, bytes.len().saturating_sub(settings.left_out()))?;
+            format!(in alloc; "a {} of {size}", settings.name())
         }
         Some(problem) if is_truncated(problem) => match read_in_place(bytes, settings.limits) {
             Err(Err::Incomplete(Needed::Size(needed))) => format!(in alloc;
@@ -252,30 +214,34 @@ pub fn is_beyond_limits(problem: Problem) -> bool {
     matches!(problem.kind, ProblemKind::TooDeep | ProblemKind::TooLarge)
 }
 
-/// Adds a line about a failure.
-pub fn push_failure(alloc: Global, screen: &mut Screen, why: &str) -> Result<(), AllocError> {
-    let line = format!(in alloc; "! {why}")?;
-    screen.push_coloured(line.as_str(), Colour::Failure)?;
+/// Adds a line about a failure, or about what readers may differ on.
+pub fn push_remark(
+    alloc: Global,
+    screen: &mut Screen,
+    colour: Colour,
+    why: &str,
+) -> Result<(), AllocError> {
+    let mark = if let Colour::Failure = colour {
+        '!'
+    } else {
+        '*'
+    };
+    let line = format!(in alloc; "{mark} {why}")?;
+    screen.push_coloured(line.as_str(), colour)?;
     screen.end_line()
 }
 
-/// Adds a line about what readers may differ on.
-pub fn push_warning(alloc: Global, screen: &mut Screen, why: &str) -> Result<(), AllocError> {
-    let line = format!(in alloc; "* {why}")?;
-    screen.push_coloured(line.as_str(), Colour::Note)?;
-    screen.end_line()
-}
-
-/// Adds a line about what came of the value at this offset of a stream, if it is of one.
+/// Adds a line about what came of the value, and where it is in a stream.
 pub fn push_outcome(
     alloc: Global,
     screen: &mut Screen,
     outcome: &str,
-    offset: Option<u64>,
+    settings: Settings,
 ) -> Result<(), AllocError> {
-    let line = match offset {
-        Some(offset) => format!(in alloc; "= at {offset}: {outcome}")?,
-        None => format!(in alloc; "= {outcome}")?,
+    let line = if settings.is_stream {
+        format!(in alloc; "= at {}: {outcome}", settings.start)?
+    } else {
+        format!(in alloc; "= {outcome}")?
     };
     screen.push_line(line.as_str())
 }

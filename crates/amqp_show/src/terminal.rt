@@ -33,11 +33,6 @@ pub fn is_terminal(rt: &HostRuntime) -> bool {
     rt.stdout().is_terminal()
 }
 
-/// Whether the standard error is a terminal.
-pub fn is_error_terminal(rt: &HostRuntime) -> bool {
-    rt.stderr().is_terminal()
-}
-
 /// Whether a terminal shows the character and doesn't obey it.
 pub fn does_print(c: char) -> bool
     ensures { result ≡ prints c }

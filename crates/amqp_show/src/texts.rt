@@ -36,6 +36,14 @@ fn push_quoted(text: &mut String, c: char) -> Result<(), AllocError> {
     text.push(c)
 }
 
+/// A number of bytes.
+pub fn bytes_text(alloc: Global, count: usize) -> Result<String, AllocError> {
+    match count {
+        1 => format!(in alloc; "1 byte"),
+        _ => format!(in alloc; "{count} bytes"),
+    }
+}
+
 /// A value that isn't a container: nothing of Void, and with a Timestamp its date.
 pub fn value_text(alloc: Global, value: ValueRef<'_>) -> Result<String, AllocError> {
     match value {

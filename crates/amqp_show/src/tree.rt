@@ -1,5 +1,6 @@
 //! The parts of a value, as a tree or each on a line.
 
+use crate::arguments::Settings;
 use crate::fault::Result;
 use crate::input::BLOCK;
 use crate::parts::{Field, Note, Part, leaf_of};
@@ -35,14 +36,14 @@ pub fn show_tree(
         match part.field {
             Field::KeyLength(_) | Field::Length(_) => continue,
             Field::TypeTag(_) if is_after_key => screen.push(": ")?,
-            Field::Payload => {}
+            Field::Payload | Field::Cut(_) => {}
             Field::TypeTag(_) | Field::Key | Field::Rest => begin_line(screen, index, part.level)?,
         }
         if let Field::TypeTag(_) = part.field {
             value = encoding.get(part.offset..).unwrap_or(&[]);
         }
         is_after_key = part.field == Field::Key;
-        push_node(rt.alloc(), screen, part, value)?;
+        push_node(rt.alloc(), screen, part, value, " ")?;
         push_note(screen, part.note, is_canonical)?;
         if screen.len() >= BLOCK {
             screen.print(rt)?;
@@ -70,12 +71,14 @@ fn push_spaces(screen: &mut Screen, count: usize) -> Result<(), AllocError> {
     screen.push(SPACES.get(..count).unwrap_or(SPACES))
 }
 
-// Adds what the tree has of a part, of the value at the beginning of some bytes.
+// Adds what the tree has of a part, of the value at the beginning of some bytes; and before a payload
+// some words.
 fn push_node(
     alloc: Global,
     screen: &mut Screen,
     part: &Part<'_>,
     value: &[u8],
+    before: &str,
 ) -> Result<(), AllocError> {
     match part.field {
         Field::KeyLength(_) | Field::Length(_) => Ok(()),
@@ -87,39 +90,40 @@ fn push_node(
             let name = format!(in alloc; "{amqp_type}")?;
             screen.push(name.as_str())
         }
-        Field::Payload => push_payload(alloc, screen, " ", value),
-        Field::Rest => push_rest(alloc, screen, part.bytes),
+        Field::Payload => push_payload(alloc, screen, before, value),
+        Field::Cut(_) => {
+            screen.push(before)?;
+            push_rest(alloc, screen, part, value)
+        }
+        Field::Rest => push_rest(alloc, screen, part, value),
     }
 }
 
-/// Shows a line for each part: its offset, of which `left_out` bytes aren't in the input; its bytes in
-/// hexadecimal, the first of them if they are many; and what it is, indented by its depth.
+/// Shows a line for each part that is in the input: its offset; its bytes in hexadecimal, the first of
+/// them if they are many; and what it is, indented by its depth.
 pub fn show_parts(
     rt: &HostRuntime,
     screen: &mut Screen,
     encoding: &[u8],
     parts: &[Part<'_>],
-    left_out: usize,
-    is_canonical: bool,
+    settings: Settings,
 ) -> Result<()> {
     let alloc = rt.alloc();
     let mut value = encoding;
-    let mut text = String::new(alloc);
     for part in parts {
+        if part.offset < settings.left_out() {
+            continue;
+        }
         if let Field::TypeTag(_) = part.field {
             value = encoding.get(part.offset..).unwrap_or(&[]);
         }
-        let Some(offset) = part.offset.checked_sub(left_out) else {
-            continue;
-        };
         let digits = first_digits(alloc, part.bytes)?;
-        text.clear();
-        write!(text, "{offset:>6}  {digits}")?;
-        screen.push(text.as_str())?;
+        let begin = format!(in alloc; "{:>6}  {digits}", settings.offset(part.offset))?;
+        screen.push(begin.as_str())?;
         let column = COLUMN.saturating_sub(digits.len());
         push_spaces(screen, column.saturating_add(indentation(part.level)))?;
-        push_field(alloc, screen, &mut text, part, value)?;
-        push_note(screen, part.note, is_canonical)?;
+        push_field(alloc, screen, part, value)?;
+        push_note(screen, part.note, settings.is_canonical)?;
         screen.end_line()?;
         if screen.len() >= BLOCK {
             screen.print(rt)?;
@@ -137,31 +141,28 @@ fn first_digits(alloc: Global, bytes: &[u8]) -> Result<String, AllocError> {
     Ok(digits)
 }
 
-// Adds what a part is, of the value at the beginning of some bytes. The text is for words.
+// Adds what a part is, of the value at the beginning of some bytes.
 fn push_field(
     alloc: Global,
     screen: &mut Screen,
-    text: &mut String,
     part: &Part<'_>,
     value: &[u8],
 ) -> Result<(), AllocError> {
-    text.clear();
-    match part.field {
+    let text = match part.field {
         Field::TypeTag(amqp_type) => {
             let tag = value.first().map_or(' ', |tag| char::from(*tag));
-            write!(text, "type tag {tag}, {amqp_type}")?;
+            format!(in alloc; "type tag {tag}, {amqp_type}")?
         }
-        Field::Length(len) => write!(text, "length {len}")?,
-        Field::KeyLength(len) => write!(text, "key length {len}")?,
-        Field::Key => {
-            let key = quoted(alloc, part.bytes)?;
-            write!(text, "key {key}")?;
-            return screen.push_coloured(text.as_str(), Colour::Key);
-        }
-        Field::Payload => return push_payload(alloc, screen, "", value),
-        Field::Rest => return push_rest(alloc, screen, part.bytes),
+        Field::Length(len) => format!(in alloc; "length {len}")?,
+        Field::KeyLength(len) => format!(in alloc; "key length {len}")?,
+        Field::Key => format!(in alloc; "key ")?,
+        Field::Payload | Field::Cut(_) | Field::Rest => String::new(alloc),
+    };
+    screen.push(text.as_str())?;
+    match part.field {
+        Field::TypeTag(_) => Ok(()),
+        _ => push_node(alloc, screen, part, value, ""),
     }
-    screen.push(text.as_str())
 }
 
 // Adds the value at the beginning of some bytes, unless its text is empty.
@@ -182,11 +183,30 @@ fn push_payload(
     screen.push(text.as_str())
 }
 
-// Adds what isn't read: the first bytes if they are many.
-fn push_rest(alloc: Global, screen: &mut Screen, bytes: &[u8]) -> Result<(), AllocError> {
-    let first = quoted(alloc, bytes.get(..REST).unwrap_or(bytes))?;
-    let dots = if bytes.len() > REST { ".." } else { "" };
-    let text = format!(in alloc; "{first}{dots} (not read)")?;
+// Adds what isn't decoded, in the value at the beginning of some bytes: the first bytes if they are many.
+fn push_rest(
+    alloc: Global,
+    screen: &mut Screen,
+    part: &Part<'_>,
+    value: &[u8],
+) -> Result<(), AllocError> {
+    let shown = part.bytes.get(..REST).unwrap_or(part.bytes);
+    let count = part.bytes.len();
+    let dots = if count > REST { ".." } else { "" };
+    let text = match (part.field, value.first()) {
+        (Field::Cut(len), Some(b'S')) => {
+            let words = quoted(alloc, shown)?;
+            format!(in alloc; "{words}{dots} ({count} of {len} bytes)")?
+        }
+        (Field::Cut(len), _) => {
+            let digits = hex::encode(alloc, shown)?;
+            format!(in alloc; "{digits}{dots} ({count} of {len} bytes)")?
+        }
+        _ => {
+            let words = quoted(alloc, shown)?;
+            format!(in alloc; "{words}{dots} (not decoded)")?
+        }
+    };
     screen.push_coloured(text.as_str(), Colour::Failure)
 }
 
