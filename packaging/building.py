@@ -10,7 +10,7 @@ from pathlib import Path
 
 from crates import TOP, Crates, kit, said_by
 
-# The crates of the calls for C: those that don't allocate, and those that do.
+# The crates of the calls for C: those that don't allocate, and those that do. The second uses the first as a library.
 CALLS_FOR_C = ("amqp_c", "amqp_c_alloc")
 # What these are compiled for: a target, and the processor, of each target the one whose code every other runs.
 X86_64, AARCH64, WASM64 = "x86_64-unknown-linux-gnu", "aarch64-unknown-linux-gnu", "wasm64-unknown-unknown"
@@ -93,7 +93,8 @@ def build_archive(crates: Crates, name: str, is_built: bool, target: str = X86_6
                 "-o",
                 str(path),
             ]
-            words = [f"{kit()}/bin/rattle", "build", *crates.words(name), *how]
+            kind = [] if name in crates.static else ["--crate-type", "staticlib"]
+            words = [f"{kit()}/bin/rattle", "build", *crates.words(name), *kind, *how]
         return subprocess.run(words, cwd=folder, capture_output=True, text=True)
     finally:
         os.close(lock)

@@ -1,41 +1,88 @@
-"""The calls for C that tests compare with the model, by ctypes, on bytes. `load` is first.
+"""The calls for C, by ctypes. `load` is first.
 
-An error of the library is a `Failed`, with the result and the count, or the problem of a JSON text.
+What a call reads, and the buffer that it writes to, end where a page begins that can't be accessed. A function returns the
+call's result and what the call has set; a struct that is as it was before is None.
 """
 
 import ctypes
-from ctypes import byref, c_size_t, c_uint8, c_uint32
+import mmap
+from ctypes import byref, c_char, c_size_t, c_uint8, c_uint32, c_uint64
 from typing import Any
 
-FRAME, DEPTH, NESTING = 2**20, 64, 127
-# Results, rules and problems of include/amqp_values.h.
-NONE, MORE, UNKNOWN_TAG, MALFORMED, TOO_LARGE, NO_ROOM, NOT_JSON = 1, -1, -2, -3, -4, -7, -8
-RULES = {"read": 0, "any keys": 1, "RabbitMQ": 2}
-TOO_DEEP, NOT_UTF8, NOT_A_JSON, NO_VALUE = 5, 8, 9, 10
-_NOWHERE = 2 ** (8 * ctypes.sizeof(c_size_t)) - 1
+OK, NONE = 0, 1
+(
+    MORE, UNKNOWN_TAG, CUT, KEY_CUT, KEY_NOT_UTF8, NOT_FINITE, TOO_DEEP, TOO_LARGE, NOT_UTF8, NOT_JSON, NOT_A_VALUE,
+    NO_ENCODING, INVALID, BAD_KEY, BAD_TAG, OUT_OF_RANGE, NO_ROOM, NO_MEMORY,
+) = range(-1, -19, -1)  # fmt: skip
+UNTAGGED, ANY_KEYS, RABBITMQ, FIRST_KEY = 1, 2, 4, 8
+MAX_BYTES, MAX_DEPTH, NESTING = 2**20, 64, 127
+NOWHERE = 2**64 - 1
+# The kind of a problem in tests/model/tables.py, by the result.
+KINDS = {UNKNOWN_TAG: 1, NOT_FINITE: 2, CUT: 3, MORE: 3, KEY_CUT: 4, TOO_DEEP: 5, TOO_LARGE: 6, KEY_NOT_UTF8: 7}
+Found = tuple[Any, ...] | None
+
+
+class Struct(ctypes.Structure):
+    """A struct whose bytes are 5a before a call."""
+
+    @classmethod
+    def fresh(cls) -> Any:
+        return cls.from_buffer_copy(b"\x5a" * ctypes.sizeof(cls))
+
+    def found(self) -> Found:
+        """Its fields, or nothing if no call has written to it."""
+        if bytes(self) == b"\x5a" * ctypes.sizeof(self):
+            return None
+        fields = [getattr(self, it[0]) for it in self._fields_]
+        return tuple(it.found() or (0x5A5A5A5A5A5A5A5A,) * 2 if isinstance(it, Struct) else it for it in fields)
+
+
+def _struct(name: str, *fields: tuple[str, Any]) -> type[Struct]:
+    return type(name, (Struct,), {"_fields_": [*fields]})
+
+
+def _sizes(*names: str) -> list[tuple[str, Any]]:
+    return [(it, c_size_t) for it in names]
+
+
+Span = _struct("Span", *_sizes("offset", "length"))
+SPANS = [(it, Span) for it in ("key", "value", "content")]
+Entry = _struct("Entry", *SPANS, ("bits", c_uint64), ("tag", c_uint8), ("scale", c_uint8))
+Cursor = _struct("Cursor", ("left", Span), ("tag", c_uint8))
+Problem = _struct("Problem", *_sizes("offset", "missing"), ("tag", c_uint8))
+Size = _struct("Size", *_sizes("bytes", "values", "levels"))
+Step = _struct("Step", ("key", ctypes.c_void_p), *_sizes("key_length", "index"), ("into", c_uint8))
+LIMITS = [("max_bytes", c_uint32), ("max_depth", c_uint32), ("flags", c_uint32)]
+Input = _struct("Input", ("bytes", ctypes.c_void_p), ("length", c_size_t), *LIMITS)
+FLAGS = [("tag", c_uint8), ("inner", c_uint8), ("any_keys", c_uint8)]
+Container = _struct("Container", ("written", Span), *FLAGS, ("needed", c_size_t))
+OFFSETS = ("repeated_key", "key_not_utf8", "empty_key", "too_deep", "decimal", "nested_header")
+LATER = [("exceeds_frame", c_uint8), ("reserved_flags", c_uint8 * 7)]
+Warnings = _struct("Warnings", *_sizes(*OFFSETS), ("reserved", c_size_t * 4), *LATER)
+
+
+class Place:
+    """Bytes that end where a page begins that can't be accessed."""
+
+    def __init__(self, size: int) -> None:
+        self.size = -(-size // mmap.PAGESIZE) * mmap.PAGESIZE
+        self.map = mmap.mmap(-1, self.size + mmap.PAGESIZE)
+        end = ctypes.addressof(c_char.from_buffer(self.map)) + self.size
+        assert ctypes.CDLL(None).mprotect(ctypes.c_void_p(end), c_size_t(mmap.PAGESIZE), 0) == 0
+        self.end = end
+
+    def put(self, data: bytes) -> ctypes.c_void_p:
+        """The address of these bytes."""
+        assert len(data) <= self.size
+        self.map[self.size - len(data) : self.size] = data
+        return ctypes.c_void_p(self.end - len(data))
+
+    def last(self, count: int) -> bytes:
+        return self.map[self.size - count : self.size]
+
+
 _library: ctypes.CDLL
-
-
-def _struct(*fields: tuple[str, Any]) -> type[ctypes.Structure]:
-    return type("Struct", (ctypes.Structure,), {"_fields_": [*fields]})
-
-
-_Span = _struct(("offset", c_size_t), ("length", c_size_t))
-_Entry = _struct(*((it, _Span) for it in ("key", "value", "content")), ("bits", ctypes.c_uint64), ("tags", c_uint8 * 8))
-_Measure = _struct(*((it, c_size_t) for it in ("length", "values", "levels")))
-_Problem = _struct(("offset", c_size_t), ("kind", c_uint8), ("tag", c_uint8))
-_Warnings = _struct(
-    *((it, c_size_t) for it in ("repeated_key", "key_not_utf8", "empty_key", "too_deep")), ("exceeds_frame", c_uint8)
-)
-Problem = tuple[int, int, int]
-
-
-class Failed(Exception):
-    """What a call returned that isn't AMQPV_OK, and what it counted or found."""
-
-    def __init__(self, result: int, found: Any) -> None:
-        super().__init__(result, found)
-        self.result, self.found = result, found
+_given, _keys, _buffer = Place(8 << 20), Place(1 << 16), Place(8 << 20)
 
 
 def load(path: str) -> None:
@@ -44,79 +91,163 @@ def load(path: str) -> None:
     _library = ctypes.CDLL(path)
 
 
-def _called(name: str, data: bytes, *arguments: Any) -> int:
-    given = [c_uint32(it) if isinstance(it, int) else it for it in arguments]
-    result: int = getattr(_library, f"amqpv_{name}")(data, c_size_t(len(data)), *given)
+def called(name: str, *arguments: Any) -> int:
+    result: int = getattr(_library, f"amqpv_{name}")(*arguments)
     return result
 
 
-def _of(name: str, table: bool) -> str:
-    """The name of the same call for a table without its type tag."""
-    return {"read": "read_table", "measure_value": "measure_table"}.get(name, f"{name}_in_table") if table else name
+def given(data: bytes, flags: int = 0, max_bytes: int = MAX_BYTES, max_depth: int = MAX_DEPTH) -> Any:
+    """An input."""
+    return Input(_given.put(data).value, len(data), max_bytes, max_depth, flags)
 
 
-def measured(data: bytes, table: bool = False, frame: int = FRAME, depth: int = DEPTH) -> tuple[int, int, int]:
-    """The bytes, the values and the levels of what is at the start, which amqpv_read reads too."""
-    found: Any = _Measure()
-    entry: Any = _Entry()
-    counts = c_size_t(), c_size_t()
-    result = _called(_of("measure_value", table), data, frame, depth, byref(found), byref(counts[0]))
-    again = _called(_of("read", table), data, frame, depth, byref(entry), byref(counts[1]))
-    assert (result, counts[0].value) == (again, counts[1].value)
-    if result:
-        raise Failed(result, counts[0].value)
-    assert entry.value.length == found.length == counts[0].value
-    return found.length, found.values, found.levels
+# Reading. `limits` are the flags, max_bytes and max_depth of the input.
 
 
-def first_problem(data: bytes, rules: str = "RabbitMQ", table: bool = False, depth: int = DEPTH) -> Problem | None:
-    found: Any = _Problem()
-    result = _called(_of("first_problem", table), data, RULES[rules], FRAME, depth, byref(found))
-    return None if result == NONE else (found.offset, found.kind, found.tag)
+def read(data: bytes, *limits: int, call: str = "read", of: type[Struct] = Entry) -> tuple[int, Found, Found]:
+    """The result, the entry and the problem."""
+    entry, problem = of.fresh(), Problem.fresh()
+    result = called(call, byref(given(data, *limits)), byref(entry), byref(problem))
+    return result, entry.found(), problem.found()
 
 
-def first_warnings(data: bytes, levels: int, depth: int, frame_max: int, table: bool = False) -> dict[str, Any] | None:
-    """What is doubtful, by its name: an offset or None, and of the frame a bool."""
-    found: Any = _Warnings()
-    if _called(_of("first_warnings", table), data, depth, frame_max, levels, byref(found)) == NONE:
-        return None
-    offsets = {it: getattr(found, it) for it, _ in _Warnings._fields_[:-1]}  # type: ignore[misc]
-    exceeds = {"exceeds_frame": found.exceeds_frame == 1}
-    return {it: None if at == _NOWHERE else at for it, at in offsets.items()} | exceeds
+def first_problem(data: bytes, table: bool = False, max_bytes: int = 2**32 - 1) -> tuple[int, int, int] | None:
+    """The first thing that RabbitMQ doesn't accept, in the form of tests/model/tables.py, or nothing."""
+    result, _, problem = read(data, RABBITMQ | UNTAGGED * table, max_bytes)
+    return (problem[0], KINDS[result], problem[2]) if problem else None
 
 
-def _written(name: str, data: bytes, *arguments: Any) -> bytes:
-    count, buffer = c_size_t(), ctypes.create_string_buffer(0)
-    while (result := _called(name, data, *arguments, buffer, c_size_t(len(buffer)), byref(count))) == NO_ROOM:
-        buffer = ctypes.create_string_buffer(count.value)
-    if result:
-        raise Failed(result, count.value)
-    return buffer.raw[: count.value]
+def measure(data: bytes, *limits: int) -> tuple[int, Found, Found]:
+    """The result, the size and the problem."""
+    return read(data, *limits, call="measure", of=Size)
 
 
-def canonical(data: bytes) -> bytes:
-    """The canonical encoding, which amqpv_is_canonical finds to be that."""
-    found, count = _written("canonical", data, FRAME, DEPTH), c_size_t()
-    for it in (data, found):
-        result = _called("is_canonical", it, FRAME, DEPTH, byref(count))
-        assert result == (NONE if it[: count.value] != found else 0)
-    return found
+def peek(data: bytes, *limits: int) -> tuple[int, Found]:
+    entry = Entry.fresh()
+    return called("peek", byref(given(data, *limits)), byref(entry)), entry.found()
 
 
-def to_json(data: bytes) -> str:
-    """The JSON text, which amqpv_write_json writes too of what is canonical."""
-    found = _written("to_json", data, FRAME, DEPTH)
-    assert _written("write_json", canonical(data), FRAME, DEPTH) == found
-    return found.decode()
+def is_canonical(data: bytes, *limits: int) -> int:
+    return called("is_canonical", byref(given(data, *limits)))
 
 
-def from_json(text: str | bytes, nesting: int = NESTING) -> bytes:
-    """The encoding of what a JSON text means."""
-    content = text.encode() if isinstance(text, str) else text
-    try:
-        return _written("from_json", content, nesting)
-    except Failed as failed:
-        found: Any = _Problem()
-        given = ctypes.create_string_buffer(0), c_size_t(0), byref(c_size_t()), byref(found)
-        assert _called("from_json_or_problem", content, nesting, *given) == failed.result == NOT_JSON
-        raise Failed(failed.result, (found.offset, found.kind, found.tag)) from None
+def step(data: bytes, cursor: Any, flags: int = 0) -> tuple[int, Found, Found]:
+    """The result, the entry, and the cursor after it."""
+    entry = Entry.fresh()
+    result = called("next", byref(given(data, flags)), byref(cursor), byref(entry))
+    return result, entry.found(), cursor.found()
+
+
+def find(data: bytes, start: Any, path: list[bytes | int | Any], flags: int = 0) -> tuple[int, Found]:
+    """The result and the entry to which a path leads, of keys, of indexes, or of a step with another type tag."""
+    entry, steps = Entry.fresh(), (Step * len(path))()
+    _keys.put(b"".join(it for it in path if isinstance(it, bytes)))
+    at = _keys.end - sum(len(it) for it in path if isinstance(it, bytes))
+    for to, it in zip(steps, path):
+        if isinstance(it, bytes):
+            to.key, to.key_length, to.into = at, len(it), ord("F")
+            at += len(it)
+        elif isinstance(it, int):
+            to.index, to.into = it, ord("A")
+        else:
+            to.into = ord(it)
+    arguments = byref(start), steps if path else None, c_size_t(len(path)), byref(entry)
+    return called("find", byref(given(data, flags)), *arguments), entry.found()
+
+
+def as_number(name: str, tag: str, bits: int) -> tuple[int, int | None]:
+    """The result, and the number of an entry."""
+    entry, number = Entry.fresh(), c_uint64(0x5A5A5A5A5A5A5A5A)
+    entry.bits, entry.tag = bits, ord(tag)
+    result = called(name, byref(entry), byref(number))
+    if number.value == 0x5A5A5A5A5A5A5A5A:
+        return result, None
+    return result, number.value - 2**64 * (name == "as_int" and number.value >= 2**63)
+
+
+def warn(data: bytes, flags: int, max_depth: int, frame_max: int, levels: int) -> tuple[int, dict[str, Any] | None]:
+    """The result, and what is doubtful, by its name: an offset or None, and of the frame a bool."""
+    warnings: Any = Warnings.fresh()
+    limits = byref(given(data, flags, MAX_BYTES, max_depth)), c_uint32(frame_max), c_uint32(levels)
+    result = called("warn", *limits, byref(warnings))
+    if warnings.found() is None:
+        return result, None
+    assert [*warnings.reserved] == [NOWHERE] * 4 and [*warnings.reserved_flags] == [0] * 7
+    offsets = {it: getattr(warnings, it) for it in OFFSETS}
+    exceeds = {"exceeds_frame": warnings.exceeds_frame == 1}
+    return result, {it: None if at == NOWHERE else at for it, at in offsets.items()} | exceeds
+
+
+# Building, in a buffer of which all that isn't written is 33
+
+
+class Buffer:
+    """A buffer, and what is built in it."""
+
+    def __init__(self, capacity: int) -> None:
+        self.capacity = capacity
+        _buffer.put(b"\x33" * capacity)
+
+    def content(self) -> bytes:
+        return _buffer.last(self.capacity)
+
+    def call(self, name: str, into: Any, *arguments: Any) -> int:
+        return called(
+            name, ctypes.c_void_p(_buffer.end - self.capacity), c_size_t(self.capacity), byref(into), *arguments
+        )
+
+    def put(self, into: Any, key: bytes, tag: str, bits: int, scale: int = 0) -> int:
+        return self.call("put", into, *_key(key), c_uint8(ord(tag)), c_uint64(bits), c_uint8(scale))
+
+    def put_bytes(self, into: Any, key: bytes, tag: str, data: bytes) -> int:
+        return self.call("put_bytes", into, *_key(key), c_uint8(ord(tag)), _given.put(data), c_size_t(len(data)))
+
+    def put_value(self, into: Any, key: bytes, data: bytes, *limits: int) -> int:
+        return self.call("put_value", into, *_key(key), byref(given(data, *limits)))
+
+    def open(self, into: Any, key: bytes, tag: str, body: Any) -> int:
+        return self.call("open", into, *_key(key), c_uint8(ord(tag)), byref(body))
+
+    def close(self, into: Any, body: Any) -> int:
+        return self.call("close", into, byref(body))
+
+
+def _key(key: bytes) -> tuple[Any, Any]:
+    return _keys.put(key), c_size_t(len(key))
+
+
+# What is written to a buffer
+
+
+def written(name: str, *arguments: Any, most: int = 8 << 20) -> tuple[int, bytes | int]:
+    """The result, and what a call writes, or the length that it sets."""
+    buffer, length = Buffer(0), c_size_t(77)
+    while True:
+        at = ctypes.c_void_p(_buffer.end - buffer.capacity), c_size_t(buffer.capacity)
+        result = called(name, *arguments[:3], *at, byref(length), *arguments[3:])
+        if result != NO_ROOM or not buffer.capacity < length.value <= most:
+            return result, buffer.content()[: length.value] if result == OK else length.value
+        buffer = Buffer(length.value)
+
+
+def canonical(data: bytes, *limits: int) -> tuple[int, bytes | int]:
+    return written("canonical", byref(given(data, *limits)))
+
+
+def to_json(data: bytes, *limits: int) -> tuple[int, bytes | int]:
+    return written("to_json", byref(given(data, *limits)))
+
+
+def write_json(data: bytes, *limits: int) -> tuple[int, bytes | int]:
+    return written("write_json", byref(given(data, *limits)))
+
+
+def from_json(text: bytes, nesting: int = NESTING) -> tuple[int, bytes | int, Found]:
+    """The result, the encoding or the length that is set, and the problem."""
+    problem = Problem.fresh()
+    made = written("from_json", _given.put(text), c_size_t(len(text)), c_uint32(nesting), byref(problem))
+    return *made, problem.found()
+
+
+def version() -> int:
+    return called("version")

@@ -1,49 +1,47 @@
 /*
- * Prints the JSON of the value that is given in hexadecimal on standard input. With the word `back` it
- * prints the canonical encoding of the value whose JSON is given, in hexadecimal, or what is wrong with the text,
- * and how many bytes are before it.
+ * Prints the JSON of a value, which is in hexadecimal on standard input. With the argument `back` it
+ * reads JSON, and prints the canonical encoding of the value in hexadecimal.
  *
- * It asks for the capacity that is needed first, with a capacity of 0.
+ * Each call is made twice: with a capacity of 0, to learn the length, and with a buffer of that length.
  */
 #include "amqp_values.h"
 #include "hexadecimal.h"
 
-#include <string.h>
+static uint8_t given[AMQPV_MAX_BYTES];
+static size_t given_length;
+static amqpv_problem problem = {SIZE_MAX, 0, 0}; /* set if the JSON is wrong */
 
-static uint8_t input[AMQPV_FRAME];
-static size_t input_length;
-static amqpv_problem problem;
-
-static amqpv_result print_json(uint8_t *buffer, size_t capacity, size_t *count) {
-    return amqpv_to_json(input, input_length, AMQPV_FRAME, AMQPV_JSON_DEPTH, (char *)buffer, capacity, count);
+static amqpv_result write_json(uint8_t *buffer, size_t capacity, size_t *length) {
+    amqpv_input in = amqpv_value(given, given_length);
+    in.max_depth = AMQPV_JSON_DEPTH;
+    return amqpv_to_json(&in, (char *)buffer, capacity, length);
 }
 
-static amqpv_result print_encoding(uint8_t *buffer, size_t capacity, size_t *count) {
-    return amqpv_from_json_or_problem((const char *)input, input_length, AMQPV_JSON_NESTING, buffer, capacity, count, &problem);
+static amqpv_result write_encoding(uint8_t *buffer, size_t capacity, size_t *length) {
+    return amqpv_from_json((const char *)given, given_length, AMQPV_JSON_NESTING, buffer, capacity, length, &problem);
 }
 
 int main(int count, char **words) {
     int is_back = count > 1 && strcmp(words[1], "back") == 0;
-    amqpv_result (*write)(uint8_t *, size_t, size_t *) = is_back ? print_encoding : print_json;
-    input_length = is_back ? fread(input, 1, sizeof input, stdin) : read_hexadecimal(stdin, input, sizeof input);
+    given_length = is_back ? fread(given, 1, sizeof given, stdin) : read_hexadecimal(stdin, given, sizeof given);
 
-    uint8_t none;
-    size_t needed;
-    uint8_t *buffer = &none;
-    amqpv_result result = write(buffer, 0, &needed);
+    uint8_t none, *buffer = NULL;
+    size_t length;
+    amqpv_result (*write)(uint8_t *, size_t, size_t *) = is_back ? write_encoding : write_json;
+    amqpv_result result = write(&none, 0, &length);
     if (result == AMQPV_NO_ROOM) {
-        buffer = (uint8_t *)malloc(needed);
-        result = buffer == NULL ? AMQPV_NO_MEMORY : write(buffer, needed, &needed);
-    }
-    if (result == AMQPV_NOT_JSON) {
-        printf("%s, at %zu\n", amqpv_problem_string(problem.kind), problem.offset);
-        return 1;
+        buffer = (uint8_t *)malloc(length);
+        result = buffer == NULL ? AMQPV_NO_MEMORY : write(buffer, length, &length);
     }
     if (result != AMQPV_OK) {
-        printf("%s\n", amqpv_strerror(result));
+        printf("%s", amqpv_strerror(result));
+        if (problem.offset != SIZE_MAX) {
+            printf(", at %zu", problem.offset);
+        }
+        putchar('\n');
         return 1;
     }
-    for (size_t i = 0; i < needed; i++) {
+    for (size_t i = 0; i < length; i++) {
         printf(is_back ? "%02x" : "%c", buffer[i]);
     }
     putchar('\n');

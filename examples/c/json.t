@@ -33,19 +33,19 @@ back_no_utf8
 
 back_of_no_value
   $ echo '{"$ShortInt":32768}' | json back
-  the JSON of no value, at 13
+  not the JSON of a value, at 13
   [1]
 
 back_short_string
   $ echo '[{"$ShortString":"key"}]' | json back
-  the JSON of no value, at 2
+  not the JSON of a value, at 2
   [1]
 
 back_too_deep
   $ json back <<'END'
   > [[[[[[[[[[[[[[[[[[[[[[[[[[[[[[[[[[[[[[[[[[[[[[[[[[[[[[[[[[[[[[[[[[[[[[[[[[[[[[[[[[[[[[[[[[[[[[[[[[[[[[[[[[[[[[[[[[[[[[[[[[[[[[[[]]]]]]]]]]]]]]]]]]]]]]]]]]]]]]]]]]]]]]]]]]]]]]]]]]]]]]]]]]]]]]]]]]]]]]]]]]]]]]]]]]]]]]]]]]]]]]]]]]]]]]]]]]]]]]]]]]]]]]]]]]]]]]]]
   > END
-  too deep, at 127
+  nested too deep, at 127
   [1]
 
 cut
@@ -80,9 +80,9 @@ every_type
   > END
   {"":{},"dec":{"$DecimalValue":"12345e-2"},"f32":{"$Float":"3fc00000"},"f64":{"$Double":"c004000000000000"},"flag":true,"i16":{"$ShortInt":-32768},"i32":{"$LongInt":-1},"i64":-9223372036854775808,"i8":{"$ShortShortInt":-2},"list":[{"$LongInt":7},[false,null]],"raw":{"$ByteArray":"00ff"},"sub":{"x":{"$ShortShortInt":5}},"text":{"$LongString":"6122ff"},"time":{"$Timestamp":1600000000},"u16":{"$ShortUInt":65535},"u32":{"$LongUInt":4294967295},"u8":{"$ShortShortUInt":254},"void":null}
 
-malformed
+unknown_tag_inside
   $ echo '41 00000001 7a   # in the body is 7a, which is no type tag' | json
-  malformed
+  unknown type tag
   [1]
 
 name_of_a_type

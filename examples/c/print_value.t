@@ -191,12 +191,12 @@ every_type
 
 key_not_utf8
   $ echo '46 00000003 01 ff 56   # a key that is not UTF-8' | print_value
-  malformed, at 5
+  a key is not UTF-8, at 5
   [1]
 
-malformed
+unknown_tag_inside
   $ echo '41 00000003 74 07 7a   # in the body is 7a, which is no type tag' | print_value
-  malformed, at 7
+  unknown type tag, at 7
   [1]
 
 number
@@ -273,7 +273,7 @@ too_deep
   > 41 00000005
   > 41 00000000
   > END
-  malformed, at 320
+  nested too deep, at 320
   [1]
 
 too_large

@@ -1,29 +1,39 @@
 /*
- * Writes the arguments of a queue, a table without its type tag, as the method `queue.declare` has it, and prints
- * its bytes in hexadecimal. A number as argument is the buffer's capacity.
+ * Writes the arguments of a queue, a table without its type tag as the method `queue.declare` has it,
+ * and prints its bytes in hexadecimal. A number as argument is the buffer's capacity.
  */
 #include "amqp_values.h"
 
 #include <stdio.h>
 #include <stdlib.h>
 
-/* Writes a table with a length and a type of queue, and returns how many bytes it has, or 0 if it can't. */
-static size_t write_arguments(uint8_t *buffer, size_t capacity, int32_t max_length, const char *type) {
-    const amqpv_pair pairs[] = {
-        AMQPV_INT_PAIR("x-max-length", AMQPV_LONG_INT, max_length),
-        AMQPV_STRING_PAIR("x-queue-type", type, strlen(type)),
-    };
-    size_t count;
-    return amqpv_write_table(pairs, 2, buffer, capacity, &count) == AMQPV_OK ? count : 0;
+static amqpv_result write_arguments(uint8_t *buffer, size_t capacity, size_t *length) {
+    amqpv_writer w;
+    amqpv_begin(&w, buffer, capacity);
+    amqpv_add_int(&w, "x-max-length", AMQPV_LONG_INT, 10000);
+    amqpv_add_string(&w, "x-queue-type", "quorum", 6);
+    amqpv_add_table(&w, "limits");
+    amqpv_add_int(&w, "low", AMQPV_SHORT_INT, -5);
+    amqpv_add_bool(&w, "strict", 1);
+    amqpv_end(&w);
+    amqpv_add_array(&w, "hosts");
+    amqpv_add_string(&w, NULL, "a", 1);
+    amqpv_add_void(&w, NULL);
+    amqpv_end(&w);
+    return amqpv_finish(&w, length);
 }
 
 int main(int count, char **words) {
     static uint8_t buffer[256];
-    size_t capacity = count > 1 ? strtoul(words[1], NULL, 10) : sizeof buffer;
-    size_t length = capacity <= sizeof buffer ? write_arguments(buffer, capacity, 10000, "quorum") : 0;
+    size_t length, capacity = count > 1 ? strtoul(words[1], NULL, 10) : sizeof buffer;
+    amqpv_result result = write_arguments(buffer, capacity < sizeof buffer ? capacity : sizeof buffer, &length);
+    if (result != AMQPV_OK) {
+        printf("%s\n", amqpv_strerror(result));
+        return 1;
+    }
     for (size_t i = 0; i < length; i++) {
         printf("%02x", buffer[i]);
     }
     putchar('\n');
-    return length == 0;
+    return 0;
 }

@@ -17,7 +17,7 @@ FLAGS = ["-std=c11", "-Wall", "-Wextra", "-Werror", f"-I{HEADER.parent}"]
 C = ["cc", *FLAGS]
 LIBRARIES = {crate: archive(CRATES, crate) for crate in CALLS_FOR_C}
 LINKED = (*LIBRARIES.values(), MALLOC)
-# What programs of check.h are linked with.
+# What memory.c is linked with.
 WRAPPED = [f"-Wl,--wrap={it}" for it in ("malloc", "realloc", "free")]
 # The processor by which what is compiled for aarch64 is run, which has what each has.
 OF_AARCH64 = ["qemu-aarch64", "-L", "/usr/aarch64-linux-gnu", "-cpu", "cortex-a53"]
@@ -47,16 +47,9 @@ def printed(words: Words, **others: Any) -> str:
     return done.stdout
 
 
-def wraps(source: Path) -> list[str]:
-    """The flags that a program of check.h is linked with."""
-    return WRAPPED if '#include "check.h"' in source.read_text() else []
-
-
 def compiled(source: Path, to: Path, words: Words = C, options: Words = (), libraries: Words = LINKED) -> Path:
     """Compiles and links a C program, and returns its path."""
-    # (tests hold keys and JSON as bytes)
-    plain = ["-Wno-pointer-sign"] * (source.parent != EXAMPLES)
-    assert_well(run([*words, "-O1", *plain, *options, "-o", to, source, *libraries]))
+    assert_well(run([*words, "-O1", *options, "-o", to, source, *libraries]))
     return to
 
 

@@ -45,3 +45,41 @@ def commands_of_linking(page: str) -> tuple[list[str], str]:
         elif is_shown:
             wanted += f"{line}\n" if line else ""
     return tried, wanted
+
+
+# Around the blocks of docs/C.md: what they call, and what calls them on headers with a death. A block that includes the header
+# is part of a file, each other the body of a function.
+BEFORE = """
+#include "amqp_values.h"
+#include <stdio.h>
+#include <stdlib.h>
+static void send_bytes(const uint8_t *bytes, size_t length) {
+    printf("%zu bytes from %02x\\n", length, bytes[3]);
+}
+"""
+AFTER = """
+int main(void) {
+    static const uint8_t bytes[] = "\\0\\0\\0\\x26\\7x-deathA\\0\\0\\0\\x14" "F\\0\\0\\0\\xf\\5" "countl\\0\\0\\0\\0\\0\\0\\0\\3\\3keyV";
+    static uint8_t buffer[256];
+    printf("%d deaths\\n", (int)deaths(bytes, 42));
+    printf("%zu, then %zu bytes\\n", write_arguments(buffer, 256, 7, "quorum"), write_arguments(buffer, 20, 7, "quorum"));
+"""
+PRINTED = """\
+3 deaths
+63, then 0 bytes
+x-death: FieldArray
+key: Void
+{"key":null,"x-death":[{"count":3}]}
+"""
+
+
+def program_of_page(page: str) -> str:
+    """A program of all blocks of C of docs/C.md."""
+    blocks = re.findall(r"(?ms)^```c\n(.*?)^```", page)
+    files = [it.replace('#include "amqp_values.h"\n', "") for it in blocks if it.startswith("#include")]
+    bodies = [it for it in blocks if not it.startswith("#include")]
+    functions = [
+        f"static void body_{n}(const uint8_t *bytes, size_t length) {{\n{it}}}\n" for n, it in enumerate(bodies)
+    ]
+    called = "".join(f"    body_{n}(bytes, 42);\n" for n in range(len(bodies)))
+    return "".join([BEFORE, *files, *functions, AFTER, called, "    return 0;\n}\n"])

@@ -1,7 +1,7 @@
 /*
- * What a program that was compiled stands on, and so stays within 0.x: the sizes and offsets of structs, and the values of
- * constants, on processors of 64 bits. A line isn't changed or removed once it is in a release. The symbols are in
- * packaging/amqp_values.map. It is compiled, and not run.
+ * What a compiled program stands on, and so stays within 0.x: the sizes and offsets of structs, and the values of constants, on
+ * processors of 64 bits. A line isn't changed or removed once it is in a release. The symbols are in packaging/amqp_values.map.
+ * It is compiled, and not run.
  */
 #include "amqp_values.h"
 
@@ -11,6 +11,14 @@
 #define CONSTANT(name, value) _Static_assert((name) == (value), #name)
 
 _Static_assert(sizeof(amqpv_result) == 4 && (amqpv_result)-1 < 0, "amqpv_result");
+
+STRUCT(amqpv_input, 32, 8);
+FIELD(amqpv_input, bytes, 0, 8);
+FIELD(amqpv_input, length, 8, 8);
+FIELD(amqpv_input, max_bytes, 16, 4);
+FIELD(amqpv_input, max_depth, 20, 4);
+FIELD(amqpv_input, flags, 24, 4);
+
 STRUCT(amqpv_span, 16, 8);
 FIELD(amqpv_span, offset, 0, 8);
 FIELD(amqpv_span, length, 8, 8);
@@ -27,36 +35,21 @@ STRUCT(amqpv_cursor, 24, 8);
 FIELD(amqpv_cursor, left, 0, 16);
 FIELD(amqpv_cursor, tag, 16, 1);
 
+STRUCT(amqpv_problem, 24, 8);
+FIELD(amqpv_problem, offset, 0, 8);
+FIELD(amqpv_problem, missing, 8, 8);
+FIELD(amqpv_problem, tag, 16, 1);
+
 STRUCT(amqpv_step, 32, 8);
 FIELD(amqpv_step, key, 0, 8);
 FIELD(amqpv_step, key_length, 8, 8);
 FIELD(amqpv_step, index, 16, 8);
-FIELD(amqpv_step, tag, 24, 1);
+FIELD(amqpv_step, into, 24, 1);
 
-STRUCT(amqpv_pair, 48, 8);
-FIELD(amqpv_pair, key, 0, 8);
-FIELD(amqpv_pair, key_length, 8, 8);
-FIELD(amqpv_pair, bytes, 16, 8);
-FIELD(amqpv_pair, length, 24, 8);
-FIELD(amqpv_pair, bits, 32, 8);
-FIELD(amqpv_pair, tag, 40, 1);
-FIELD(amqpv_pair, scale, 41, 1);
-
-STRUCT(amqpv_measure, 24, 8);
-FIELD(amqpv_measure, length, 0, 8);
-FIELD(amqpv_measure, values, 8, 8);
-FIELD(amqpv_measure, levels, 16, 8);
-
-STRUCT(amqpv_problem, 16, 8);
-FIELD(amqpv_problem, offset, 0, 8);
-FIELD(amqpv_problem, kind, 8, 1);
-FIELD(amqpv_problem, tag, 9, 1);
-STRUCT(amqpv_warnings, 40, 8);
-FIELD(amqpv_warnings, repeated_key, 0, 8);
-FIELD(amqpv_warnings, key_not_utf8, 8, 8);
-FIELD(amqpv_warnings, empty_key, 16, 8);
-FIELD(amqpv_warnings, too_deep, 24, 8);
-FIELD(amqpv_warnings, exceeds_frame, 32, 1);
+STRUCT(amqpv_size, 24, 8);
+FIELD(amqpv_size, bytes, 0, 8);
+FIELD(amqpv_size, values, 8, 8);
+FIELD(amqpv_size, levels, 16, 8);
 
 STRUCT(amqpv_container, 32, 8);
 FIELD(amqpv_container, written, 0, 16);
@@ -65,26 +58,53 @@ FIELD(amqpv_container, inner, 17, 1);
 FIELD(amqpv_container, any_keys, 18, 1);
 FIELD(amqpv_container, needed, 24, 8);
 
+STRUCT(amqpv_warnings, 88, 8);
+FIELD(amqpv_warnings, repeated_key, 0, 8);
+FIELD(amqpv_warnings, key_not_utf8, 8, 8);
+FIELD(amqpv_warnings, empty_key, 16, 8);
+FIELD(amqpv_warnings, too_deep, 24, 8);
+FIELD(amqpv_warnings, decimal, 32, 8);
+FIELD(amqpv_warnings, nested_header, 40, 8);
+FIELD(amqpv_warnings, reserved, 48, 32);
+FIELD(amqpv_warnings, exceeds_frame, 80, 1);
+FIELD(amqpv_warnings, reserved_flags, 81, 7);
+
+STRUCT(amqpv_writer, 544, 8);
+FIELD(amqpv_writer, buffer, 0, 8);
+FIELD(amqpv_writer, capacity, 8, 8);
+FIELD(amqpv_writer, open, 16, 512);
+FIELD(amqpv_writer, level, 528, 4);
+FIELD(amqpv_writer, result, 532, 4);
+FIELD(amqpv_writer, needed, 536, 8);
+
 CONSTANT(AMQPV_OK, 0);
 CONSTANT(AMQPV_NONE, 1);
 CONSTANT(AMQPV_MORE, -1);
 CONSTANT(AMQPV_UNKNOWN_TAG, -2);
-CONSTANT(AMQPV_MALFORMED, -3);
-CONSTANT(AMQPV_TOO_LARGE, -4);
-CONSTANT(AMQPV_INVALID, -5);
-CONSTANT(AMQPV_NO_MEMORY, -6);
-CONSTANT(AMQPV_NO_ROOM, -7);
-CONSTANT(AMQPV_NOT_JSON, -8);
-CONSTANT(AMQPV_NO_ENCODING, -9);
-CONSTANT(AMQPV_BAD_KEY, -10);
-CONSTANT(AMQPV_BAD_TAG, -11);
-CONSTANT(AMQPV_OUT_OF_RANGE, -12);
+CONSTANT(AMQPV_CUT, -3);
+CONSTANT(AMQPV_KEY_CUT, -4);
+CONSTANT(AMQPV_KEY_NOT_UTF8, -5);
+CONSTANT(AMQPV_NOT_FINITE, -6);
+CONSTANT(AMQPV_TOO_DEEP, -7);
+CONSTANT(AMQPV_TOO_LARGE, -8);
+CONSTANT(AMQPV_NOT_UTF8, -9);
+CONSTANT(AMQPV_NOT_JSON, -10);
+CONSTANT(AMQPV_NOT_A_VALUE, -11);
+CONSTANT(AMQPV_NO_ENCODING, -12);
+CONSTANT(AMQPV_INVALID, -13);
+CONSTANT(AMQPV_BAD_KEY, -14);
+CONSTANT(AMQPV_BAD_TAG, -15);
+CONSTANT(AMQPV_OUT_OF_RANGE, -16);
+CONSTANT(AMQPV_NO_ROOM, -17);
+CONSTANT(AMQPV_NO_MEMORY, -18);
 
-CONSTANT(AMQPV_FRAME, 1048576);
-CONSTANT(AMQPV_DEPTH, 64);
-CONSTANT(AMQPV_JSON_DEPTH, 32);
+CONSTANT(AMQPV_UNTAGGED, 1);
+CONSTANT(AMQPV_ANY_KEYS, 2);
+CONSTANT(AMQPV_RABBITMQ, 4);
+CONSTANT(AMQPV_FIRST_KEY, 8);
 
-CONSTANT(AMQPV_JSON_NESTING, 127);
+CONSTANT(AMQPV_MAX_BYTES, 1048576);
+CONSTANT(AMQPV_MAX_DEPTH, 64);
 
 CONSTANT(AMQPV_BOOLEAN, 't');
 CONSTANT(AMQPV_SHORT_SHORT_INT, 'b');
@@ -104,21 +124,10 @@ CONSTANT(AMQPV_TABLE, 'F');
 CONSTANT(AMQPV_TIMESTAMP, 'T');
 CONSTANT(AMQPV_VOID, 'V');
 
-CONSTANT(AMQPV_LAST_KEY, 0);
-CONSTANT(AMQPV_FIRST_KEY, 1);
+CONSTANT(AMQPV_JSON_DEPTH, 32);
 
-CONSTANT(AMQPV_RULES_READ, 0);
-CONSTANT(AMQPV_RULES_ANY_KEYS, 1);
-CONSTANT(AMQPV_RULES_RABBITMQ, 2);
+CONSTANT(AMQPV_JSON_NESTING, 127);
 
-CONSTANT(AMQPV_PROBLEM_UNKNOWN_TAG, 1);
-CONSTANT(AMQPV_PROBLEM_NOT_FINITE, 2);
-CONSTANT(AMQPV_PROBLEM_CUT, 3);
-CONSTANT(AMQPV_PROBLEM_KEY_CUT, 4);
-CONSTANT(AMQPV_PROBLEM_TOO_DEEP, 5);
-CONSTANT(AMQPV_PROBLEM_TOO_LARGE, 6);
-CONSTANT(AMQPV_PROBLEM_KEY_NOT_UTF8, 7);
-CONSTANT(AMQPV_PROBLEM_NOT_UTF8, 8);
-CONSTANT(AMQPV_PROBLEM_NOT_JSON, 9);
-CONSTANT(AMQPV_PROBLEM_NO_VALUE, 10);
 CONSTANT(AMQPV_CLIENT_LEVELS, 32);
+
+CONSTANT(AMQPV_WRITER_LEVELS, 16);

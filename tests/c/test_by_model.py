@@ -1,42 +1,65 @@
-"""The calls for C next to the model, on random bytes: what is read and measured, problems, warnings, canonical bytes and JSON.
-
-The calls that find, enter and build are tried by tests/python too, whose package is made of them.
-"""
+"""Every call for C next to the model, on random bytes, structs, texts and orders of calls, and on what is at the limits."""
 
 import re
 from collections import Counter
+from ctypes import c_size_t
 from random import Random
 from typing import Any
 
 import pytest
 
 from tests import calls_for_c as calls
+from tests.calls_for_c import ANY_KEYS, FIRST_KEY, INVALID, NONE, NOWHERE, OK, RABBITMQ, UNTAGGED
 from tests.model.json_format import LEVELS, Rejected, json_of, some_value, text_for, texts, value_of_json
-from tests.model.printed import FRAME, doubtful, exceeds, extent, field, inputs, lack, read, untagged, value_of, write
+from tests.model.printed import COUNTED, SIGNED, TYPES, doubtful, exceeds, extent, field, inputs, is_utf8, lack, nested
+from tests.model.printed import read, unfit_for_streams, untagged, value_of, write
 from tests.model.tables import first_problem, odd_table, parts, random_table, raw
 
 pytestmark = pytest.mark.usefixtures("library")
-# What the rules of each name have that others don't.
-ONLY = {"RabbitMQ": {2}, "read": {7}, "any keys": set[int]()}
+# The result of a problem, by its kind in the model; what is cut at the start is AMQPV_MORE.
+RESULTS = {kind: result for result, kind in calls.KINDS.items() if result != calls.MORE}
+Span = tuple[int, int]
 
 
-def said(data: bytes, table: bool) -> tuple[int, ...]:
-    """What measuring results in: bytes, values and levels, or the result that isn't AMQPV_OK and what it counts."""
-    try:
-        return calls.measured(data, table)
-    except calls.Failed as why:
-        return why.result, why.found
+def plain(entry: Any) -> Any:
+    """An entry without the offset of what has no bytes, which says nothing."""
+    return entry and tuple(it if not isinstance(it, tuple) or it[1] else (0, 0) for it in entry)
 
 
-def predicted(data: bytes, table: bool) -> tuple[int, ...]:
-    whole = b"F" * table + data
-    if extent(whole) > FRAME:
-        return calls.TOO_LARGE, 0
-    if missing := lack(whole):
-        return calls.MORE, missing
-    if problem := first_problem(whole, "read"):
-        return (calls.UNKNOWN_TAG if problem[:2] == (0, 1) else calls.MALFORMED), 0
-    return extent(whole) - table, *sizes(whole[: extent(whole)])
+def entry_of(data: bytes, at: int, key: Span = (0, 0)) -> Any:
+    """The entry of the value at an offset; its type tag may be left out, at -1."""
+    head = data[max(at, 0) : at + 5] if at >= 0 else b"F" + data[:4]
+    tag, end = chr(head[0]), at + extent(head)
+    content = data[at + 1 : end]
+    width = TYPES[tag][1] or 0
+    number = int.from_bytes(content[tag == "D" : width], "big", signed=TYPES[tag][0] in SIGNED) if width else 0
+    bits = int(number != 0) if tag == "t" else number % 2**64
+    inside = (at + 5, end - at - 5) if tag in COUNTED else (0, 0)
+    value = max(at, 0), end - max(at, 0)
+    return plain((key, value, inside, bits, ord({"U": "s", "L": "l"}.get(tag, tag)), content[0] if tag == "D" else 0))
+
+
+# Reading
+
+
+def rules_of(flags: int) -> str:
+    return "RabbitMQ" if flags & RABBITMQ else "any keys" if flags & ANY_KEYS else "read"
+
+
+def wanted_problem(data: bytes, flags: int, max_bytes: int, max_depth: int) -> tuple[int, Any]:
+    """The result of reading, and the problem, by the model."""
+    left_out = flags & UNTAGGED
+    whole = b"F" * left_out + data
+    if chr(whole[0]) in TYPES if whole else False:
+        if extent(whole) > max_bytes:
+            return calls.TOO_LARGE, (0, 0, 0)
+    problem = first_problem(whole, rules_of(flags), max_depth)
+    if problem is None:
+        return OK, None
+    at, kind, tag = problem
+    if at == 0 and kind == 3:
+        return calls.MORE, (0, lack(whole), 0)
+    return RESULTS[kind], (max(0, at - left_out), 0, tag)
 
 
 def sizes(data: bytes) -> tuple[int, int]:
@@ -47,59 +70,432 @@ def sizes(data: bytes) -> tuple[int, int]:
     return 1 + sum(it for it, _ in inside), 1 + max((it for _, it in inside), default=0)
 
 
+def assert_read(data: bytes, flags: int = 0, max_bytes: int = calls.MAX_BYTES, max_depth: int = calls.MAX_DEPTH) -> int:
+    """A value is read, measured, and found canonical or not, as the model has it."""
+    limits, left_out = (flags, max_bytes, max_depth), flags & UNTAGGED
+    result, problem = wanted_problem(data, *limits)
+    found, entry, why = calls.read(data, *limits)
+    wanted = entry_of(data, -left_out) if result == OK else None
+    assert (found, plain(entry), why) == (result, wanted, problem), (data.hex(), limits)
+    assert_peeked(data, flags)
+    measured, is_canonical = calls.measure(data, *limits), calls.is_canonical(data, *limits)
+    if flags & (ANY_KEYS | RABBITMQ):
+        assert (measured, is_canonical) == ((INVALID, None, None), INVALID)
+    elif result != OK:
+        assert (measured, is_canonical) == ((result, None, problem), result)
+    else:
+        whole = b"F" * left_out + data
+        size = extent(whole)
+        assert measured == (OK, (size - left_out, *sizes(whole[:size])), None)
+        assert is_canonical == (OK if write(read(whole[:size])[0]) == whole[:size] else NONE), data.hex()
+    return result
+
+
+def assert_peeked(data: bytes, flags: int) -> None:
+    """What is at the start is as the model has it, whatever the limits are."""
+    left_out = flags & UNTAGGED
+    whole, wanted = b"F" * left_out + data, None
+    if whole and chr(whole[0]) not in TYPES:
+        result = calls.UNKNOWN_TAG
+    else:
+        result, wanted = (calls.MORE, None) if lack(whole) else (OK, entry_of(data, -left_out))
+    found, entry = calls.peek(data, flags, 0, 0)
+    assert (found, plain(entry)) == (result, wanted), (data.hex(), flags)
+
+
 def test_inputs_of_every_kind(seed: int) -> None:
-    """What is read is measured; its canonical bytes and its JSON are the model's, and the JSON means it."""
-    make, read_ones = Random(seed), 0
-    given = [*((it, False) for it in inputs()), *((it, True) for it in untagged())]
-    given += [(raw(random_table(make)), False) for _ in range(1500)] + [(value_of(make, 3), False) for _ in range(1500)]
-    for data, table in given:
-        wanted = predicted(data, table)
-        assert said(data, table) == wanted, data[:300].hex()
-        if wanted[0] > 0 and not table:
-            read_ones += 1
-            value = read(data)[0]
-            text = calls.to_json(data)
-            assert text == json_of(value) and calls.canonical(data) == calls.from_json(text) == write(value), data.hex()
-    assert read_ones > 3000
+    make, results = Random(seed), Counter[int]()
+    given = [*((it, 0) for it in inputs()), *((it, UNTAGGED) for it in untagged())]
+    given += [(raw(random_table(make)), 0) for _ in range(1500)] + [(value_of(make, 3), 0) for _ in range(1500)]
+    for data, flags in given:
+        results[assert_read(data, flags | make.choice([0, 0, ANY_KEYS, RABBITMQ, ANY_KEYS | RABBITMQ, FIRST_KEY]))] += 1
+        assert_written(data, flags)
+    assert results[OK] > 3000 and results[calls.MORE] and results[calls.TOO_LARGE]
 
 
-@pytest.mark.parametrize("rules", calls.RULES)
-def test_problems(rules: str, seed: int) -> None:
-    make, kinds = Random(seed), set()
+@pytest.mark.parametrize("flags", (0, ANY_KEYS, RABBITMQ, ANY_KEYS | RABBITMQ))
+def test_problems(flags: int, seed: int) -> None:
+    make, results = Random(seed), set()
     for _ in range(2000):
         data = odd_table(make)
-        wanted = first_problem(data, rules, 2)
-        kinds.add(wanted and wanted[1])
-        assert calls.first_problem(data, rules, depth=2) == wanted, data.hex()
-        of_table = wanted and (max(0, wanted[0] - 1), *wanted[1:])
-        assert calls.first_problem(data[1:], rules, True, depth=2) == of_table, data.hex()
-    assert kinds == {None, 1, 3, 4, 5} | ONLY[rules]
+        results.add(assert_read(data, flags, max_depth=2))
+        assert_read(data[1:], flags | UNTAGGED, max_depth=2)
+        cut = data[: make.randrange(len(data))]
+        assert_read(cut, flags, max_depth=2)
+        assert_read(cut[1:], flags | UNTAGGED, make.choice([5, 20, 2**32 - 1]), make.choice([0, 1, 2, 2**32 - 1]))
+    only = {calls.NOT_FINITE} if flags & RABBITMQ else set() if flags else {calls.KEY_NOT_UTF8}
+    assert results == {OK, calls.UNKNOWN_TAG, calls.CUT, calls.KEY_CUT, calls.TOO_DEEP} | only
 
 
-def warnings_of(data: bytes, levels: int, frame_max: int, left_out: int) -> dict[str, Any] | None:
-    """What is doubtful by the model, of a table without its type tag if one byte is left out."""
-    first = {name: max(0, it[0] - left_out) if it else None for name, it in doubtful(data, levels).items()}
-    found = first | {"exceeds_frame": exceeds(extent(data[:5]), frame_max)}
-    return found if {*found.values()} - {None, False} or 0 in [*first.values()][:4] else None
+@pytest.mark.parametrize(
+    "data", (b"", b"I", b"I\0\0\0\7", b"z", b"F\0\0\0\3\1aV", b"F\0\0\0\3\1\xffV", b"S\0\0\0\2ab", b"U\0\1")
+)
+def test_limits(data: bytes) -> None:
+    for flags in range(16):
+        for max_bytes in (0, 1, 2, 4, 5, 6, 7, 8, 2**31, 2**32 - 1):
+            for max_depth in (0, 1, 2, 2**32 - 1):
+                assert_read(data, flags, max_bytes, max_depth)
 
 
-def test_warnings(seed: int) -> None:
-    """Of tables that RabbitMQ takes, with each number of levels."""
-    make, seen = Random(seed), set[str]()
-    for data in (odd_table(make) for _ in range(2000)):
-        for levels in range(5) if not first_problem(data, "RabbitMQ", 4) else ():
-            for left_out in (0, 1):
-                found = calls.first_warnings(data[left_out:], levels, 4, 64, left_out == 1)
-                assert found == warnings_of(data, levels, 64, left_out), data.hex()
-            seen |= {name for name, it in found.items() if it is not None and it is not False} if found else {""}
-    assert seen == {"repeated_key", "key_not_utf8", "empty_key", "too_deep", "exceeds_frame", ""}
+# Every bit of the flags that has no meaning; and those that most calls don't take.
+UNKNOWN = [1 << it for it in range(4, 32)]
 
 
-# JSON
+@pytest.mark.parametrize("data", (b"", b"V", b"z", b"F\0\0\0\0"))
+def test_flags(data: bytes) -> None:
+    """A flag that isn't known comes before all else."""
+    entry = calls.Entry()
+    for flags in [*UNKNOWN, *(it | 15 for it in UNKNOWN), ANY_KEYS, RABBITMQ, RABBITMQ | UNTAGGED]:
+        is_known = flags < 16
+        if not is_known:
+            assert calls.read(data, flags) == (INVALID, None, None)
+            assert calls.peek(data, flags) == (INVALID, None)
+            assert calls.find(data, entry, [], flags) == (INVALID, None)
+            into = calls.Container()
+            assert calls.Buffer(0).put_value(into, b"x" * 300, data, flags) == INVALID
+        assert calls.measure(data, flags) == (INVALID, None, None)
+        assert calls.is_canonical(data, flags) == INVALID
+        assert (calls.warn(data, flags, 9, 0, 9)[0] == INVALID) == (not is_known)
+        for call in (calls.canonical, calls.to_json, calls.write_json):
+            assert call(data, flags) == (INVALID, 0)
+        cursor = calls.Cursor((0, 0), ord("A"))
+        assert calls.step(data, cursor, flags)[0] == NONE
+
+
+# Steps and look-ups
+
+
+def is_inside(span: Span, length: int) -> bool:
+    return span[0] <= length and span[1] <= length - span[0]
+
+
+def stepped(data: bytes, left: Span, tag: int) -> tuple[int, Any, Any]:
+    """What a step of a cursor returns: the result, the entry, and what is left."""
+    at, end = left[0], left[0] + left[1]
+    if not is_inside(left, len(data)) or tag not in b"AF":
+        return INVALID, None, left
+    if not left[1]:
+        return NONE, None, left
+    key = 0, 0
+    if tag == ord("F"):
+        key = at + 1, data[at]
+        at += 1 + data[at]
+    head = data[at:end][:5]
+    if at >= end or chr(head[0]) not in TYPES or len(head) < 5 and head[0] in b"SxAF" or at + extent(head) > end:
+        return calls.CUT, None, left
+    entry = entry_of(data, at, key)
+    at += extent(head)
+    return OK, entry, (at, end - at)
+
+
+def looked_up(data: bytes, entry: Any, path: list[Any], first: bool) -> tuple[int, Any]:
+    """What a look-up returns."""
+    if not all(is_inside(it, len(data)) for it in entry[:3]):
+        return INVALID, None
+    for part in path:
+        into = "F" if isinstance(part, bytes) else "A" if isinstance(part, int) else part
+        if into not in "AF" or entry[4] != ord(into):
+            return NONE, None
+        left, found, count = entry[2], None, 0
+        while True:
+            result, it, left = stepped(data, left, entry[4])
+            if result != OK:
+                break
+            is_it = count == part if into == "A" else data[it[0][0] : it[0][0] + it[0][1]] == part
+            count, found = count + 1, it if is_it else found
+            if is_it and (first or into == "A"):
+                break
+        if result not in (OK, NONE) or found is None:
+            return (result, None) if result < 0 else (NONE, None)
+        entry = found
+    return OK, entry
+
+
+def as_struct(entry: Any) -> Any:
+    key, value, content, bits, tag, scale = entry
+    return calls.Entry(key, value, content, bits, tag, scale)
+
+
+def some_span(make: Random, length: int) -> Span:
+    """A span inside some bytes, or almost, or with numbers that overflow."""
+    numbers = [make.randrange(length + 2) for _ in range(8)] + [
+        2**64 - 1,
+        2**63,
+        2**63 - 1,
+        2**32,
+        2**64 - length,
+    ]
+    return make.choice(numbers), make.choice(numbers)
+
+
+def some_bytes(make: Random) -> bytes:
+    kind = make.randrange(3)
+    return odd_table(make) if kind == 0 else value_of(make, 3) if kind == 1 else make.randbytes(make.randrange(1, 12))
+
+
+def assert_steps(data: bytes, left: Span, tag: int, flags: int) -> tuple[int, list[Any]]:
+    """A cursor steps as the model does: the last result, and the entries before it."""
+    found: list[Any] = []
+    while True:
+        cursor, wanted = calls.Cursor(left, tag), stepped(data, left, tag)
+        result, it, rest = calls.step(data, cursor, flags)
+        assert (result, plain(it), rest) == (*wanted[:2], (wanted[2], tag)), (data.hex(), left, tag)
+        if result != OK:
+            return result, found
+        found.append(wanted[1])
+        left = wanted[2]
+
+
+def test_steps_and_look_ups(seed: int) -> None:
+    """Of what is read and of what isn't, also from cursors and entries that were corrupted."""
+    make, stepping, finding = Random(seed), set[int](), set[int]()
+    for _ in range(30_000):
+        data, entry = some_bytes(make), None
+        if make.random() < 0.7:
+            entry = calls.peek(data)[1]
+        if entry is None:
+            entry = *(some_span(make, len(data)) for _ in range(3)), make.getrandbits(64), make.choice(b"AFFFSx\0"), 0
+        corrupted = some_span(make, len(data)), make.choice(b"AAFFFS")
+        left, tag = (entry[2], entry[4]) if make.random() < 0.7 else corrupted
+        result, found = assert_steps(data, left, tag, make.getrandbits(32))
+        stepping.add(result)
+        keys = [b"", b"a", 0, 1, NOWHERE, "S", *(data[it[0][0] : sum(it[0])] for it in found), *range(len(found))]
+        for _ in range(6):
+            path, first = [make.choice(keys) for _ in range(make.randrange(4))], make.randrange(2)
+            result, it = calls.find(data, as_struct(entry), path, first * FIRST_KEY | make.choice([0, 2, 4]))
+            wanted, to = looked_up(data, entry, path, first == 1)
+            assert (result, plain(it)) == (wanted, plain(to)), (data.hex(), entry, path)
+            finding.add(result)
+    assert stepping == {NONE, calls.CUT, INVALID} and finding == {OK, NONE, calls.CUT, INVALID}
+
+
+NUMBERS = [0, 1, 2, *(2**bits + it for bits in (7, 8, 15, 16, 31, 32, 63) for it in (-1, 0, 1)), 2**64 - 1]
+NUMBERS += [2**64 - it for it in (1, 127, 128, 129, 2**15, 2**15 + 1, 2**31, 2**31 + 1, 2**63)]
+
+
+def test_numbers() -> None:
+    for tag in map(chr, range(256)):
+        for bits in NUMBERS:
+            signed, is_integer = tag in "bsIl", tag in "bsIlBui"
+            is_large = bits >= 2**63
+            result = (
+                OK if is_integer and (signed or not is_large) else calls.OUT_OF_RANGE if is_integer else calls.BAD_TAG
+            )
+            assert calls.as_number("as_int", tag, bits) == (result, bits - 2**64 * is_large if result == OK else None)
+            result = (
+                OK if is_integer and not (signed and is_large) else calls.OUT_OF_RANGE if is_integer else calls.BAD_TAG
+            )
+            assert calls.as_number("as_uint", tag, bits) == (result, bits if result == OK else None)
+
+
+# Building
+
+
+class Written:
+    """A container as the model has it, next to the struct that the calls get."""
+
+    def __init__(self, offset: int = 0, length: int = 0, tag: str = "A", any_keys: int = 0, inner: int = 0) -> None:
+        self.offset, self.length, self.tag, self.inner, self.any_keys, self.needed = (
+            offset,
+            length,
+            tag,
+            inner,
+            any_keys,
+            77,
+        )
+        self.struct: Any = calls.Container((offset, length), ord(tag), inner, any_keys, 77)
+
+    @property
+    def end(self) -> int:
+        return self.offset + self.length
+
+    def assert_same(self) -> None:
+        wanted = ((self.offset, self.length), ord(self.tag), self.inner, self.any_keys, self.needed)
+        assert self.struct.found() == wanted
+
+
+def encoding(tag: str, bits: int, scale: int) -> bytes | None:
+    """A value of fixed width by its bits, or nothing if there is none."""
+    name, width = TYPES[tag][0], (TYPES[tag][1] or 0) - (tag == "D")
+    if scale and tag != "D":
+        return None
+    number = bits - 2**64 if name in SIGNED and bits >= 2**63 else bits
+    try:
+        content = number.to_bytes(width, "big", signed=name in SIGNED)
+    except OverflowError:
+        return None
+    return None if tag == "t" and bits > 1 else tag.encode() + bytes([scale] * (tag == "D")) + content
+
+
+class Builder:
+    """A buffer that is written to by calls, and by the model."""
+
+    def __init__(self, capacity: int) -> None:
+        self.buffer, self.bytes, self.results = calls.Buffer(capacity), bytearray(b"\x33" * capacity), Counter[int]()
+
+    def append(self, into: Written, key: bytes, it: bytes, wrong: int) -> int:
+        """What the model appends, and its result."""
+        named = bytes([len(key)]) + key if into.tag == "F" and len(key) < 256 else b""
+        if not is_inside((into.offset, into.length), len(self.bytes)) or into.tag not in "AF" or into.inner:
+            return INVALID
+        if key if into.tag == "A" else len(key) > 255 or not into.any_keys and not is_utf8(key):
+            return calls.BAD_KEY
+        if wrong:
+            return wrong
+        if into.end + len(named + it) > len(self.bytes):
+            into.needed = into.end + len(named + it)
+            return calls.NO_ROOM
+        self.bytes[into.end : into.end + len(named + it)] = named + it
+        into.length += len(named + it)
+        return OK
+
+    def check(self, found: int, wanted: int, *containers: Written) -> int:
+        """After a call the result, the buffer and the containers are as the model has them."""
+        assert found == wanted and self.buffer.content() == self.bytes
+        for it in containers:
+            it.assert_same()
+        self.results[found] += 1
+        return found
+
+    def put(self, into: Written, key: bytes, tag: str, bits: int, scale: int = 0) -> int:
+        is_fixed = tag in TYPES and tag not in COUNTED and tag not in "UL"
+        it = encoding(tag, bits, scale) if is_fixed else None
+        wanted = self.append(into, key, it or b"", 0 if it else calls.OUT_OF_RANGE if is_fixed else calls.BAD_TAG)
+        return self.check(self.buffer.put(into.struct, key, tag, bits, scale), wanted, into)
+
+    def put_bytes(self, into: Written, key: bytes, tag: str, data: bytes) -> int:
+        wanted = self.append(into, key, field(tag.encode("latin-1"), data), 0 if tag in "Sx" else calls.BAD_TAG)
+        return self.check(self.buffer.put_bytes(into.struct, key, tag, data), wanted, into)
+
+    def put_value(self, into: Written, key: bytes, data: bytes, flags: int, max_depth: int = 9) -> int:
+        result, _ = wanted_problem(data, flags, 999, max_depth)
+        whole = b"F" * (flags & UNTAGGED) + data
+        wanted = self.append(into, key, whole[: extent(whole)], result)
+        return self.check(self.buffer.put_value(into.struct, key, data, flags, 999, max_depth), wanted, into)
+
+    def open(self, into: Written, key: bytes, tag: str) -> tuple[int, Written]:
+        body, before = Written(7, 7, "x"), into.length
+        wanted = self.append(into, key, tag.encode("latin-1") + b"\0" * 4, 0 if tag in "AF" else calls.BAD_TAG)
+        found = self.buffer.open(into.struct, key, tag, body.struct)
+        if wanted == OK:
+            body.offset, body.length, body.tag, body.any_keys, into.inner = into.end, 0, tag, into.any_keys, 1
+            into.length = before
+            body.needed = 0
+        return self.check(found, wanted, into, body), body
+
+    def close(self, into: Written, body: Written) -> int:
+        at, size, wanted = into.end, len(self.bytes), INVALID
+        if all(is_inside((it.offset, it.length), size) and it.tag in "AF" for it in (into, body)):
+            key = bytes(self.bytes[at + 1 : at + 1 + self.bytes[at]]) if into.tag == "F" and at < size else b""
+            at += (1 + self.bytes[at] if at < size else 1) * (into.tag == "F")
+            is_key = into.any_keys or is_utf8(key)
+            is_there = at + 5 == body.offset and is_key and at < size and self.bytes[at] == ord(body.tag)
+            if (into.inner, body.inner) == (1, 0) and is_there:
+                wanted = OK
+                self.bytes[at + 1 : at + 5] = body.length.to_bytes(4, "big")
+                into.length, into.inner = body.end - into.offset, 0
+        return self.check(self.buffer.close(into.struct, body.struct), wanted, into, body)
+
+
+KEYS = [b"", b"a", b"key", "é".encode(), b"\xff", b"\xed\xa0\x80", b"k" * 255, b"k" * 256, "é".encode() * 127 + b"k"]
+VALUES = [
+    b"V", b"t\7", b"I\0", b"U\0\1", b"z", b"S\0\0\0\1ab", b"F\0\0\0\3\1\xffV", b"F\0\0\0\6\1aV\1aV", b"A\0\0\0\5A\0\0\0\0", b"",
+    b"F\0\0\0\3\1az", b"f\x7f\x80\0\0", b"x\0\0\4\0", b"A\0\0\0\1I",
+]  # fmt: skip
+
+
+def test_building(seed: int) -> None:
+    """Calls in any order, in buffers of any size, of containers that are open, were closed, or were corrupted."""
+    make, results = Random(seed), Counter[int]()
+    tags, numbers = "tbBsUuIilLfdDSxTVAFz\0\xff", NUMBERS
+    for _ in range(20_000):
+        builder = Builder(make.choice([0, 1, 4, 5, make.randrange(60), 200, 600]))
+        open_ = [Written(any_keys=make.choice([0, 0, 1, 255]), tag=make.choice("AAF"))]
+        for _ in range(make.randrange(1, 14)):
+            into = open_[-1] if make.random() < 0.85 else make.choice(open_)
+            key = b"" if into.tag == "A" and make.random() < 0.9 else make.choice(KEYS)
+            kind = make.randrange(9)
+            if kind < 3:
+                builder.put(into, key, make.choice(tags), make.choice(numbers), make.choice([0, 0, 0, 3, 255]))
+            elif kind < 4:
+                builder.put_bytes(into, key, make.choice("SSxxAV"), make.randbytes(make.randrange(9)))
+            elif kind < 6:
+                flags, value = make.randrange(16), make.choice(VALUES)
+                builder.put_value(into, key, value[value[:1] == b"F" and flags & 1 :], flags, make.choice([0, 1, 9]))
+            elif kind < 7:
+                result, body = builder.open(into, key, make.choice("AAFFSz"))
+                open_ += [body] if result == OK else []
+            elif kind < 8 and len(open_) > 1:
+                if builder.close(*make.choice([open_[-2:], [make.choice(open_), make.choice(open_)]])) == OK:
+                    del open_[-1]
+            elif make.random() < 0.2:
+                size = make.choice(
+                    [0, len(builder.bytes), 2**64 - 1, 2**63, make.randrange(len(builder.bytes) + 1)]
+                )
+                other = Written(
+                    make.choice([into.offset, size]), make.choice([into.length, size]), into.tag, into.any_keys
+                )
+                other.struct.inner = other.inner = make.choice([into.inner, 0, 1, 2, 255])
+                open_[open_.index(into)] = other
+        results += builder.results
+    wanted = {OK, INVALID, calls.BAD_KEY, calls.BAD_TAG, calls.OUT_OF_RANGE, calls.NO_ROOM, calls.MORE, calls.CUT}
+    wanted |= {calls.UNKNOWN_TAG, calls.TOO_DEEP, calls.TOO_LARGE, calls.KEY_NOT_UTF8, calls.NOT_FINITE}
+    assert {*results} == wanted
+
+
+def test_every_type_and_number() -> None:
+    builder = Builder(16)
+    for tag in map(chr, range(256)):
+        for bits in NUMBERS:
+            for scale in (0, 1, 255):
+                builder.put(Written(), b"", tag, bits, scale)
+
+
+def test_larger_buffer(seed: int) -> None:
+    """A call that has no room succeeds with the capacity that it needs, and not with less."""
+    make = Random(seed)
+    for _ in range(500):
+        key, value = make.choice([it for it in KEYS[:4] if it]), value_of(make, 2)
+        at = make.randrange(20)
+        into = calls.Container((0, at), ord("F"), 0, 0, 0)
+        assert calls.Buffer(at).put_value(into, key, value) == calls.NO_ROOM
+        assert into.needed == at + 1 + len(key) + len(value)
+        for size, result in ((into.needed - 1, calls.NO_ROOM), (into.needed, OK)):
+            assert calls.Buffer(size).put_value(calls.Container((0, at), ord("F"), 0, 0, 0), key, value) == result
+
+
+# The canonical encoding and JSON
+
+
+def assert_written(data: bytes, flags: int = 0, max_depth: int = calls.MAX_DEPTH) -> None:
+    """The canonical encoding and the JSON of a value, which means it."""
+    limits = flags, calls.MAX_BYTES, max_depth
+    result, _ = wanted_problem(data, *limits)
+    if result != OK:
+        for call in (calls.canonical, calls.to_json, calls.write_json):
+            assert call(data, *limits) == (result, 0), data.hex()
+        return
+    value = read(b"F" * flags + data)[0]
+    wanted, text = write(value), json_of(value).encode()
+    assert calls.canonical(data, *limits) == (OK, wanted[flags:]), data.hex()
+    assert calls.to_json(data, *limits) == (OK, text)
+    assert calls.write_json(wanted[flags:], *limits) == (OK, text)
+    assert calls.write_json(data, *limits) == ((OK, text) if ascends(b"F" * flags + data) else (calls.NO_MEMORY, 0))
+    if text.count(b"[") + text.count(b"{") <= LEVELS:
+        assert calls.from_json(text) == (OK, wanted, None)
+
+
+def ascends(data: bytes) -> bool:
+    """Whether the keys of every table in a value ascend, each once."""
+    if data[:1] not in (b"A", b"F"):
+        return True
+    found = [*parts(data[: extent(data)])]
+    keys = [key[1:] for key, _ in found]
+    return (data[:1] == b"A" or all(a < b for a, b in zip(keys, keys[1:]))) and all(ascends(it) for _, it in found)
+
 
 # How keys begin: also with four and with eight bytes that are the same, as which they are compared.
 FRONTS = [b"", b"x-", b"x-fi", b"x-first-", b"x-first-death-"]
-STRING_OR_BRACKET = re.compile(rb'"(?:[^"\\]|\\.)*(?:"|\\?\Z)|[][{}]', re.DOTALL)
 
 
 def test_tables_of_few_and_of_many_keys(seed: int) -> None:
@@ -108,8 +504,11 @@ def test_tables_of_few_and_of_many_keys(seed: int) -> None:
     for count in [*range(2, 40)] * 50:
         keys = [make.choice(FRONTS) + bytes(make.choices(b"abc", k=make.randrange(4))) for _ in range(count)]
         data = field(b"F", b"".join(bytes([len(it)]) + it + b"b" + make.randbytes(1) for it in keys))
-        value = read(data)[0]
-        assert calls.to_json(data) == json_of(value) and calls.canonical(data) == write(value), data.hex()
+        left_out = make.randrange(2)
+        assert_written(data[left_out:], left_out)
+
+
+STRING_OR_BRACKET = re.compile(rb'"(?:[^"\\]|\\.)*(?:"|\\?\Z)|[][{}]', re.DOTALL)
 
 
 def too_deep(text: bytes, nesting: int) -> int | None:
@@ -125,38 +524,75 @@ def too_deep(text: bytes, nesting: int) -> int | None:
     return None
 
 
-def meant(text: bytes, nesting: int) -> bytes | calls.Problem:
-    """The canonical encoding of what a text means, or what is wrong with the text at which byte, by the model."""
+def meant(text: bytes, nesting: int) -> tuple[int, bytes | int, Any]:
+    """What reading a text returns by the model: the canonical encoding, or what is wrong at which byte."""
     if (at := too_deep(text, min(nesting, LEVELS))) is not None:
-        return at, calls.TOO_DEEP, 0
+        return calls.TOO_DEEP, 0, (at, 0, 0)
     try:
         text.decode()
-        return write(value_of_json(text))
+        return OK, write(value_of_json(text)), None
     except UnicodeDecodeError as why:
-        return why.start, calls.NOT_UTF8, 0
+        return calls.NOT_UTF8, 0, (why.start, 0, 0)
     except Rejected as why:
-        return why.at, calls.NO_VALUE if why.mismatch else calls.NOT_A_JSON, 0
+        return calls.NOT_A_VALUE if why.mismatch else calls.NOT_JSON, 0, (why.at, 0, 0)
 
 
 def test_texts_that_may_mean_none(seed: int) -> None:
-    make, kinds = Random(seed), Counter[int]()
+    make, results = Random(seed), Counter[int]()
     for text in texts(make, (some_value(make, 3) for _ in range(10_000))):
         if make.random() < 0.05:
             at = make.randrange(len(text) + 1)
             text = text[:at] + make.choice([b"\x80", b"\xff", b"\xc3", b"\xed\xa0\x80"]) + text[at + 1 :]
         nesting = make.choice([*range(8), 127, 128, 2**32 - 1])
-        wanted = meant(text, nesting)
-        try:
-            found: Any = calls.from_json(text, nesting)
-        except calls.Failed as why:
-            found = why.found
-        assert found == wanted, (text, nesting)
-        kinds[0 if isinstance(wanted, bytes) else wanted[1]] += 1
-    assert len(kinds) == 5 and min(kinds.values()) > 25, kinds
+        found = calls.from_json(text, nesting)
+        assert found == meant(text, nesting), (text, nesting)
+        results[found[0]] += 1
+    assert len(results) == 5 and min(results.values()) > 25, results
+
+
+@pytest.mark.parametrize("depth", (1, 2, 126, 127, 128, 129))
+@pytest.mark.parametrize("nesting", (0, 1, 126, 127, 128, 2**32 - 1))
+def test_deep_texts(depth: int, nesting: int) -> None:
+    """Brackets nest at most 127 deep, whatever the limit is; values may be deeper."""
+    for form in ("A", "F", "AF"):
+        data = nested(form, depth, b"V")
+        result, text = calls.to_json(data, 0, calls.MAX_BYTES, depth)
+        assert result == OK and isinstance(text, bytes) and calls.from_json(text, nesting) == meant(text, nesting)
+        assert calls.from_json(text[:-1], nesting) == meant(text[:-1], nesting)
 
 
 def test_texts_with_other_spellings(seed: int) -> None:
     make = Random(seed)
     for _ in range(5000):
         value = read(value_of(make, 4))[0]
-        assert calls.from_json(text_for(make, value)) == write(value)
+        assert calls.from_json(text_for(make, value).encode()) == (OK, write(value), None)
+
+
+# Warnings
+
+
+def warnings_of(data: bytes, levels: int, frame_max: int, left_out: int) -> dict[str, Any] | None:
+    """What is doubtful by the model, of a table without its type tag if one byte is left out."""
+    places = doubtful(data, levels) | unfit_for_streams(data)
+    first = {name: max(0, it[0] - left_out) if it else None for name, it in places.items()}
+    found = first | {"exceeds_frame": exceeds(extent(data[:5]), frame_max)}
+    return found if any(it is not None and it is not False for it in found.values()) else None
+
+
+def test_warnings(seed: int) -> None:
+    """Of tables that RabbitMQ takes, with each number of levels."""
+    make, seen = Random(seed), set[str]()
+    for data in (odd_table(make) for _ in range(2000)):
+        for levels in range(5) if not first_problem(data, "RabbitMQ", 4) else ():
+            for left_out in (0, 1):
+                flags, frame_max = left_out | make.choice([0, FIRST_KEY, ANY_KEYS, RABBITMQ]), make.choice([64, 64, 0])
+                result, found = calls.warn(data[left_out:], flags, 4, frame_max, levels)
+                wanted = warnings_of(data, levels, frame_max, left_out)
+                assert (result, found) == ((OK, wanted) if wanted else (NONE, None)), data.hex()
+            seen |= {name for name, it in found.items() if it is not None and it is not False} if found else {""}
+    assert seen == {*calls.OFFSETS, "exceeds_frame", ""}
+
+
+def test_version() -> None:
+    assert calls.version() == 100
+    assert c_size_t(-1).value == NOWHERE

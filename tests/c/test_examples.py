@@ -1,4 +1,4 @@
-"""The examples of examples/c, by the transcripts that have their names (tests/transcripts.py).
+"""The examples of examples/c, by the transcripts that have their names (tests/transcripts.py), and the C of docs/C.md.
 
 They are compiled by both compilers, and run on an old processor too, as qemu has it; with --built for aarch64, run by qemu.
 Standard error isn't compared, which sanitizers and processors of qemu write to.
@@ -11,8 +11,10 @@ from typing import NamedTuple
 
 import pytest
 from building import AARCH64, COMPILERS
+from crates import TOP
 
-from tests.c.compiling import EXAMPLES, FLAGS, LINKED, OF_AARCH64, C, Words, compiled
+from tests.c.compiling import EXAMPLES, FLAGS, LINKED, OF_AARCH64, C, Words, compiled, printed
+from tests.c.pages import PRINTED, program_of_page
 from tests.c.running import assert_as_transcript
 from tests.transcripts import Case, cases
 
@@ -62,6 +64,13 @@ def build(request: pytest.FixtureRequest, libraries: None, folder: Path) -> Buil
 @pytest.mark.parametrize(("way", "name", "case"), CASES)
 def test_case(build: Build, way: str, name: str, case: Case) -> None:
     assert_as_transcript(case, [*WAYS[way].run_by, build(way, name)])
+
+
+def test_page(libraries: None, sanitizers: list[str], tmp_path: Path) -> None:
+    """Every block of docs/C.md is compiled and run."""
+    source = tmp_path / "page.c"
+    source.write_text(program_of_page((TOP / "docs/C.md").read_text()))
+    assert printed([compiled(source, tmp_path / "page", options=sanitizers)]) == PRINTED
 
 
 SHARED = "count_deaths"

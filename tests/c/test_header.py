@@ -1,16 +1,15 @@
-"""The header, and the C of docs/C.md, which are compiled and not run.
+"""The header, which is compiled and not run.
 
-header.c uses the header in each version of C and C++ from C99 to C23 and C++11 to C++23, by gcc and clang with all their
-warnings. Its macros refuse each marked line of refused.c. stable.c states every struct's fields and every constant.
+header.c uses it in each version of C and C++ from C99 to C23 and C++11 to C++23, by gcc and clang with all their warnings.
+stable.c states every struct's fields and every constant.
 """
 
 import re
 from typing import NamedTuple
 
 import pytest
-from crates import TOP
 
-from tests.c.compiling import C, HEADER, HERE, Done, assert_well, run
+from tests.c.compiling import HEADER, HERE, assert_well, run
 
 WARNINGS = "-Wall -Wextra -Wpedantic -Wconversion -Wsign-conversion -Wshadow -Wcast-qual -Werror".split()
 WARNINGS_OF = {"c": WARNINGS, "c++": [*WARNINGS, "-Wold-style-cast"]}
@@ -45,56 +44,23 @@ def test_header(compiler: Compiler, version: str) -> None:
 
 # What isn't taken
 
-# The lines of refused.c, and how those are marked that aren't to compile.
-LINES = (HERE / "refused.c").read_text().splitlines()
-MARKS = {at: it.rpartition("// ")[2] for at, it in enumerate(LINES) if it.endswith(("// error", "// warning"))}
-REFUSED = [
-    pytest.param(compiler, at, id=f"{compiler.name}, line {at + 1}", marks=compiler.needs())
-    for compiler in COMPILERS
-    for at in MARKS
-]
-OF_COMPILERS = [pytest.param(it, id=it.name, marks=it.needs()) for it in COMPILERS]
-WITH_WARNINGS = "-Wall -Wextra -Wconversion -Wno-unused -Wno-unused-parameter -Werror".split()
+REFUSED = (
+    "amqpv_step by_pointer(const char *key) { amqpv_step it = AMQPV_KEY(key); return it; }",
+    "amqpv_result get(const amqpv_input *in, amqpv_entry *it, const char *key) { return amqpv_get(in, it, AMQPV_STR(key), it); }",
+    "amqpv_step by_negative(void) { amqpv_step it = AMQPV_INDEX(-1); return it; }",
+    "void add(amqpv_writer *w, const char *n) { amqpv_add_int(w, 0, AMQPV_LONG_INT, n); }",
+)
 
 
-def compiled(compiler: Compiler, at: int | None, are_errors: bool) -> Done:
-    """Compiles refused.c with one of its marked lines, or with none, where warnings are errors or not."""
-    text = "\n".join(line if n == at or n not in MARKS else "" for n, line in enumerate(LINES))
-    how = WITH_WARNINGS if are_errors else ["-w"]
-    words = [compiler.name, f"-x{compiler.language}", f"-I{HEADER.parent}", "-fsyntax-only", *how, "-"]
-    return run(words, input=f"{text}\n")
-
-
-@pytest.mark.parametrize("compiler", OF_COMPILERS)
-def test_without_marked_lines(compiler: Compiler) -> None:
-    assert_well(compiled(compiler, None, True))
-
-
-@pytest.mark.parametrize(("compiler", "at"), REFUSED)
-def test_marked_line(compiler: Compiler, at: int) -> None:
-    assert compiled(compiler, at, MARKS[at] == "warning").returncode == 1, f"it takes {LINES[at].strip()}"
-
-
-# The page
-
-# Around a block of docs/C.md that is the body of a function.
-AROUND = """
-#include "amqp_values.h"
-#include <stdlib.h>
-void send_bytes(const uint8_t *bytes, size_t length);
-void example(const uint8_t *bytes, size_t length, uint8_t *buffer, size_t capacity);
-void example(const uint8_t *bytes, size_t length, uint8_t *buffer, size_t capacity) {
-    (void)bytes, (void)length, (void)buffer, (void)capacity;"""
-BLOCKS = re.findall(r"(?ms)^```c\n(.*?)^```", (TOP / "docs/C.md").read_text())
-
-
-@pytest.mark.parametrize("block", BLOCKS, ids=[f"example {number}" for number, _ in enumerate(BLOCKS, 1)])
-def test_example_of_page(block: str) -> None:
-    """A block that includes the header is a file, each other the body of a function."""
-    is_file = block.startswith("#include")
-    text = block if is_file else f"{AROUND}\n{block}}}\n"
-    words = [*C, "-Wno-unused-function"] if is_file else C
-    assert_well(run([*words, "-xc", "-fsyntax-only", "-"], input=text))
+@pytest.mark.parametrize("compiler", [pytest.param(it, id=it.name, marks=it.needs()) for it in COMPILERS])
+@pytest.mark.parametrize("line", REFUSED, ids=range(len(REFUSED)))
+def test_misuse(compiler: Compiler, line: str) -> None:
+    """It gets a warning, or an error."""
+    words = [compiler.name, f"-x{compiler.language}", f"-I{HEADER.parent}", "-fsyntax-only", *WARNINGS, "-"]
+    head = '#include "amqp_values.h"\n'
+    declared = line.partition(" {")[0]
+    assert_well(run(words, input=f"{head}{declared};\n"))
+    assert run(words, input=f"{head}{declared};\n{line}\n").returncode == 1
 
 
 # What stays
@@ -105,7 +71,7 @@ def wanted_in_stable() -> list[str]:
     header = re.sub(r"/\*.*?\*/", "", HEADER.read_text(), flags=re.DOTALL)
     wanted = {f"CONSTANT({it}," for it in re.findall(r"(AMQPV_\w+) = ", header)}
     for name, body in re.findall(r"typedef struct (\w+) \{(.*?)\}", header, re.DOTALL):
-        wanted |= {f"FIELD({name}, {it}," for it in re.findall(r"(\w+);", body)} | {f"STRUCT({name},"}
+        wanted |= {f"FIELD({name}, {it}," for it in re.findall(r"(\w+)(?:\[\w+\])?;", body)} | {f"STRUCT({name},"}
     return sorted(wanted)
 
 

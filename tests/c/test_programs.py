@@ -1,51 +1,28 @@
-"""The programs of this folder, by what their heads state.
+"""The programs of this folder, by what their heads state. Each prints how many calls it made.
 
-Each prints how many calls it made. CHECK of condition.h, by which each of them ends, ends it by SIGABRT if its condition
-doesn't hold, and only then. nested.c makes the calls that recurse, on the stacks that docs/PROMISES.md names, and with the
-limits that the header recommends on the stacks that it names (tests/model/nesting.py), with --built for aarch64 too.
+nested.c makes the calls that recurse, on the stacks that docs/PROMISES.md names, and with the limits that the header recommends
+on the stacks that it names (tests/model/nesting.py), with --built for aarch64 too.
 
 C is compiled with the address and undefined behaviour sanitizers if they link, threads.c with ThreadSanitizer, but for nested.c.
-They don't see into the libraries, so the others have pages about their bytes that can't be accessed.
+They don't see into the libraries, so most programs have pages about their bytes that can't be accessed.
 """
 
 import re
-import signal
+from collections.abc import Iterator
 from pathlib import Path
+from random import Random
 
 import pytest
 from building import AARCH64, COMPILERS
 
-from tests.c.compiling import (
-    FLAGS,
-    HEADER,
-    HERE,
-    LINKED,
-    OF_AARCH64,
-    C,
-    Words,
-    assert_well,
-    compiled,
-    printed,
-    run,
-    wraps,
-)
+from tests.c.compiling import FLAGS, HERE, LINKED, OF_AARCH64, WRAPPED, C, Words, compiled, printed
 from tests.model import nesting
+from tests.model.json_format import json_of, text_for
+from tests.model.printed import field, read, value_of, write
+from tests.model.tables import random_table, raw
 
-# The programs whose calls are counted.
-COUNTED = (
-    "corrupt_cursors.c",
-    "look_ups.c",
-    "canonical_and_json.c",
-    "building.c",
-    "macros.c",
-    "nulls.c",
-    "threads.c",
-    "warnings.c",
-)
-# Those that include CHECK, by itself or with check.h.
-CHECKED = sorted(
-    it.name for it in HERE.glob("*.c") if re.search(r'(?ms)^#include "c\w+\.h".*^int main\(', it.read_text())
-)
+# The programs that have no input.
+ALONE = ("large.c", "nulls.c", "threads.c")
 CC_OF_AARCH64 = [COMPILERS[AARCH64][0], *FLAGS]
 needs_aarch64 = pytest.mark.needs("--built", "aarch64")
 
@@ -56,30 +33,46 @@ def for_aarch64(made_for_aarch64: Path) -> Words:
     return [made_for_aarch64 / "lib/libamqp_values.a"]
 
 
-@pytest.mark.parametrize("name", CHECKED)
-def test_check(libraries: None, tmp_path: Path, name: str) -> None:
-    """CHECK, as the program sees it."""
-    main = "int main(int count, char **words) { (void)words; CHECK(count == 1); return 0; }"
-    probe, program, source = tmp_path / "probe.c", tmp_path / "probe", HERE / name
-    probe.write_text(f'#define main of_the_program\n#include "{source}"\n#undef main\n{main}\n')
-    words = ["cc", "-std=c11", "-w", f"-I{HEADER.parent}", "-pthread", *wraps(source)]
-    assert_well(run([*words, "-o", program, probe, *LINKED]))
-    assert [run([program]).returncode, run([program, "other"]).returncode] == [0, -signal.SIGABRT]
-
-
-def calls_of(words: Words) -> int:
+def calls_of(words: Words, given: str = "") -> int:
     """How many calls a program makes, as its last line has it: N calls."""
-    said = printed(words, timeout=600)
-    found = re.search(r"(?:^|\n)(?:.*; )?(\d+) calls\n\Z", said)
+    said = printed(words, timeout=600, input=given)
+    found = re.search(r"(?:^|\n)(\d+) calls\n\Z", said)
     assert found, said[-1000:]
     return int(found[1])
 
 
-@pytest.mark.parametrize("name", COUNTED)
+@pytest.mark.parametrize("name", ALONE)
 def test_program(libraries: None, sanitizers: list[str], tmp_path: Path, name: str) -> None:
-    source = HERE / name
-    how = ["-fsanitize=thread", "-pthread"] if name == "threads.c" else [*sanitizers, *wraps(source)]
-    assert calls_of([compiled(source, tmp_path / "program", options=how)])
+    how = ["-fsanitize=thread", "-pthread"] if name == "threads.c" else sanitizers
+    assert calls_of([compiled(HERE / name, tmp_path / "program", options=how)])
+
+
+def of_memory(make: Random) -> Iterator[tuple[str, int, bytes, bytes]]:
+    """What memory.c is given: a call, its flags, what it gets, and what it has to write by the model."""
+    given = [value_of(make, 3) for _ in range(60)] + [raw(random_table(make, 2)) for _ in range(20)]
+    keys = [b"\5%05d" % (6666 - it) for it in range(6667)]
+    large = field(b"F", b"".join(key + b"l" + it.to_bytes(8, "big") for it, key in enumerate(keys)))
+    strings = [field(b"S", b"a" * it) for it in (4093, 4094, 4095)]
+    for data in [*given, *strings, large]:
+        value = read(data)[0]
+        encoding, text = write(value), json_of(value).encode()
+        for left_out in (0, 1) if data[:1] == b"F" else (0,):
+            yield "canonical", left_out, data[left_out:], encoding[left_out:]
+            yield "canonical", left_out, encoding[left_out:], encoding[left_out:]
+            yield "to_json", left_out, data[left_out:], text
+            yield "write_json", left_out, encoding[left_out:], text
+            yield "warn", left_out, data[left_out:], b""
+        yield "from_json", 0, text, encoding
+        yield "from_json", 0, text_for(make, value).encode(), encoding
+
+
+def test_memory(libraries: None, sanitizers: list[str], tmp_path: Path, seed: int) -> None:
+    """Buffers of every size, and each allocation failing in turn."""
+    lines = [
+        f"{call} {flags} .{given.hex()} .{wanted.hex()}\n" for call, flags, given, wanted in of_memory(Random(seed))
+    ]
+    options = [*sanitizers, *WRAPPED]
+    assert calls_of([compiled(HERE / "memory.c", tmp_path / "program", options=options)], "".join(lines))
 
 
 @needs_aarch64
@@ -94,7 +87,7 @@ def test_nulls_on_aarch64(for_aarch64: Words, tmp_path: Path) -> None:
 def nested(folder: Path, name: str, words: Words, libraries: Words) -> Path:
     """nested.c, as it is compiled."""
     source = HERE / "nested.c"
-    return compiled(source, folder / name, words, [*wraps(source), "-pthread"], libraries)
+    return compiled(source, folder / name, words, ["-pthread"], libraries)
 
 
 @pytest.fixture(scope="module")

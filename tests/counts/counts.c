@@ -56,131 +56,81 @@ void *__wrap_memset(void *to, int byte, size_t size) { return moved += size, __r
 
 /* ---- an input, and what calls write */
 
-/* What calls are given: the encoding, or the table without its type tag, and limits, also by rules; JSON; the last key. */
-#define ENCODING bytes, length, FRAME, DEPTH
-#define TABLE bytes + 1, table_length, FRAME, DEPTH
-#define BY(rules) bytes, length, AMQPV_RULES_##rules, FRAME, DEPTH
-#define TABLE_BY(rules) bytes + 1, table_length, AMQPV_RULES_##rules, FRAME, DEPTH
-#define LEVELS DEPTH, 0, DEPTH
-#define TEXT text, text_length, AMQPV_JSON_NESTING
-#define LAST_KEY bytes, length, &start, path[0].key, path[0].key_length
-
 enum { STACK = 2 << 20, MOST = 8 << 20, MOST_ENTRIES = 20000, FRAME = UINT32_MAX, DEPTH = 5000 };
 static uint8_t *bytes, *buffer;
 static char *text, *json;
 static size_t length, table_length, text_length, entry_count;
-static amqpv_entry value, entries[MOST_ENTRIES], places[MOST_ENTRIES];
-static amqpv_pair pairs[MOST_ENTRIES];
+/* What calls are given: the encoding, the same as RabbitMQ accepts it, and the table without its type tag. */
+static amqpv_input encoding, for_rabbitmq, untagged;
+static amqpv_entry value, entries[MOST_ENTRIES];
 static amqpv_cursor start;
-static amqpv_measure measured;
+static amqpv_size measured;
 /* The path to the last entry, and to its last value if it is an array. */
 static amqpv_step path[2];
 /* What an input is: the calls are made if it is what they are for. */
-static int is_table, is_flat, ends_in_array, is_canonical, is_not_canonical, is_ascending, is_not_ascending, has_text;
+static int is_table, ends_in_array, is_canonical, is_not_canonical, is_ascending, is_not_ascending, has_text;
 
 static amqpv_entry entry;
-static amqpv_measure measure;
+static amqpv_size size;
 static amqpv_problem problem;
 static amqpv_warnings warnings;
 static amqpv_cursor cursor;
-static size_t count, taken;
+static size_t count;
 
 /* ---- the calls */
 
-static amqpv_result read_value(void) { return amqpv_read(ENCODING, &entry, &count); }
-static amqpv_result read_table(void) { return amqpv_read_table(TABLE, &entry, &count); }
-static amqpv_result read_pairs(void) { return amqpv_read_pairs(TABLE, places, MOST_ENTRIES, &count, &taken); }
-static amqpv_result read_by(void) { return amqpv_read_by(BY(RABBITMQ), &entry, &count, &problem); }
-static amqpv_result read_table_by(void) { return amqpv_read_table_by(TABLE_BY(ANY_KEYS), &entry, &count, &problem); }
-static amqpv_result measure_value(void) { return amqpv_measure_value(ENCODING, &measure, &count); }
-static amqpv_result measure_table(void) { return amqpv_measure_table(TABLE, &measure, &count); }
-static amqpv_result first_problem(void) { return amqpv_first_problem(BY(READ), &problem); }
-static amqpv_result problem_in_table(void) { return amqpv_first_problem_in_table(TABLE_BY(READ), &problem); }
-static amqpv_result first_warnings(void) { return amqpv_first_warnings(bytes, length, LEVELS, &warnings); }
-static amqpv_result warnings_in_table(void) { return amqpv_first_warnings_in_table(bytes + 1, table_length, LEVELS, &warnings); }
-static amqpv_result tell_canonical(void) { return amqpv_is_canonical(ENCODING, &count); }
-static amqpv_result tell_canonical_table(void) { return amqpv_is_canonical_table(TABLE, &count); }
-static amqpv_result canonical(void) { return amqpv_canonical(ENCODING, buffer, MOST, &count); }
-static amqpv_result to_json(void) { return amqpv_to_json(ENCODING, json, MOST, &count); }
-static amqpv_result write_json(void) { return amqpv_write_json(ENCODING, json, MOST, &count); }
-static amqpv_result from_json(void) { return amqpv_from_json(TEXT, buffer, MOST, &count); }
-static amqpv_result from_json_or_problem(void) { return amqpv_from_json_or_problem(TEXT, buffer, MOST, &count, &problem); }
-static amqpv_result write_table(void) { return amqpv_write_table(pairs, entry_count, buffer, MOST, &count); }
-static amqpv_result find(void) { return amqpv_find(LAST_KEY, &entry); }
-static amqpv_result find_first(void) { return amqpv_find_first(LAST_KEY, &entry); }
-static amqpv_result find_no_key(void) { return amqpv_find(bytes, length, &start, AMQPV_LITERAL("no such key"), &entry); }
-static amqpv_result find_path(void) { return amqpv_find_path(bytes, length, &value, path, 1, AMQPV_FIRST_KEY, &entry); }
-static amqpv_result find_index(void) { return amqpv_find_path(bytes, length, &value, path, 2, AMQPV_LAST_KEY, &entry); }
+static amqpv_result read_value(void) { return amqpv_read(&encoding, &entry, &problem); }
+static amqpv_result read_for_rabbitmq(void) { return amqpv_read(&for_rabbitmq, &entry, &problem); }
+static amqpv_result read_table(void) { return amqpv_read(&untagged, &entry, &problem); }
+static amqpv_result peek(void) { return amqpv_peek(&encoding, &entry); }
+static amqpv_result measure(void) { return amqpv_measure(&encoding, &size, &problem); }
+static amqpv_result warn(void) { return amqpv_warn(&encoding, 0, DEPTH, &warnings); }
+static amqpv_result tell_canonical(void) { return amqpv_is_canonical(&encoding); }
+static amqpv_result canonical(void) { return amqpv_canonical(&encoding, buffer, MOST, &count); }
+static amqpv_result canonical_table(void) { return amqpv_canonical(&untagged, buffer, MOST, &count); }
+static amqpv_result to_json(void) { return amqpv_to_json(&encoding, json, MOST, &count); }
+static amqpv_result to_json_of_table(void) { return amqpv_to_json(&untagged, json, MOST, &count); }
+static amqpv_result write_json(void) { return amqpv_write_json(&encoding, json, MOST, &count); }
+static amqpv_result from_json(void) { return amqpv_from_json(text, text_length, AMQPV_JSON_NESTING, buffer, MOST, &count, &problem); }
+static amqpv_result find_key(void) { return amqpv_find(&encoding, &value, path, 1, &entry); }
+static amqpv_result find_index(void) { return amqpv_find(&encoding, &value, path, 2, &entry); }
+static amqpv_result find_no_key(void) { return amqpv_get(&encoding, &value, AMQPV_STR("no such key"), &entry); }
 
-static amqpv_result enter(void) {
-    amqpv_result result = amqpv_first(bytes, length, &entry);
-    return result == AMQPV_OK ? amqpv_enter(bytes, length, &entry, &cursor) : result;
+static amqpv_result find_first(void) {
+    amqpv_input first = encoding;
+    first.flags = AMQPV_FIRST_KEY;
+    return amqpv_find(&first, &value, path, 1, &entry);
 }
 
 static amqpv_result next(void) {
     amqpv_result result;
     cursor = start;
-    while ((result = amqpv_next(bytes, length, &cursor, &entry)) == AMQPV_OK) {
+    while ((result = amqpv_next(&encoding, &cursor, &entry)) == AMQPV_OK) {
     }
     return result;
 }
 
-/* Gets an entry of fixed width by what it is in C; AMQPV_NONE if there is no call for it. */
-static amqpv_result get(const amqpv_entry *it) {
+static amqpv_result as_int(void) {
     int64_t number;
     uint64_t natural;
-    uint32_t digits;
-    int32_t truth;
-    uint8_t scale;
-    switch (it->tag) {
-    case 'b': case 's': case 'I': case 'l': return amqpv_as_int(it, &number);
-    case 'B': case 'u': case 'i': return amqpv_as_uint(it, &natural);
-    case 't': return amqpv_as_bool(it, &truth);
-    case 'T': return amqpv_as_timestamp(it, &natural);
-    case 'D': return amqpv_as_decimal(it, &digits, &scale);
-    default: return AMQPV_NONE;
+    for (size_t i = 0; i < entry_count; i++) {
+        if (amqpv_as_int(&entries[i], &number) != AMQPV_OK) {
+            amqpv_as_uint(&entries[i], &natural);
+        }
     }
-}
-
-static amqpv_result get_all(void) {
-    amqpv_result result = AMQPV_OK;
-    for (size_t i = 0; i < entry_count && result >= AMQPV_OK; i++) {
-        result = get(&entries[i]);
-    }
-    return result;
-}
-
-static amqpv_result needed(void) {
-    const amqpv_container into = {{0, 0}, AMQPV_TABLE, 0, 0, 0};
-    amqpv_result result = AMQPV_OK;
-    for (size_t i = 0; i < entry_count && result == AMQPV_OK; i++) {
-        result = amqpv_needed(&into, entries[i].key.length, entries[i].tag, entries[i].content.length, &count);
-    }
-    return result;
+    return AMQPV_OK;
 }
 
 #define INTO buffer, MOST, into, (const char *)bytes + it->key.offset, it->key.length
 
 /* Puts an entry by its bytes. */
 static amqpv_result put(amqpv_container *into, const amqpv_entry *it) {
+    amqpv_input of_value = amqpv_value(bytes + it->value.offset, it->value.length);
+    of_value.max_bytes = FRAME, of_value.max_depth = DEPTH;
     switch (it->tag) {
     case 'S': case 'x': return amqpv_put_bytes(INTO, it->tag, bytes + it->content.offset, it->content.length);
-    case 'A': case 'F': return amqpv_put_value(INTO, bytes + it->value.offset, it->value.length, FRAME, DEPTH);
+    case 'A': case 'F': return amqpv_put_value(INTO, &of_value);
     default: return amqpv_put(INTO, it->tag, it->bits, it->scale);
-    }
-}
-
-/* Puts an entry that is no container by what it is in C. */
-static amqpv_result put_typed(amqpv_container *into, const amqpv_entry *it) {
-    switch (it->tag) {
-    case 'b': case 's': case 'I': case 'l': return amqpv_put_int(INTO, it->tag, (int64_t)it->bits);
-    case 'B': case 'u': case 'i': return amqpv_put_uint(INTO, it->tag, it->bits);
-    case 't': return amqpv_put_bool(INTO, (int32_t)it->bits);
-    case 'T': return amqpv_put_timestamp(INTO, it->bits);
-    case 'D': return amqpv_put_decimal(INTO, (uint32_t)it->bits, it->scale);
-    case 'V': return amqpv_put_void(INTO);
-    case 'S': return amqpv_put_string(INTO, (const char *)bytes + it->content.offset, it->content.length);
-    default: return put(into, it);
     }
 }
 
@@ -193,17 +143,16 @@ static amqpv_result build_all(void) {
     into[0] = (amqpv_container){{0, 0}, AMQPV_ARRAY, 0, 0, 0};
     amqpv_result result = amqpv_open(buffer, MOST, &into[0], "", 0, AMQPV_TABLE, &into[1]);
     while (result == AMQPV_OK && at > 0) {
-        result = amqpv_next(bytes, length, &from[at], &entry);
+        result = amqpv_next(&encoding, &from[at], &entry);
         if (result == AMQPV_NONE) {
             at--;
             result = amqpv_close(buffer, MOST, &into[at], &into[at + 1]);
-        } else if (result == AMQPV_OK && (entry.tag == AMQPV_ARRAY || entry.tag == AMQPV_TABLE)) {
+        } else if (result == AMQPV_OK && amqpv_enter(&entry, &from[at + 1]) == AMQPV_OK) {
             const char *key = (const char *)bytes + entry.key.offset;
             result = amqpv_open(buffer, MOST, &into[at], key, entry.key.length, entry.tag, &into[at + 1]);
             at++;
-            result = result == AMQPV_OK ? amqpv_enter(bytes, length, &entry, &from[at]) : result;
         } else if (result == AMQPV_OK) {
-            result = put_typed(&into[at], &entry);
+            result = put(&into[at], &entry);
         }
     }
     return result;
@@ -230,7 +179,7 @@ int64_t amqp_bench_encode_n(const uint8_t *given, size_t given_length, uint8_t *
 static amqpv_result is_done(int64_t bytes_taken) { return bytes_taken == (int64_t)length ? AMQPV_OK : AMQPV_INVALID; }
 static amqpv_result is_written(int64_t bytes_put) { return bytes_put > 0 ? AMQPV_OK : AMQPV_INVALID; }
 static amqpv_result parse(void) { return is_done(amqp_bench_decode(bytes, length)); }
-static amqpv_result parse_within(void) { return is_done(amqp_bench_decode_within(ENCODING)); }
+static amqpv_result parse_within(void) { return is_done(amqp_bench_decode_within(bytes, length, FRAME, DEPTH)); }
 static amqpv_result stream_bytes(void) { return is_done(amqp_bench_stream(bytes, length, 1)); }
 static amqpv_result stream_blocks(void) { return is_done(amqp_bench_stream(bytes, length, 4096)); }
 static amqpv_result read_in_place(void) { return is_done(amqp_bench_scan(bytes, length)); }
@@ -248,37 +197,28 @@ typedef struct call {
 
 static const call calls[] = {
     {"amqpv_read", read_value, &length, &is_table},
-    {"amqpv_read_table", read_table, &table_length, &is_table},
-    {"amqpv_read_pairs", read_pairs, &table_length, &is_table},
-    {"amqpv_read_by for RabbitMQ", read_by, &length, &is_table},
-    {"amqpv_read_table_by with any keys", read_table_by, &table_length, &is_table},
-    {"amqpv_measure_value", measure_value, &length, &is_table},
-    {"amqpv_measure_table", measure_table, &table_length, &is_table},
-    {"amqpv_first_problem", first_problem, &length, &is_table},
-    {"amqpv_first_problem_in_table", problem_in_table, &table_length, &is_table},
-    {"amqpv_first_warnings", first_warnings, &length, &is_table},
-    {"amqpv_first_warnings_in_table", warnings_in_table, &table_length, &is_table},
+    {"amqpv_read for RabbitMQ", read_for_rabbitmq, &length, &is_table},
+    {"amqpv_read of a table", read_table, &table_length, &is_table},
+    {"amqpv_peek", peek, &length, &is_table},
+    {"amqpv_measure", measure, &length, &is_table},
     {"amqpv_is_canonical", tell_canonical, &length, &is_table},
-    {"amqpv_is_canonical_table", tell_canonical_table, &table_length, &is_table},
-    {"amqpv_first and amqpv_enter", enter, &length, &is_table},
     {"amqpv_next", next, &length, &is_table},
-    {"amqpv_as_int and others", get_all, &length, &is_table},
-    {"amqpv_find of the last key", find, &length, &is_table},
+    {"amqpv_as_int and amqpv_as_uint", as_int, &length, &is_table},
+    {"amqpv_find of the last key", find_key, &length, &is_table},
+    {"amqpv_find of the first key", find_first, &length, &is_table},
     {"amqpv_find of no key", find_no_key, &length, &is_table},
-    {"amqpv_find_first of the last key", find_first, &length, &is_table},
-    {"amqpv_find_path of the last key", find_path, &length, &is_table},
-    {"amqpv_find_path of the last index", find_index, &length, &ends_in_array},
-    {"amqpv_needed", needed, &length, &is_table},
+    {"amqpv_find of the last index", find_index, &length, &ends_in_array},
     {"amqpv_put and others", put_all, &length, &is_table},
-    {"amqpv_put_int and others", build_all, &length, &is_table},
-    {"amqpv_write_table", write_table, &table_length, &is_flat},
+    {"amqpv_open, amqpv_close and others", build_all, &length, &is_table},
+    {"amqpv_warn", warn, &length, &is_table},
     {"amqpv_canonical", canonical, &length, &is_not_canonical},
+    {"amqpv_canonical of a table", canonical_table, &table_length, &is_not_canonical},
     {"amqpv_canonical of canonical bytes", canonical, &length, &is_canonical},
     {"amqpv_to_json", to_json, &length, &is_not_ascending},
+    {"amqpv_to_json of a table", to_json_of_table, &table_length, &is_not_ascending},
     {"amqpv_to_json of ascending keys", to_json, &length, &is_ascending},
     {"amqpv_write_json", write_json, &length, &is_ascending},
     {"amqpv_from_json", from_json, &text_length, &has_text},
-    {"amqpv_from_json_or_problem", from_json_or_problem, &text_length, &has_text},
     {"parse_value", parse, &length, &is_table},
     {"parse_value_within", parse_within, &length, &is_table},
     {"ValueReader::next by 1 byte", stream_bytes, &length, &is_table},
@@ -337,35 +277,38 @@ static void try_call(call it, const char *input) {
     printf(" %zu\n", stack_of(it) - stack_of((call){"", do_nothing, NULL, NULL}));
 }
 
+/* An input without limits. */
+static amqpv_input input_of(const uint8_t *at, size_t n, uint32_t flags) {
+    amqpv_input in = amqpv_value(at, n);
+    in.max_bytes = FRAME, in.max_depth = DEPTH, in.flags = flags;
+    return in;
+}
+
 /* Finds what the calls need of a table. */
 static void prepare(const char *input) {
     table_length = length - 1;
-    is_table = read_value() == AMQPV_OK && count == length && amqpv_enter(bytes, length, &entry, &start) == AMQPV_OK
-               && amqpv_read_pairs(TABLE, entries, MOST_ENTRIES, &entry_count, &taken) == AMQPV_OK && entry_count > 0;
-    if (!is_table || measure_value() != AMQPV_OK) {
+    encoding = input_of(bytes, length, 0), for_rabbitmq = input_of(bytes, length, AMQPV_RABBITMQ);
+    untagged = input_of(bytes + 1, table_length, AMQPV_UNTAGGED);
+    is_table = read_value() == AMQPV_OK && entry.value.length == length && amqpv_enter(&entry, &start) == AMQPV_OK
+               && amqpv_entries(&encoding, &entry, entries, MOST_ENTRIES, &entry_count) == AMQPV_OK && entry_count > 0;
+    if (!is_table || measure() != AMQPV_OK) {
         fprintf(stderr, "%s isn't a table with entries, or has too many\n", input);
         exit(1);
     }
-    value = entry, measured = measure, is_flat = 1;
-    for (size_t i = 0; i < entry_count; i++) {
-        amqpv_entry *it = &entries[i];
-        /* (their offsets are those in the bytes with the type tag) */
-        it->key.offset++, it->value.offset++, it->content.offset++;
-        const uint8_t *key = bytes + it->key.offset, *content = bytes + it->content.offset;
-        pairs[i] = (amqpv_pair){(const char *)key, it->key.length, content, it->content.length, it->bits, it->tag, it->scale};
-        is_flat = is_flat && it->tag != AMQPV_ARRAY && it->tag != AMQPV_TABLE;
-    }
+    value = entry, measured = size;
     entry = entries[entry_count - 1];
-    path[0] = (amqpv_step){pairs[entry_count - 1].key, entry.key.length, 0, AMQPV_TABLE};
+    path[0] = (amqpv_step){(const char *)bytes + entry.key.offset, entry.key.length, 0, AMQPV_TABLE};
     path[1] = (amqpv_step){NULL, 0, SIZE_MAX, AMQPV_ARRAY};
-    for (int has_more = entry.tag == AMQPV_ARRAY && amqpv_enter(bytes, length, &entry, &cursor) == AMQPV_OK; has_more;) {
-        has_more = amqpv_next(bytes, length, &cursor, &entry) == AMQPV_OK;
+    for (int has_more = entry.tag == AMQPV_ARRAY && amqpv_enter(&entry, &cursor) == AMQPV_OK; has_more;) {
+        has_more = amqpv_next(&encoding, &cursor, &entry) == AMQPV_OK;
         path[1].index += has_more;
     }
     ends_in_array = path[1].index != SIZE_MAX;
     is_canonical = tell_canonical() == AMQPV_OK, is_not_canonical = !is_canonical;
     is_ascending = write_json() == AMQPV_OK, is_not_ascending = !is_ascending;
-    has_text = amqpv_to_json(bytes, length, FRAME, AMQPV_JSON_NESTING - 2, text, MOST, &text_length) == AMQPV_OK;
+    amqpv_input for_text = encoding;
+    for_text.max_depth = AMQPV_JSON_NESTING - 2;
+    has_text = amqpv_to_json(&for_text, text, MOST, &text_length) == AMQPV_OK;
 }
 
 static void try_input(const char *name) {
@@ -373,8 +316,8 @@ static void try_input(const char *name) {
     FILE *file = fopen(name, "rb");
     length = fread(bytes, 1, MOST, file);
     fclose(file);
-    is_table = is_flat = ends_in_array = is_canonical = is_not_canonical = is_ascending = is_not_ascending = has_text = 0;
-    measured = (amqpv_measure){0, 0, 0};
+    is_table = ends_in_array = is_canonical = is_not_canonical = is_ascending = is_not_ascending = has_text = 0;
+    measured = (amqpv_size){0, 0, 0};
     if (bytes[0] == AMQPV_TABLE) {
         prepare(input);
     } else {

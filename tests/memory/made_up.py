@@ -20,12 +20,16 @@ LEFT_OUT = ("test_",)
 LISTED = {
     # the value was read from bytes, so it has an encoding, and only memory for that or for the text can be short
     ("amqp_json/src/decode.rt", "Err(_) => Err(DecodeError::OutOfMemory),"),
+    ("amqp_json/src/decode.rt", "Err(_) => Err(AllocError),"),
     # a vector is too short for what is written only for want of memory
     ("amqp_json/src/decode.rt", "Err(_) => Err(EncodeError::OutOfMemory),"),
     # the bytes are the encoding of a value, so reading them fails only for want of memory
     ("amqp_json/src/encode.rt", "Err(_) => Err(JsonError::OutOfMemory),"),
+    # these calls fail only for want of memory: their error is an AllocError
+    ("amqp_c_alloc/src/canonical.rt", "return Err(Fault::NoMemory);"),
+    ("amqp_c_alloc/src/decode.rt", "return Err(Fault::NoMemory);"),
     # nothing is allocated there: a clause states that the keys of a table don't ascend
-    ("amqp_c/src/json.rt", "Err(WriteError::KeysOutOfOrder) => Err(Fault::OutOfMemory),"),
+    ("amqp_c/src/json.rt", "return Err(Fault::NoMemory);"),
 }
 # The lines that ask for memory by a number, and what bounds that.
 BY_NUMBER = {
@@ -56,9 +60,9 @@ PASSED_ON = {
     "amqp_wire/src/sink.rt": "fn write_some(&mut self, buf: &[u8]) -> io::Result<usize> { self.write(buf) } }",
 }
 SILENT = r"""//[^\n]*|/\*.*?\*/|\bb?r(#*)".*?"\1|"(?:\\.|[^"\\])*"|'(?:\\.[^']*|[^'\\])'"""
-MADE = r"\bAlloc(?:Error|Failed)\b(?!\s*[<>])|\bOutOfMemory\b|\bFailure\s*\(|\bout_of_memory\s*\("
-NAMED = r"\bAllocError\b|::\s*OutOfMemory\b|::\s*Failure\s*\("
-RENAMED = r"\b(?:AllocError|AllocFailed|OutOfMemory|out_of_memory)\s+as\b"
+MADE = r"\bAlloc(?:Error|Failed)\b(?!\s*[<>])|\b(?:OutOf|No)Memory\b|\bFailure\s*\(|\bout_of_memory\s*\("
+NAMED = r"\bAllocError\b|::\s*(?:OutOf|No)Memory\b|::\s*Failure\s*\("
+RENAMED = r"\b(?:AllocError|AllocFailed|OutOfMemory|NoMemory|out_of_memory)\s+as\b"
 IMPORTED = r"\buse std::alloc::(?:AllocError;|\{[^}]*\bAllocError\b)"
 # What makes one of an AllocError.
 MAKER = r"\bimpl From<AllocError> for [^{]*\{|\bfn out_of_memory\(\)[^{]*\{"

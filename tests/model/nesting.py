@@ -110,36 +110,30 @@ class Call(NamedTuple):
 JSON = ("to_json", "json_of_encoding", "from_json", "encoding_of_json")
 DEEP, DEEPER, OF_JSON, UNLIMITED = (LIMIT, 1000), (LIMIT, 10_000), (LIMIT, 127), (LIMIT, 1000, 10_000)
 # What a call returns that rejects the nesting.
-REJECTED = re.compile(r"kind: Eof|TooDeep|Syntax\(|refused|AMQPV_MALFORMED|AMQPV_NOT_JSON")
-# The calls of nested.c, the third on what has it read, write and compare.
-OF_ENCODINGS = (
-    "amqpv_read",
-    "amqpv_read_by",
-    "amqpv_measure_value",
-    "amqpv_first_problem",
-    "amqpv_is_canonical",
-    "amqpv_put_value",
-    "amqpv_first_warnings",
-)
-OF_TABLES = (
-    "amqpv_read_table",
-    "amqpv_read_table_by",
-    "amqpv_read_pairs",
-    "amqpv_measure_table",
-    "amqpv_first_problem_in_table",
-    "amqpv_is_canonical_table",
-    "amqpv_first_warnings_in_table",
-)
+REJECTED = re.compile(r"kind: Eof|TooDeep|Syntax\(|refused|AMQPV_TOO_DEEP")
 # Texts: keys that don't ascend are sorted.
 TEXTS: dict[str, Make] = {"": json_text, "keys that don't ascend": partial(json_text, after=',"a":null')}
+
+
+def flagged(flags: int, make: Make) -> Make:
+    """What nested.c is given: the flags, and then what the call is."""
+    return lambda form, depth: b"%d" % flags + make(form, depth)
+
+
+# What the calls of nested.c are given that read; those that find no value search for the first problem.
+UNTAGGED, WRONG = {"untagged": flagged(1, payload)}, {"no type tag": flagged(0, partial(encoding, innermost=b"z"))}
+READ = {"": flagged(0, encoding), **UNTAGGED, **WRONG}
+BY_RULES = {**READ, "keys of any bytes": flagged(2, any_keys), "RabbitMQ's rules": flagged(4, any_keys)}
 FOR_C = {
-    **{it: Call([it], {"": encoding}, DEEPER) for it in OF_ENCODINGS},
-    **{it: Call([it], {"": payload}, DEEPER) for it in OF_TABLES},
-    "amqpv_put_value of any keys": Call(["amqpv_put_value of any keys"], {"": any_keys}, DEEPER),
-    "amqpv_to_json": Call(["amqpv_to_json"], {"": unordered}, DEEP),
-    "amqpv_write_json": Call(["amqpv_write_json"], {"": encoding}, DEEP),
-    "amqpv_canonical": Call(["amqpv_canonical"], {"": not_canonical}, DEEP),
-    **{it: Call([it], TEXTS, OF_JSON) for it in ("amqpv_from_json", "amqpv_from_json_or_problem")},
+    "amqpv_read": Call(["amqpv_read"], BY_RULES, DEEPER),
+    "amqpv_put_value": Call(["amqpv_put_value"], BY_RULES, DEEPER),
+    "amqpv_measure": Call(["amqpv_measure"], READ, DEEPER),
+    "amqpv_is_canonical": Call(["amqpv_is_canonical"], {"": flagged(0, not_canonical), **UNTAGGED, **WRONG}, DEEPER),
+    "amqpv_canonical": Call(["amqpv_canonical"], {"": flagged(0, not_canonical), **UNTAGGED, **WRONG}, DEEP),
+    "amqpv_to_json": Call(["amqpv_to_json"], {"": flagged(0, unordered), **UNTAGGED, **WRONG}, DEEP),
+    "amqpv_write_json": Call(["amqpv_write_json"], READ, DEEP),
+    "amqpv_from_json": Call(["amqpv_from_json"], {how: flagged(0, it) for how, it in TEXTS.items()}, OF_JSON),
+    "amqpv_warn": Call(["amqpv_warn"], {"": flagged(0, encoding), **UNTAGGED}, DEEPER),
 }
 # The call that warns of what nests deeper than its limit, and is done.
 WARNS = "warnings"
@@ -264,14 +258,11 @@ class InHeader(NamedTuple):
 def in_header(column: int) -> InHeader:
     text = HEADER.read_text()
     limits = {name: int(number) for name, number in re.findall(r"(AMQPV_\w*DEPTH) = (\d+)", text)}
-    rows = re.findall(r"(?m)^ \*\s+(\d+)\s+(\d+)(?: bytes)?\s+in (amqpv_.*)$", text)
-    figures = {
-        name: int(of[column]) for *of, names in rows for name in re.findall(r"amqpv_\w+(?: of any keys)?", names)
-    }
-    ((besides, some, others),) = re.findall(r"The stack suffices: (\d+) KiB, in (.*?) (\d+) KiB,", text)
-    of_some = {name: int(others) << 10 for name in some.split(" and ")}
-    (most,) = re.findall(r"content with a stack of (\d+) KiB", text)
-    return InHeader(limits, int(besides) << 10, of_some, figures, int(most) << 10)
+    ((besides, some, others),) = re.findall(r"Stack use: (\d+) KiB, in (\w+) (\d+) KiB,", text)
+    rows = re.findall(r"(?m)^ \*     (amqpv_[\w, ]*\w) +(\d+) +(\d+)$", text.partition("Stack use:")[2])
+    figures = {name: int(of[column]) for names, *of in rows for name in names.split(", ")}
+    (most,) = re.findall(r"(\d+) KiB is enough with the default limits", text)
+    return InHeader(limits, int(besides) << 10, {some: int(others) << 10}, figures, int(most) << 10)
 
 
 def recommended(column: int = 0) -> Iterator[Check]:
@@ -285,7 +276,7 @@ def recommended(column: int = 0) -> Iterator[Check]:
     other = "" if figures == of_page else f"those of {PAGE.name} are {of_page}"
     yield Check("the header's figures", partial(whatever, other))
     for name, call in FOR_C.items():
-        limit = limits["AMQPV_JSON_DEPTH" if "json" in name else "AMQPV_DEPTH"]
+        limit = limits["AMQPV_JSON_DEPTH" if "json" in name else "AMQPV_MAX_DEPTH"]
         stack = of_some.get(name, besides) + limit * figures.get(name, thread)
         over = f"by the header it takes {stack} bytes of stack" if stack > thread else ""
         yield Check(f"{name}, {limit} deep", partial(whatever, over))

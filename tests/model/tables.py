@@ -115,7 +115,7 @@ def oddity_of(tag: str, content: bytes) -> str:
 # What RabbitMQ makes of them
 
 
-# What it closes the connection for, and what isn't read here, by the kind in include/amqp_values.h: printed.py's words.
+# What it closes the connection for, and what isn't read here, by a number: printed.py's words.
 PROBLEMS = {
     1: "type tag", 2: "an infinity or a NaN", 4: "end of its table", 5: "nest deeper", 7: "isn't UTF-8",
     3: "",

@@ -1,33 +1,25 @@
--- Encodings in which keys may be any bytes: those of values, and those that are read by these rules.
-use Rattle.std.proofs.Common.{◌≡◌, ◌≢◌, ◌≤◌, ◌+◌, ◌-◌, ℕ, zero, suc, Option, Some, None, List, [], ◌∷◌, ◌++◌, length, take, drop, Result, Ok, Err, MatchResult, refl, sym, ap, ap₂, ◌∙◌, subst, arith, inl, inr, append-nil, append_assoc, length-append}
+-- Encodings by rules: those of values that aren't containers, and those that are read.
+use Rattle.std.proofs.Common.{◌≡◌, ◌≤◌, ◌<◌, ◌+◌, ◌-◌, ℕ, zero, suc, Option, Some, None, List, [], ◌∷◌, length, take, drop, refl, sym, ap, ◌∙◌, subst, arith, inl, inr, append-nil}
 use Rattle.std.specs.Prelude.{option_map}
 use Rattle.std.specs.Int.{Width, byte_len, from_be_bytes}
 use Rattle.std.proofs.lemmas.Bool.{cases_lt, lt-ltb, le-ltb}
-use Rattle.std.proofs.lemmas.List.{take_at, length-take-le, take-append-le, take-append-drop}
+use Rattle.std.proofs.lemmas.List.{length-take-le, take-append-le, take-append-drop}
 use Rattle.amqp_value_core.specs.declared.types.amqp_type.AMQPType.{AMQPType}
 use Rattle.amqp_value_core.specs.declared.types.amqp_type.AMQPType.TheVariants as amqp
 use Rattle.amqp_value_core.specs.Layouts.{Layout, fixed}
-use Rattle.amqp_value_core.specs.Outcomes.{found, length_field, counted}
-use Rattle.amqp_value_core.specs.Values.{Tree, array, table, Trees, Entries}
-use Rattle.amqp_value_core.specs.Grammar.{short_field, Wire, wire, Raw, raw_fixed, raw_short, raw_long, raw_octets, raw_array, raw_table, ArrayBody, no_values, value, TableBody, no_pairs, pair}
+use Rattle.amqp_value_core.specs.Outcomes.{length_field, counted}
+use Rattle.amqp_value_core.specs.Values.{Tree, array, table}
+use Rattle.amqp_value_core.specs.Grammar.{Wire, wire, Raw, raw_fixed, raw_short, raw_long, raw_octets, raw_array, raw_table}
 use Rattle.amqp_value_core.specs.Ids.{kind}
-use Rattle.amqp_value_core.specs.Nesting.{raw_nesting, WireWithin, within_wire, RawWithin, within_plain, within_array, within_table, BodyWithin, within_no_values, within_value, PairsWithin, within_no_pairs, within_pair}
-use Rattle.amqp_value_core.proofs.GrammarLaws.{prefix_within, raw_of, wire_within}
 use Rattle.amq_protocol_types.specs.declared.parsing.limits.Limits.{Limits}
 use Rattle.amq_protocol_types.specs.parsing.Headers.{extent, extent_at, extent_of, raw_extent}
-use Rattle.amq_protocol_types.specs.parsing.Limits.{Within}
 use Rattle.amq_protocol_types.proofs.ParsingLaws.{wire_extent}
-use Rattle.amqp_in_place.specs.declared.problems.Problem.{Problem}
 use Rattle.amqp_in_place.specs.declared.problems.Rules.{Rules}
 use Rattle.amqp_in_place.specs.declared.problems.Rules.TheVariants.{AnyKeys}
-use Rattle.amqp_in_place.specs.Problems.{Search, further, in_entries, in_value, in_pair, pair_len, inside, value_problem, values_problem, pair_problem, pairs_problem, problem_of}
-use Rattle.amqp_c_common.specs.declared.fault.Fault.{Fault}
-use Rattle.amqp_c.specs.declared.entry.Entry.{Entry}
-use Rattle.amqp_c.specs.ByRules.{IsEncodingBy, AreValuesBy, ArePairsBy}
-use Rattle.amqp_c.specs.Faults.{IsAnyFault}
-use Rattle.amqp_c.specs.ReadBy.{IsReadOr, IsFirstEntry}
+use Rattle.amqp_in_place.specs.Problems.{Search, further, in_value, in_pair, pair_len, inside, value_problem, values_problem, pair_problem, pairs_problem, problem_of}
 use Rattle.amqp_in_place.proofs.AnyKeys.{no_further, entries_weaker}
-use Rattle.amqp_c.proofs.ByRules.{values_join, one_value, pairs_join, one_pair, value_there, value_right, value_size, pair_there, pair_right, payload_there, payload_right, encoding_is, field_there}
+use Rattle.amqp_c.specs.ByRules.{IsEncodingBy}
+use Rattle.amqp_c.proofs.ByRules.{value_there, value_right, value_size, pair_there, pair_right, payload_there, payload_right, encoding_is, field_there}
 
 -- ---- values by the grammar
 
@@ -40,41 +32,11 @@ fixed_right d amqp.FieldArray f b row = absurd cc
 fixed_right d amqp.FieldTable f b row = absurd cc
 fixed_right d _ f b row = refl
 
--- nor in an encoding within the depth
 -- a payload has as many bytes as it counts
 payload_size : (c : ℕ) (type : AMQPType) (b : List ℕ) (v : Tree) → kind c ≡ Some type → Raw type b v → raw_extent type b ≡ length b
 payload_size c type b v is raw =
     let whole : extent (c ∷ b) ≡ suc (length b) = ap extent (sym (append-nil (c ∷ b))) ∙ wire_extent (c ∷ b) [] v (wire c type b v is raw) in
     omega (arith, whole, ap (λ (o : Option AMQPType). extent_at o b) is)
-
-plain_right : (d : ℕ) (type : AMQPType) (b : List ℕ) (v : Tree) → type ≢ amqp.FieldArray → type ≢ amqp.FieldTable → Raw type b v → inside AnyKeys d type b ≡ None
-plain_right d _ _ _ no_array no_table (raw_fixed type f b row wide) = fixed_right d type f b row
-plain_right d _ _ _ no_array no_table (raw_short s is) = refl
-plain_right d _ _ _ no_array no_table (raw_long s fits) = refl
-plain_right d _ _ _ no_array no_table (raw_octets s fits) = refl
-plain_right d _ _ _ no_array no_table (raw_array body vs fits all) = absurd (no_array refl)
-plain_right d _ _ _ no_array no_table (raw_table body ps es fits all mean) = absurd (no_table refl)
-
-mutual
-  wire_right : (d : ℕ) (w : List ℕ) (v : Tree) → WireWithin d w v → IsEncodingBy AnyKeys d w
-  wire_right _ _ _ (within_wire d c type b v is raw) =
-      encoding_is AnyKeys d c type b is (payload_size c type b v is (raw_of d type b v raw)) (raw_right d type b v raw)
-
-  raw_right : (d : ℕ) (type : AMQPType) (b : List ℕ) (v : Tree) → RawWithin d type b v → inside AnyKeys d type b ≡ None
-  raw_right _ _ _ _ (within_plain d type b v no_array no_table p) = plain_right d type b v no_array no_table p
-  raw_right _ _ _ _ (within_array d body vs fits all) = ap (option_map (further 5)) (body_right d body vs all)
-  raw_right _ _ _ _ (within_table d body ps es fits all mean) = ap (option_map (further 5)) (pairs_right d body ps all)
-
-  body_right : (d : ℕ) (b : List ℕ) (vs : Trees) → BodyWithin d b vs → AreValuesBy AnyKeys d b
-  body_right _ _ _ (within_no_values d) = refl
-  body_right _ _ _ (within_value d w rest v vs first others) =
-      values_join AnyKeys d w rest (one_value AnyKeys d w (wire_right d w v first)) (body_right d rest vs others)
-
-  pairs_right : (d : ℕ) (b : List ℕ) (ps : Entries) → PairsWithin d b ps → ArePairsBy AnyKeys d b
-  pairs_right _ _ _ (within_no_pairs d) = refl
-  pairs_right _ _ _ (within_pair d k w rest v ps key first others) =
-      subst (ArePairsBy AnyKeys d) (append_assoc (short_field k) w rest)
-      (pairs_join AnyKeys d (short_field k ++ w) rest (one_pair AnyKeys d k w refl (wire_right d w v first)) (pairs_right d rest ps others))
 
 -- a value that is no container
 abbrev pub IsPlain : Tree → Type 0
@@ -82,19 +44,19 @@ IsPlain (array vs) = ⊥
 IsPlain (table es) = ⊥
 IsPlain v = Unit {0}
 
-plain_nesting : (type : AMQPType) (b : List ℕ) (v : Tree) (p : Raw type b v) → IsPlain v → raw_nesting type b v p ≡ 0
-plain_nesting _ _ _ (raw_fixed type f b row wide) plain = refl
-plain_nesting _ _ _ (raw_short s is) plain = refl
-plain_nesting _ _ _ (raw_long s fits) plain = refl
-plain_nesting _ _ _ (raw_octets s fits) plain = refl
-plain_nesting _ _ _ (raw_array body vs fits all) plain = absurd plain
-plain_nesting _ _ _ (raw_table body ps es fits all mean) plain = absurd plain
+plain_right : (d : ℕ) (type : AMQPType) (b : List ℕ) (v : Tree) → IsPlain v → Raw type b v → inside AnyKeys d type b ≡ None
+plain_right d _ _ _ plain (raw_fixed type f b row wide) = fixed_right d type f b row
+plain_right d _ _ _ plain (raw_short s is) = refl
+plain_right d _ _ _ plain (raw_long s fits) = refl
+plain_right d _ _ _ plain (raw_octets s fits) = refl
+plain_right d _ _ _ plain (raw_array body vs fits all) = absurd plain
+plain_right d _ _ _ plain (raw_table body ps es fits all mean) = absurd plain
 
-pub plain_reads : (w : List ℕ) (v : Tree) → Wire w v → IsPlain v → (depth : ℕ) → IsEncodingBy AnyKeys depth w
-plain_reads _ _ (wire c type b v is raw) plain depth =
-    wire_right depth (c ∷ b) v (wire_within depth (c ∷ b) v (wire c type b v is raw) (omega (arith, plain_nesting type b v raw plain)))
+pub plain_reads : (w : List ℕ) (v : Tree) → Wire w v → IsPlain v → (rules : Rules) (depth : ℕ) → rules ≡ AnyKeys → IsEncodingBy rules depth w
+plain_reads _ _ (wire c type b v is raw) plain rules depth any =
+    subst (λ (r : Rules). IsEncodingBy r depth (c ∷ b)) (sym any) (encoding_is AnyKeys depth c type b is (payload_size c type b v is raw) (plain_right depth type b v plain raw))
 
--- ---- what is read if keys may be any bytes
+-- ---- what is read by rules
 
 -- what has no problem has none if containers may nest deeper
 value_weaker : (rules : Rules) (within other : AMQPType → Search) → ((type : AMQPType) (b : List ℕ) → within type b ≡ None → other type b ≡ None)
@@ -133,22 +95,6 @@ deeper rules d (suc n) type b none =
     let same : suc (n + d) ≡ suc n + d = omega arith in
     subst (λ (m : ℕ). inside rules m type b ≡ None) same (inside_deeper rules (n + d) type b (deeper rules d n type b none))
 
--- an encoding within a depth has none if containers may nest deeper
-wire_deeper : (d depth : ℕ) (w : List ℕ) (v : Tree) → WireWithin d w v → d ≤ depth → IsEncodingBy AnyKeys depth w
-wire_deeper _ depth _ _ (within_wire d c type b v is raw) deep =
-    let same : depth - d + d ≡ depth = omega (arith, deep) in
-    let none : inside AnyKeys depth type b ≡ None = subst (λ (m : ℕ). inside AnyKeys m type b ≡ None) same (deeper AnyKeys d (depth - d) type b (raw_right d type b v raw)) in
-    encoding_is AnyKeys depth c type b is (payload_size c type b v is (raw_of d type b v raw)) none
-
--- so an encoding that is read from the start within limits
-pub prefix_reads : (l : Limits) (s rest w : List ℕ) (v : Tree) → Within l s (found v rest) → w ≡ take (length s - length rest) s
-    → (depth : ℕ) → l.depth ≤ depth → IsEncodingBy AnyKeys depth w
-prefix_reads l s rest w v x is depth deep =
-    let f = prefix_within l.depth s rest v x.1 in
-    let count : length s - length rest ≡ length f.0 = omega (arith, ap length f.2, length-append f.0 rest) in
-    let same : f.0 ≡ w = sym (is ∙ (ap₂ (λ (n : ℕ) (t : List ℕ). take n t) count f.2 ∙ take_at f.0 rest (length f.0) refl)) in
-    subst (IsEncodingBy AnyKeys depth) same (wire_deeper l.depth depth f.0 v f.1 deep)
-
 -- the bytes of a payload alone have as many as it
 extent_less : (o : Option Layout) (w : Width) (b : List ℕ) (n : ℕ) → n ≡ extent_of o w b → n ≤ length b → extent_of o w (take n b) ≡ n
 extent_less (Some f) w b n is there = sym is
@@ -168,7 +114,7 @@ within_limits rules l s = elim (cases_lt l.frame (extent s)) [
 ]
 
 -- and the bytes that its header counts are an encoding, also if containers may nest deeper
-start_reads : (rules : Rules) (d depth : ℕ) (s : List ℕ) → d ≤ depth → value_problem rules d s ≡ None → IsEncodingBy rules depth (take (extent s) s)
+pub start_reads : (rules : Rules) (d depth : ℕ) (s : List ℕ) → d ≤ depth → value_problem rules d s ≡ None → IsEncodingBy rules depth (take (extent s) s)
 start_reads rules d depth [] deep none = absurd cc
 start_reads rules d depth (c ∷ b) deep none =
     let (type, is, right) = value_there rules (inside rules d) c b none in
@@ -180,22 +126,11 @@ start_reads rules d depth (c ∷ b) deep none =
     subst (λ (m : ℕ). inside rules m type (take n b) ≡ None) sum (deeper rules d (depth - d) type (take n b) there.1) in
     subst (IsEncodingBy rules depth) (ap (λ (m : ℕ). take m (c ∷ b)) (sym (value_size rules c b type is))) (encoding_is rules depth c type (take n b) is size none_in)
 
-pub any_reads : (l : Limits) (s : List ℕ) → problem_of AnyKeys l s ≡ None → (depth : ℕ) → l.depth ≤ depth → IsEncodingBy AnyKeys depth (take (extent s) s)
-any_reads l s none depth deep = start_reads AnyKeys l.depth depth s deep (within_limits AnyKeys l s none).1
-
--- what reading by these rules results in
-pub any_read : (l : Limits) (s : List ℕ) (first : Option Problem) (done : Result Entry Fault) → first ≡ problem_of AnyKeys l s → IsReadOr (IsFirstEntry s) s first done
-    → MatchResult done (λ e. (problem_of AnyKeys l s ≡ None) × (e.value.length ≡ extent s) × (e.value.length ≤ length s) × (e.value.length ≤ l.frame)) (IsAnyFault l s)
-any_read l s None (Ok e) is x =
-    let size : e.value.length ≡ extent s = x.at_start.2 in
-    (sym is, size, omega (arith, x.inside.value), omega (arith, size, (within_limits AnyKeys l s (sym is)).0))
-any_read l s None (Err f) is x = absurd x
-any_read l s (Some p) (Ok e) is x = absurd x
-any_read l s (Some p) (Err f) is x = (p, sym is, x)
-
--- so the bytes that are counted are an encoding
-pub any_length_reads : (l : Limits) (s : List ℕ) (r : Result ℕ Fault) → MatchResult r (λ n. (problem_of AnyKeys l s ≡ None) × (n ≡ extent s)) (IsAnyFault l s)
-    → MatchResult r (λ n. (depth : ℕ) → l.depth ≤ depth → IsEncodingBy AnyKeys depth (take n s)) (λ x. Unit {0})
-any_length_reads l s (Ok n) (none, is) = λ depth deep.
-    subst (λ (m : ℕ). IsEncodingBy AnyKeys depth (take m s)) (sym is) (any_reads l s none depth deep)
-any_length_reads l s (Err f) x = tt
+-- all of them are there
+pub value_whole : (rules : Rules) (d : ℕ) (s : List ℕ) → value_problem rules d s ≡ None → (0 < extent s) × (extent s ≤ length s)
+value_whole rules d [] none = absurd cc
+value_whole rules d (c ∷ b) none =
+    let (type, is, right) = value_there rules (inside rules d) c b none in
+    let there = payload_there (inside rules d) type b right in
+    let size = value_size rules c b type is in
+    (omega (arith, size), omega (arith, size, there.0))

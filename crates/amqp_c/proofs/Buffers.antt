@@ -1,8 +1,7 @@
 -- Buffers that are written to.
-use Rattle.std.proofs.Common.{◌≡◌, ◌+◌, ◌-◌, ◌≤◌, ℕ, List, [], ◌++◌, length, take, drop, refl, sym, ap, ap₂, ◌∙◌, arith, append_assoc, append-nil, length-append, length-drop}
-use Rattle.std.proofs.lemmas.List.{take_at, drop_at, drop-drop, length-take-le, take-append-drop, take-append-le, take_all, drop_all}
+use Rattle.std.proofs.Common.{◌≡◌, ◌+◌, ◌-◌, ◌≤◌, ℕ, List, ◌++◌, length, take, drop, refl, sym, ap, ap₂, ◌∙◌, arith, append_assoc, length-append, length-drop}
+use Rattle.std.proofs.lemmas.List.{take_at, drop_at, drop-drop, length-take-le, take-append-drop, take-append-le}
 use Rattle.std.proofs.lemmas.Slice.{drop-append-drop}
-use borrow.Rule.Slice.PartMut.{put_mid}
 use Rattle.std.proofs.lemmas.Bool.{ne_eqb}
 use Rattle.amqp_c.specs.declared.container.Container.{Container}
 use Rattle.amqp_c.specs.Containers.{IsPlace, named, end_of, entry_of, end_with, up_to}
@@ -61,17 +60,6 @@ with_bytes-ends k n at last b buffer counted least most fits is =
     ∙ (over last mid (drop m b) one (omega (arith, whole, is, fits)) (omega (arith, length-drop m (take k b), firsts, length-drop m b, counted, least, most))
     ∙ (with_bytes-join at last (take m b) (drop m b) buffer here (omega (arith, is, fits, least))
     ∙ ap (λ (t : List ℕ). with_bytes at t buffer) (take-append-drop m b)))
-
--- what is written at the start of the rest of a buffer is written there
-pub written_after : (at : ℕ) (b buffer rest : List ℕ) → at + length b ≤ length buffer → rest ≡ with_bytes 0 b (take (length buffer - at) (drop at buffer))
-    → put_mid at (length buffer - at) buffer rest ≡ with_bytes at b buffer
-written_after at b buffer rest fits is =
-    let n = length buffer - at in
-    let all : take n (drop at buffer) ≡ drop at buffer = take_all n (drop at buffer) (omega (arith, length-drop at buffer)) in
-    let none : drop n (drop at buffer) ≡ [] = drop_all n (drop at buffer) (omega (arith, length-drop at buffer)) in
-    let same : rest ≡ b ++ drop (at + length b) buffer =
-    is ∙ ap (λ (t : List ℕ). b ++ t) (ap (drop (0 + length b)) all ∙ (drop-drop (0 + length b) at buffer ∙ ap (λ (m : ℕ). drop m buffer) (omega arith))) in
-    ap (λ (t : List ℕ). take at buffer ++ t) (ap (λ (t : List ℕ). rest ++ t) none ∙ (append-nil rest ∙ same))
 
 -- how many bytes are before the value of an entry
 pub named_table : (tag : ℕ) (k : List ℕ) → tag ≡ 70 → length (named tag k) ≡ 1 + length k

@@ -12,7 +12,7 @@ use Rattle.amqp_value_core.specs.Layouts.{spelled}
 use Rattle.amqp_value_core.specs.InMemory.{IsNumber}
 use Rattle.amqp_value_core.specs.Texts.{text}
 use Rattle.amqp_value_core.specs.Values.{Scalar, number, decimal, scalar}
-use Rattle.amqp_c_common.specs.Scalars.{bits_of_number}
+use Rattle.amqp_c.specs.Scalars.{bits_of_number}
 use Rattle.amqp_c.specs.BuiltEntries.{IsScalarOfType}
 
 -- what a conversion returned that succeeded

@@ -16,7 +16,7 @@ use Rattle.amqp_in_place.specs.declared.problems.Problem.{Problem}
 use Rattle.amqp_in_place.specs.declared.problems.ProblemKind.TheVariants.{UnknownTag, KeyNotUtf8}
 use Rattle.amqp_in_place.specs.declared.problems.Rules.{Rules}
 use Rattle.amqp_in_place.specs.declared.problems.Rules.TheVariants as by_rules
-use Rattle.amqp_in_place.specs.Problems.{Search, known, allow_key, here, further, or_else, in_entries, in_payload, in_value, in_pair, pair_len, inside, value_problem, pair_problem}
+use Rattle.amqp_in_place.specs.Problems.{Search, known, allow_key, here, further, in_entries, in_payload, in_value, in_pair, pair_len, inside, value_problem, pair_problem}
 use Rattle.amqp_in_place.proofs.AnyKeys.{no_further, neither}
 use Rattle.amqp_c.specs.ByRules.{IsEncodingBy, AreValuesBy, ArePairsBy, IsBodyBy}
 

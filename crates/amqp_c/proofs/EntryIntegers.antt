@@ -1,10 +1,9 @@
 -- The integers of entries.
-use Rattle.std.proofs.Common.{◌≡◌, ◌<◌, ◌^◌, ℕ, zero, suc, ℤ, pos, negsuc, unsigned_abs, FitsSigned, inl, inr, refl, sym, ap, ◌∙◌, subst, arith}
+use Rattle.std.proofs.Common.{◌≡◌, ◌<◌, ◌^◌, ℕ, ℤ, pos, negsuc, unsigned_abs, FitsSigned, inl, inr, sym, ap, ◌∙◌, subst, arith}
 use Rattle.std.specs.Int.{w64, cast_signed, cast_unsigned, FitsUnsignedBits}
 use Rattle.std.proofs.lemmas.Int.{of_z-to_z}
 use Rattle.amqp_c.specs.declared.entry.Entry.{Entry}
-use Rattle.amqp_c.specs.BuiltEntries.{IsSignedTag, IsUnsignedTag, truth_bits}
-use Rattle.amqp_c.specs.Getters.{IsInteger, IsIntegerTag}
+use Rattle.amqp_c.specs.Getters.{IsSignedTag, IsUnsignedTag, IsInteger, IsIntegerTag}
 
 pub no_integer : (tag : ℕ) → (IsSignedTag tag → ⊥) → (IsUnsignedTag tag → ⊥) → IsIntegerTag tag → ⊥
 no_integer tag first second (inl x) = first x
@@ -42,12 +41,3 @@ below_0 e z other lt same negative x = by x.1
         let fits : x.0 < 2 ^ 64 = omega (arith, is, lt) in
         negative (subst (FitsUnsignedBits 64) (s.1 ∙ sym same) fits)
     by (inr u) = other u.0
-
--- the bits of a boolean
-pub false_is : (z : ℤ) → z ≡ pos 0 → truth_bits z ≡ 0
-false_is z is = ap truth_bits is
-
-pub true_is : (z : ℤ) → (z ≡ pos 0 → ⊥) → truth_bits z ≡ 1
-true_is (pos zero) other = absurd (other refl)
-true_is (pos (suc n)) other = refl
-true_is (negsuc n) other = refl

@@ -13,9 +13,9 @@ use Rattle.amq_protocol_types.proofs.ParsingLaws.{wire_extent}
 use Rattle.amqp_in_place.specs.Bodies.{HasEntries}
 use Rattle.amqp_c.specs.declared.cursor.Cursor.{Cursor}
 use Rattle.amqp_c.specs.declared.entry.Entry.{Entry}
-use Rattle.amqp_c_common.specs.declared.fault.Fault.{Fault}
-use Rattle.amqp_c_common.specs.declared.span.Span.{Span}
-use Rattle.amqp_c_common.specs.Spans.{part, rest_after, SpanIsIn}
+use Rattle.amqp_c.specs.declared.fault.Fault.{Fault}
+use Rattle.amqp_c.specs.declared.span.Span.{Span}
+use Rattle.amqp_c.specs.Spans.{part, rest_after, SpanIsIn}
 use Rattle.amqp_c.specs.Entries.{IsTrueTo, EntryIsIn}
 use Rattle.amqp_c.specs.Steps.{IsHeaded, ArePairEncodings, no_pairs as none_left, pair as one_left, last_of, IsRestOf, HasNoKey, StandsKeyed, EndsIn, IsOfTable, RefusedBy, GivesFound, GivesLast, IsFoundIn, LooksUp}
 use Rattle.amqp_c.proofs.Parts.{part_after, part_length}

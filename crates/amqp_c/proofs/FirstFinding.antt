@@ -10,8 +10,8 @@ use Rattle.amqp_value_core.proofs.GrammarLaws.{one_key as key_and_rest}
 use Rattle.amq_protocol_types.specs.parsing.Headers.{extent}
 use Rattle.amqp_c.specs.declared.cursor.Cursor.{Cursor}
 use Rattle.amqp_c.specs.declared.entry.Entry.{Entry}
-use Rattle.amqp_c_common.specs.declared.fault.Fault.{Fault}
-use Rattle.amqp_c_common.specs.Spans.{part}
+use Rattle.amqp_c.specs.declared.fault.Fault.{Fault}
+use Rattle.amqp_c.specs.Spans.{part}
 use Rattle.amqp_c.specs.Steps.{IsHeaded, ArePairEncodings, no_pairs as none_left, pair as one_left, HasNoKey, IsOfTable, RefusedBy, GivesLast, IsFoundIn}
 use Rattle.amqp_c.specs.FirstPairs.{HasFirst, none_left as no_first, here, later, first_of, LooksUpFirst}
 use Rattle.amqp_c.proofs.Finding.{IsFoundValue, headed, found_by, found_true}

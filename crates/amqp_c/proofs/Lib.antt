@@ -1,3 +1,5 @@
+pub mod ReadErrors
+pub mod Views
 mod Numbers
 mod Parts
 mod Prefixes
@@ -16,9 +18,5 @@ mod Opened
 mod Putting
 mod Buffers
 mod Keys
-mod Tables
-mod ReadingBy
-mod Spelling
-mod PairsReading
-pub mod Needs
-mod JsonFaults
+mod Reading
+mod CanonicalChecks

@@ -7,9 +7,9 @@ use Rattle.amqp_value_core.specs.Grammar.{ArrayBody, no_values, value}
 use Rattle.amq_protocol_types.specs.parsing.Headers.{extent}
 use Rattle.amqp_c.specs.declared.cursor.Cursor.{Cursor}
 use Rattle.amqp_c.specs.declared.entry.Entry.{Entry}
-use Rattle.amqp_c_common.specs.declared.fault.Fault.{Fault}
-use Rattle.amqp_c_common.specs.declared.span.Span.{Span}
-use Rattle.amqp_c_common.specs.Spans.{part, SpanIsIn}
+use Rattle.amqp_c.specs.declared.fault.Fault.{Fault}
+use Rattle.amqp_c.specs.declared.span.Span.{Span}
+use Rattle.amqp_c.specs.Spans.{part, SpanIsIn}
 use Rattle.amqp_c.specs.Entries.{IsTrueTo, EntryIsIn}
 use Rattle.amqp_c.specs.Steps.{IsHeaded, IsRestOf, StandsAlone, EndsIn, RefusedBy, GivesLast}
 use Rattle.amqp_c.specs.NthValues.{IsOfArray, HasNth, too_few, here, later, nth, IsNthIn, LooksUpNth}

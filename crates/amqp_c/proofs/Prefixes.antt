@@ -1,11 +1,11 @@
 -- The entry of the value at the start.
-use Rattle.std.proofs.Common.{◌≡◌, ◌+◌, ◌-◌, ◌<◌, ◌≤◌, ℕ, zero, suc, nat_lt, if◌then◌else◌, Bool, true, false, Option, Some, None, MatchOption, Result, Ok, Err, IfOk, MatchResult, List, [], ◌∷◌, ◌++◌, length, take, drop, refl, sym, ap, ◌∙◌, subst, arith, length-append}
+use Rattle.std.proofs.Common.{◌≡◌, ◌+◌, ◌-◌, ◌<◌, ◌≤◌, ℕ, suc, nat_lt, if◌then◌else◌, Bool, true, false, Option, Some, None, List, [], ◌∷◌, ◌++◌, length, take, drop, refl, sym, ap, ◌∙◌, subst, arith, length-append}
 use Rattle.std.specs.Int.{w32}
 use borrow.Author.Tests.{ltb-true}
 use Rattle.std.proofs.lemmas.List.{take_at, length-take-le, take-append-drop}
 use Rattle.amqp_value_core.specs.declared.types.amqp_type.AMQPType.{AMQPType}
 use Rattle.amqp_value_core.specs.declared.types.amqp_type.AMQPType.TheVariants as amqp
-use Rattle.amqp_value_core.specs.Ids.{kind, id_of}
+use Rattle.amqp_value_core.specs.Ids.{id_of}
 use Rattle.amqp_value_core.specs.Names.{read_as}
 use Rattle.amqp_value_core.specs.Values.{Tree, scalar, short, long, octets, array, table, no_entries, scalar_type, Scalar, type_of}
 use Rattle.amqp_value_core.specs.Inserting.{insert_all}
@@ -25,17 +25,15 @@ use Rattle.amq_protocol_types.specs.parsing.Headers.{extent_of, extent_at, exten
 use Rattle.amq_protocol_types.proofs.ParsingLaws.{wire_extent, wanted_more, wanted_within, no_type_by}
 use Rattle.amqp_in_place.specs.Bodies.{HasEntries}
 use Rattle.amqp_c.specs.declared.entry.Entry.{Entry}
-use Rattle.amqp_c_common.specs.declared.fault.Fault.{Fault}
-use Rattle.amqp_c_common.specs.declared.fault.Fault.TheVariants.{More, UnknownTag, Malformed, TooLarge, Invalid, OutOfMemory, BufferTooSmall, NotJson, NoEncoding, BadKey, BadTag, OutOfRange}
-use Rattle.amqp_c_common.specs.ReturnCodes.{fault_of}
-use Rattle.amqp_c.specs.CallResults.{HeaderFaults, GivesFirst, IsValueTaken, FaultsWithin}
-use Rattle.amq_protocol_types.specs.declared.parsing.limits.Limits.{Limits}
-use Rattle.amq_protocol_types.specs.parsing.Limits.{Within}
-use Rattle.amqp_c.specs.Entries.{HasNoNumber, DescribesValue, IsEntry, HoldsContent, IsTagged, IsEntryAtStart, EntryIsIn}
+use Rattle.amqp_c.specs.declared.fault.Fault.{Fault}
+use Rattle.amqp_c.specs.declared.fault.Fault.TheVariants.{More, UnknownTag}
+use Rattle.amqp_c.specs.ReturnCodes.{header_fault}
+use Rattle.amqp_c.specs.CallResults.{HeaderFaults}
+use Rattle.amqp_c.specs.Entries.{HasNoNumber, DescribesValue, IsEntry, HoldsContent, IsTagged}
 use Rattle.amqp_c.specs.Heads.{has_content}
 use Rattle.amqp_c.specs.Steps.{IsHeaded}
-use Rattle.amqp_c_common.specs.Scalars.{bits_in, scale_in}
-use Rattle.amqp_c_common.specs.Spans.{part}
+use Rattle.amqp_c.specs.Scalars.{bits_in, scale_in}
+use Rattle.amqp_c.specs.Spans.{part}
 use Rattle.amqp_c.proofs.Parts.{part_prefix, part_content}
 
 -- a value that is found has at least one byte
@@ -51,28 +49,13 @@ found_wire s rest v n x e =
     let size : length f.0 ≡ n = omega (arith, ap length f.2, length-append f.0 rest) in
     subst (λ (w : List ℕ). Wire w v) (sym (ap (take n) f.2 ∙ take_at f.0 rest n size)) f.1
 
--- the entry of a value that is read within limits
-pub value_taken : (l : Limits) (s rest : List ℕ) (v : Tree) (done : Result Entry Fault) → Within l s (found v rest) → GivesFirst s v rest done → IfOk done (IsEntryAtStart s)
-    → IfOk done (EntryIsIn (length s)) → MatchResult done (IsValueTaken l s) (FaultsWithin l s)
-value_taken l s rest v (Ok e) read g at_start inside = record { meaning = v; rest = rest; read = read; taken = g.2; entry = g.0; at_start = at_start; inside = inside }
-value_taken l s rest v (Err f) read g at_start inside = absurd g
-
 -- ---- faults
 
 -- if a value is found no fault is right
 pub never_faulty : (s rest : List ℕ) (v : Tree) (f : Fault) → Outcome s (found v rest) → HeaderFaults (Outcome s) f → ⊥
 never_faulty s rest v (More n) x y = let e = one_outcome s (found v rest) (more n) x y in cc
 never_faulty s rest v UnknownTag x y = let e = one_outcome s (found v rest) unknown x y in cc
-never_faulty s rest v Malformed x y = y
-never_faulty s rest v TooLarge x y = y
-never_faulty s rest v Invalid x y = y
-never_faulty s rest v OutOfMemory x y = y
-never_faulty s rest v (BufferTooSmall n) x y = y
-never_faulty s rest v NotJson x y = y
-never_faulty s rest v NoEncoding x y = y
-never_faulty s rest v BadKey x y = y
-never_faulty s rest v BadTag x y = y
-never_faulty s rest v OutOfRange x y = y
+never_faulty s rest v _ x y = y
 
 -- what is asked for is something
 some_lack : (s : List ℕ) (n : ℕ) → Outcome s (more n) → 0 < n
@@ -91,16 +74,7 @@ cut_header (c ∷ b) (More n) x h =
     let some : 0 < wanted (c ∷ b) = omega (arith, is, some_lack (c ∷ b) n x) in
     omega (arith, wanted_within (c ∷ b) (omega arith) some, some, h.1)
 cut_header (c ∷ b) UnknownTag x h = omega (arith, no_extent (c ∷ b) x, h.0)
-cut_header (c ∷ b) Malformed x h = x
-cut_header (c ∷ b) TooLarge x h = x
-cut_header (c ∷ b) Invalid x h = x
-cut_header (c ∷ b) OutOfMemory x h = x
-cut_header (c ∷ b) (BufferTooSmall n) x h = x
-cut_header (c ∷ b) NotJson x h = x
-cut_header (c ∷ b) NoEncoding x h = x
-cut_header (c ∷ b) BadKey x h = x
-cut_header (c ∷ b) BadTag x h = x
-cut_header (c ∷ b) OutOfRange x h = x
+cut_header (c ∷ b) _ x h = x
 
 -- ---- strings, byte arrays and containers
 
@@ -122,7 +96,7 @@ no_type_whole : (s : List ℕ) → IsNoType s malformed → ⊥
 no_type_whole [] is = cc
 no_type_whole (c ∷ b) is = let e : malformed ≡ unknown = is.0 in cc
 
-pub no_type_fault : (s : List ℕ) (e : Refusal) → IsRefusal (IsNoType s) ⊥ e → HeaderFaults (Outcome s) (fault_of e)
+pub no_type_fault : (s : List ℕ) (e : Refusal) → IsRefusal (IsNoType s) ⊥ e → HeaderFaults (Outcome s) (header_fault e)
 no_type_fault s (Incomplete Unknown) x = absurd x
 no_type_fault s (Incomplete (Size n)) x = no_type_by Wire s (more n) x
 no_type_fault s (Error kind.MapOpt) x = no_type_by Wire s unknown x
@@ -132,7 +106,7 @@ no_type_fault s (Error kind.OutOfMemory) x = absurd x
 no_type_fault s (Error kind.TooLarge) x = absurd x
 no_type_fault s (Failure k) x = absurd x.1
 
-pub cut_fault : (s mid : List ℕ) (type : AMQPType) → IsType s type mid → has_content type ≡ true → (e : Refusal) → IsRefusal (IsCutLengthPrefixed mid) ⊥ e → HeaderFaults (Outcome s) (fault_of e)
+pub cut_fault : (s mid : List ℕ) (type : AMQPType) → IsType s type mid → has_content type ≡ true → (e : Refusal) → IsRefusal (IsCutLengthPrefixed mid) ⊥ e → HeaderFaults (Outcome s) (header_fault e)
 cut_fault s mid type p h (Incomplete Unknown) x = absurd x
 cut_fault s mid type p h (Incomplete (Size n)) x = cut s mid type p h (more n) x
 cut_fault s mid type p h (Error kind.MapOpt) x = let e = x.1 in absurd cc
@@ -287,7 +261,7 @@ lacks_only s mid type p (Error k) x = absurd x
 lacks_only s mid type p (Failure k) x = x
 
 pub scalar_fault : (s mid : List ℕ) (type : AMQPType) → IsType s type mid → has_content type ≡ false → read_as type ≡ Some type → (e : Refusal) → IsRefusal (Outcome s) ⊥ e
-    → HeaderFaults (Outcome s) (fault_of e)
+    → HeaderFaults (Outcome s) (header_fault e)
 scalar_fault s mid type p h r (Incomplete Unknown) x = absurd x
 scalar_fault s mid type p h r (Incomplete (Size n)) x = x
 scalar_fault s mid type p h r (Error kind.MapOpt) x = x

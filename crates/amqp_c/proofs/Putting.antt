@@ -1,99 +1,40 @@
 -- Entries that are put.
-use Rattle.std.proofs.Common.{◌≡◌, ◌-◌, ◌<◌, ◌≤◌, ◌^◌, ℕ, ℤ, List, ◌∷◌, ◌++◌, length, take, Result, Ok, Err, MatchResult, refl, sym, ap, ap₂, ◌∙◌, subst, arith, length-append, inl, inr}
-use Rattle.std.specs.Int.{w32, w64, to_be_bytes, cast_unsigned}
-use Rattle.std.proofs.lemmas.List.{take_at, length-take-le}
-use Rattle.amqp_value_core.specs.declared.types.amqp_type.AMQPType.TheVariants as amqp
+use Rattle.std.proofs.Common.{◌≡◌, ◌+◌, ◌-◌, ◌<◌, ◌≤◌, ◌^◌, ℕ, suc, Bool, true, false, Option, Some, None, List, [], ◌∷◌, ◌++◌, length, take, Result, Ok, Err, MatchResult, refl, sym, ap, ap₂, ◌∙◌, subst, arith, inl, inr, if◌then◌else◌}
+use Rattle.std.specs.Prelude.{option_map}
+use Rattle.std.specs.Int.{w32, to_be_bytes}
+use Rattle.std.proofs.lemmas.List.{take_at}
+use Rattle.amqp_value_core.specs.declared.types.amqp_type.AMQPType.TheVariants.{FieldTable}
 use Rattle.amqp_value_core.specs.Grammar.{Wire}
-use Rattle.amqp_value_core.specs.Outcomes.{found}
+use Rattle.amqp_value_core.specs.Ids.{id_of}
 use Rattle.amqp_value_core.specs.Texts.{text}
-use Rattle.amqp_value_core.specs.Values.{Tree, Scalar, number, scalar, long, octets}
+use Rattle.amqp_value_core.specs.Values.{Tree, Scalar, scalar, long, octets}
 use Rattle.amqp_value_core.proofs.GrammarLaws.{text_is_wire, prefix_within, wire_of}
-use Rattle.amq_protocol_types.specs.declared.parsing.limits.Limits.{Limits}
-use Rattle.amq_protocol_types.specs.parsing.Headers.{extent}
-use Rattle.amq_protocol_types.specs.parsing.Limits.{Within}
+use Rattle.amq_protocol_types.specs.parsing.Headers.{extent, wanted}
+use Rattle.amq_protocol_types.specs.parsing.Untagged.{tagged}
 use Rattle.amq_protocol_types.proofs.ParsingLaws.{wire_extent}
-use Rattle.amqp_c_common.specs.declared.fault.Fault.{Fault}
-use Rattle.amqp_c_common.specs.declared.fault.Fault.TheVariants.{More, UnknownTag, Malformed, TooLarge, Invalid, OutOfMemory, BufferTooSmall, NotJson, NoEncoding, BadKey, BadTag, OutOfRange}
+use Rattle.amqp_in_place.specs.declared.problems.Problem as in_place
+use Rattle.amqp_in_place.specs.declared.problems.Rules.{Rules}
+use Rattle.amqp_in_place.specs.declared.problems.Rules.TheVariants.{Reading, AnyKeys}
+use Rattle.amqp_in_place.specs.ProblemResults.{FindsValue}
+use Rattle.amqp_in_place.specs.Problems.{problem_of, problem_in_table_of, without_tag}
+use Rattle.amqp_in_place.proofs.AnyKeys.{none_of_any_keys}
+use Rattle.amqp_c.specs.declared.fault.Fault.{Fault}
+use Rattle.amqp_c.specs.declared.input.Input.{Input}
+use Rattle.amqp_c.specs.Inputs.{limits, is_untagged, encoding}
+use Rattle.amqp_c.specs.ReadErrors.{first_problem, error_of, read_error}
 use Rattle.amqp_c.specs.declared.container.Container.{Container}
 use Rattle.amqp_c.specs.Containers.{IsPlace, end_with, entry_of, up_to}
-use Rattle.amqp_c.specs.BuiltEntries.{IsScalarOf, IsScalarTag, IsSignedTag, IsUnsignedTag, IsScalarEncoding, IsStringTag, IsOfBytes, IsEncodingAtStart}
-use Rattle.amqp_in_place.specs.declared.problems.Rules.TheVariants.{AnyKeys}
+use Rattle.amqp_c.specs.BuiltEntries.{IsScalarOf, IsScalarEncoding, IsStringTag, IsOfBytes, IsEncodingAtStart}
 use Rattle.amqp_c.specs.ByRules.{IsEncodingBy}
-use Rattle.amqp_c.specs.Items.{Item, fixed_width, signed_number, unsigned_number, IsItemEncoding, IsAnyEncoding, IsPutEncoding, item_depth}
-use Rattle.amqp_c.specs.Faults.{RefusesNumber, LacksCapacityFor, IsIntegerFault, IsItemFault, IsPutFault}
+use Rattle.amqp_c.specs.Items.{Item, encoded, IsPutEncoding, IsReadEncoding, IsEncodedBy, item_depth, missing_tag}
+use Rattle.amqp_c.specs.Faults.{LacksCapacityFor, IsPutFault}
 use Rattle.amqp_c.specs.Growth.{IsAppended, IsEntryPut}
-use Rattle.amqp_c.proofs.AnyKeys.{IsPlain}
+use Rattle.amqp_c.proofs.AnyKeys.{IsPlain, start_reads, value_whole, within_limits}
 use Rattle.amqp_c.proofs.Growing.{part_grown, grows_by}
-
--- the type tag of a signed number, and of an unsigned one, is of a value of fixed width
-signed_scalar : (tag : ℕ) → IsSignedTag tag → IsScalarTag tag
-signed_scalar tag (inl e) = (number amqp.ShortShortInt 0, omega arith, e)
-signed_scalar tag (inr (inl e)) = (number amqp.ShortInt 0, omega arith, e)
-signed_scalar tag (inr (inr (inl e))) = (number amqp.LongInt 0, omega arith, e)
-signed_scalar tag (inr (inr (inr e))) = (number amqp.LongLongInt 0, omega arith, e)
-
-unsigned_scalar : (tag : ℕ) → IsUnsignedTag tag → IsScalarTag tag
-unsigned_scalar tag (inl e) = (number amqp.ShortShortUInt 0, omega arith, e)
-unsigned_scalar tag (inr (inl e)) = (number amqp.ShortUInt 0, omega arith, e)
-unsigned_scalar tag (inr (inr e)) = (number amqp.LongUInt 0, omega arith, e)
-
--- a fault of a number is that of an integer, if its type tag is of the kind
-integer_fault : (kind : Type 0) (tag bits : ℕ) (f : Fault) → kind → IsScalarTag tag → RefusesNumber tag bits 0 f → IsIntegerFault kind tag bits f
-integer_fault kind tag bits BadTag is scalar_tag x = absurd (x scalar_tag)
-integer_fault kind tag bits OutOfRange is scalar_tag x = (is, x.1)
-integer_fault kind tag bits Invalid is scalar_tag x = x
-integer_fault kind tag bits BadKey is scalar_tag x = x
-integer_fault kind tag bits (BufferTooSmall n) is scalar_tag x = x
-integer_fault kind tag bits (More n) is scalar_tag x = x
-integer_fault kind tag bits UnknownTag is scalar_tag x = x
-integer_fault kind tag bits Malformed is scalar_tag x = x
-integer_fault kind tag bits TooLarge is scalar_tag x = x
-integer_fault kind tag bits OutOfMemory is scalar_tag x = x
-integer_fault kind tag bits NotJson is scalar_tag x = x
-integer_fault kind tag bits NoEncoding is scalar_tag x = x
-
--- an item that is put is another one too, which has its encodings and its faults
-pub put_as : (item other : Item) (old new k : List ℕ) (into : Container) (r : Result Container Fault) → item_depth item ≡ 0
-    → ((w : List ℕ) → IsPutEncoding into item w → IsPutEncoding into other w) → ((f : Fault) → IsItemFault into item f → IsItemFault into other f)
-    → MatchResult r (IsEntryPut item old into k new) (IsPutFault item old into k)
-    → MatchResult r (IsEntryPut other old into k new) (IsPutFault other old into k)
-put_as item other old new k into (Ok grown) shallow encodings faults p = record {
-  encoding = p.encoding;
-  encodes = encodings p.encoding p.encodes;
-  reads = λ depth deep. p.reads depth (omega (arith, shallow));
-  appended = p.appended;
-  reaches = p.reaches;
-  grows = p.grows;
-}
-put_as item other old new k into (Err f) shallow encodings faults (inl x) = inl x
-put_as item other old new k into (Err f) shallow encodings faults (inr (place, inl x)) = inr (place, inl (faults f x))
-put_as item other old new k into (Err f) shallow encodings faults (inr (place, inr (w, is, lacks))) = inr (place, inr (w, encodings w is, lacks))
-
--- so of what is no encoding that is read
-encoded_as : (item other : Item) (into : Container) → ((w : List ℕ) → IsAnyEncoding item w → ⊥) → ((w : List ℕ) (v : Tree) → IsItemEncoding item w v → IsItemEncoding other w v)
-    → (w : List ℕ) → IsPutEncoding into item w → IsPutEncoding into other w
-encoded_as item other into none encodings w (inl (v, is, p)) = inl (v, encodings w v is, p)
-encoded_as item other into none encodings w (inr (any, x)) = absurd (none w x)
-
--- a signed number is put as a value of fixed width, by its bits, and an unsigned one
-pub signed_put : (tag bits : ℕ) (n : ℤ) (old new k : List ℕ) (into : Container) (r : Result Container Fault) → bits ≡ cast_unsigned w64 n → IsSignedTag tag
-    → MatchResult r (IsEntryPut (fixed_width tag bits 0) old into k new) (IsPutFault (fixed_width tag bits 0) old into k)
-    → MatchResult r (IsEntryPut (signed_number tag n) old into k new) (IsPutFault (signed_number tag n) old into k)
-signed_put tag bits n old new k into r same is =
-    put_as (fixed_width tag bits 0) (signed_number tag n) old new k into r refl
-    (encoded_as (fixed_width tag bits 0) (signed_number tag n) into (λ w x. x) (λ w v x. (is, subst (λ (b : ℕ). IsScalarEncoding tag b 0 w v) same x)))
-    (λ f x. integer_fault (IsSignedTag tag) tag (cast_unsigned w64 n) f is (signed_scalar tag is) (subst (λ (b : ℕ). RefusesNumber tag b 0 f) same x))
-
-pub unsigned_put : (tag n : ℕ) (old new k : List ℕ) (into : Container) (r : Result Container Fault) → IsUnsignedTag tag
-    → MatchResult r (IsEntryPut (fixed_width tag n 0) old into k new) (IsPutFault (fixed_width tag n 0) old into k)
-    → MatchResult r (IsEntryPut (unsigned_number tag n) old into k new) (IsPutFault (unsigned_number tag n) old into k)
-unsigned_put tag n old new k into r is =
-    put_as (fixed_width tag n 0) (unsigned_number tag n) old new k into r refl
-    (encoded_as (fixed_width tag n 0) (unsigned_number tag n) into (λ w x. x) (λ w v x. (is, x))) (λ f x. integer_fault (IsUnsignedTag tag) tag n f is (unsigned_scalar tag is) x)
 
 -- what is appended is put
 pub put_of : (item : Item) (old new k w : List ℕ) (into : Container) (r : Result Container Fault)
-    → IsPlace (length old) into k → IsPutEncoding into item w → ((depth : ℕ) → item_depth item ≤ depth → IsEncodingBy AnyKeys depth w)
+    → IsPlace (length old) into k → IsPutEncoding item w → ((rules : Rules) (depth : ℕ) → IsEncodedBy item rules → item_depth item ≤ depth → IsEncodingBy rules depth w)
     → MatchResult r (λ grown. IsAppended old into k w new × (grown ≡ up_to (end_with into k w) into)) (LacksCapacityFor old into k w)
     → MatchResult r (IsEntryPut item old into k new) (IsPutFault item old into k)
 put_of item old new k w into (Ok grown) place encodes reads (is, reaches) = record {
@@ -122,16 +63,78 @@ strings tag b head w (inr is) fits counts written =
     let same : w ≡ text (octets b) = written ∙ ap (λ (u : List ℕ). u ++ b) (counts ∙ ap (λ (n : ℕ). n ∷ to_be_bytes w32 (length b)) is) in
     (octets b, (inr (is, refl), same, fits), subst (λ (u : List ℕ). Wire u (octets b)) (sym same) (text_is_wire (octets b) tt fits refl), tt)
 
--- an encoding that is read from the start
-pub prefix : (l : Limits) (s rest w : List ℕ) (v : Tree) → Within l s (found v rest) → w ≡ take (length s - length rest) s → IsEncodingAtStart l s w v × Wire w v
-prefix l s rest w v x is =
-    let f = prefix_within l.depth s rest v x.1 in
-    let count : length s - length rest ≡ length f.0 = omega (arith, ap length f.2, length-append f.0 rest) in
-    let same : f.0 ≡ w = sym (is ∙ (ap₂ (λ (n : ℕ) (t : List ℕ). take n t) count f.2 ∙ take_at f.0 rest (length f.0) refl)) in
-    ((rest, x, f.2 ∙ ap (λ (t : List ℕ). t ++ rest) same), subst (λ (t : List ℕ). Wire t v) same (wire_of l.depth f.0 v f.1))
+-- ---- values that are read
 
--- and it is no longer than the limit
-pub within_frame : (l : Limits) (s rest : List ℕ) (v : Tree) → l.frame < 2 ^ 32 → Within l s (found v rest) → length (take (length s - length rest) s) < 2 ^ 32
-within_frame l s rest v few x =
-    let f = prefix_within l.depth s rest v x.1 in
-    omega (arith, few, x.0, ap extent f.2, wire_extent f.0 rest v (wire_of l.depth f.0 v f.1), ap length f.2, length-append f.0 rest, length-take-le (length s - length rest) s (omega arith))
+-- no error is reported if the first problem is none
+none_first : (p : Option in_place.Problem) (n : ℕ) → option_map (λ q. error_of q n) p ≡ None → p ≡ None
+none_first None n is = refl
+none_first (Some p) n is = absurd cc
+
+none_tagged : (p : Option in_place.Problem) → option_map without_tag p ≡ None → p ≡ None
+none_tagged None is = refl
+none_tagged (Some p) is = absurd cc
+
+module _ (rules : Rules) (input : Input) where
+  -- nothing is wrong with what is read
+  pub no_problem : read_error rules input ≡ None → problem_of rules (limits input) (encoding input) ≡ None
+  no_problem none = by (is_untagged input) (none_first (first_problem rules input) (wanted (encoding input)) none)
+    where
+      by : (b : Bool) → (if b then problem_in_table_of rules (limits input) input.bytes.now else problem_of rules (limits input) input.bytes.now) ≡ None
+          → problem_of rules (limits input) (if b then tagged FieldTable input.bytes.now else input.bytes.now) ≡ None
+      by true is = none_tagged (problem_of rules (limits input) (tagged FieldTable input.bytes.now)) is
+      by false is = is
+
+  -- all of its bytes are there
+  extent_there : read_error rules input ≡ None → (0 < extent (encoding input)) × (extent (encoding input) ≤ length (encoding input))
+  extent_there none = value_whole rules input.max_depth (encoding input) (within_limits rules (limits input) (encoding input) (no_problem none)).1
+
+  -- they are read by these rules, and by those of any keys
+  pub read_by : read_error rules input ≡ None → (other : Rules) (depth : ℕ) → IsEncodedBy (encoded rules input) other → input.max_depth ≤ depth
+      → IsEncodingBy other depth (take (extent (encoding input)) (encoding input))
+  read_by none other depth (inl same) deep =
+      subst (λ (r : Rules). IsEncodingBy r depth (take (extent (encoding input)) (encoding input))) (sym same)
+      (start_reads rules input.max_depth depth (encoding input) deep (within_limits rules (limits input) (encoding input) (no_problem none)).1)
+  read_by none other depth (inr (reading, same)) deep =
+      let weaker = none_of_any_keys (limits input) (encoding input) (subst (λ (r : Rules). problem_of r (limits input) (encoding input) ≡ None) reading (no_problem none)) in
+      subst (λ (r : Rules). IsEncodingBy r depth (take (extent (encoding input)) (encoding input))) (sym same)
+      (start_reads AnyKeys input.max_depth depth (encoding input) deep (within_limits AnyKeys (limits input) (encoding input) weaker).1)
+
+  -- what is put is what was read
+  pub read_encoding : (w : List ℕ) → read_error rules input ≡ None → (rules ≡ Reading → FindsValue (limits input) (encoding input)) → w ≡ take (extent (encoding input)) (encoding input)
+      → IsReadEncoding rules input w
+  read_encoding w none finds is = record { read = none; bytes = is; value = λ reading. by (finds reading) }
+    where
+      by : FindsValue (limits input) (encoding input) → (v : Tree) × IsEncodingAtStart (limits input) (encoding input) w v × Wire w v
+      by (v, rest, x) =
+          let f = prefix_within input.max_depth (encoding input) rest v x.1 in
+          let p = wire_of input.max_depth f.0 v f.1 in
+          let count : extent (encoding input) ≡ length f.0 = ap extent f.2 ∙ wire_extent f.0 rest v p in
+          let same : f.0 ≡ w = sym (is ∙ (ap₂ (λ (n : ℕ) (t : List ℕ). take n t) count f.2 ∙ take_at f.0 rest (length f.0) refl)) in
+          (v, (rest, x, f.2 ∙ ap (λ (t : List ℕ). t ++ rest) same), subst (λ (t : List ℕ). Wire t v) same p)
+
+  -- the type tag that the input lacks, and then bytes of it
+  abbrev tag_if : Bool → List ℕ
+  tag_if b = if b then id_of FieldTable ∷ [] else []
+
+  tag_then : (b : Bool) (n : ℕ) → 0 < n → tag_if b ++ take (n - length (tag_if b)) input.bytes.now ≡ take n (if b then tagged FieldTable input.bytes.now else input.bytes.now)
+  tag_then true n some =
+      let one : suc (n - 1) ≡ n = omega (arith, some) in
+      ap (λ (m : ℕ). take m (70 ∷ input.bytes.now)) one
+  tag_then false n some =
+      let same : n - 0 ≡ n = omega arith in
+      ap (λ (m : ℕ). take m input.bytes.now) same
+
+  tag_length : (b : Bool) → (length (tag_if b) ≤ 1) × (length (if b then tagged FieldTable input.bytes.now else input.bytes.now) ≡ length (tag_if b) + length input.bytes.now)
+  tag_length true = (omega arith, omega arith)
+  tag_length false = (omega arith, omega arith)
+
+  -- what is copied of the input is there, and short enough
+  pub bytes_there : (n : ℕ) (t : List ℕ) → read_error rules input ≡ None → n ≡ extent (encoding input) → t ≡ missing_tag input → (length t ≤ 1) × (n - length t ≤ length input.bytes.now)
+  bytes_there n t none counts is =
+      let there = extent_there none in
+      let tag = tag_length (is_untagged input) in
+      (omega (arith, ap length is, tag.0), omega (arith, ap length is, counts, there.1, tag.1))
+
+  pub copied : (n : ℕ) (t : List ℕ) → read_error rules input ≡ None → n ≡ extent (encoding input) → t ≡ missing_tag input → t ++ take (n - length t) input.bytes.now ≡ take (extent (encoding input)) (encoding input)
+  copied n t none counts is =
+      ap₂ (λ (m : ℕ) (u : List ℕ). u ++ take (m - length u) input.bytes.now) counts is ∙ tag_then (is_untagged input) (extent (encoding input)) (extent_there none).0

@@ -1,19 +1,20 @@
 -- What each call from C returns, and leaves in the buffer and at its pointers.
-use Rattle.std.specs.Prelude.{ℕ, ◌≡◌, ℤ, List, Result, Ok, Err, IfErr, MatchResult}
-use Rattle.amqp_c_common.specs.declared.fault.Fault.{Fault}
-use Rattle.amqp_c_common.specs.declared.fault.Fault.TheVariants.{BufferTooSmall}
-use Rattle.amqp_c_common.specs.ReturnCodes.{return_code_of}
-use Rattle.amqp_c_common.specs.Reading.{limits}
+use Rattle.std.specs.Prelude.{ℕ, ◌≡◌, ℤ, List, Option, Some, None, Result, Ok, Err, IfErr, MatchResult}
+use Rattle.amqp_in_place.specs.declared.problems.Rules.{Rules}
+use Rattle.amqp_c.specs.declared.fault.Fault.{Fault}
+use Rattle.amqp_c.specs.declared.fault.Fault.TheVariants.{Invalid, NoRoom}
+use Rattle.amqp_c.specs.declared.input.Input.{Input}
+use Rattle.amqp_c.specs.Inputs.{rules}
+use Rattle.amqp_c.specs.ReturnCodes.{return_code_of, code_of}
 use Rattle.amqp_c.specs.declared.container.Container.{Container}
 use Rattle.amqp_c.specs.CallResults.{ok_or_old}
-use Rattle.amqp_c.specs.BuiltEntries.{truth_bits}
-use Rattle.amqp_c.specs.Items.{Item, fixed_width, signed_number, unsigned_number, byte_string, first_encoding}
+use Rattle.amqp_c.specs.Items.{Item, fixed_width, byte_string, encoded}
 use Rattle.amqp_c.specs.Faults.{IsPutFault, RefusesToOpen, RefusesToClose}
 use Rattle.amqp_c.specs.Growth.{IsEntryPut, IsOpened, IsClosed}
 
 -- the container after a fault: as it was, except for the capacity that the buffer should have had
 abbrev pub needing : Fault → Container → Container
-needing (BufferTooSmall n) c = record { written = c.written; tag = c.tag; inner = c.inner; any_keys = c.any_keys; needed = n }
+needing (NoRoom n) c = record { written = c.written; tag = c.tag; inner = c.inner; any_keys = c.any_keys; needed = n }
 needing _ c = c
 
 -- the container with what is written of the one that is returned, or after the fault
@@ -44,36 +45,17 @@ pub record PutsEntry (item : Item) (old : List ℕ) (into : Container) (k : List
 abbrev pub PutsScalar : ℕ → ℕ → ℕ → List ℕ → Container → List ℕ → ℤ → List ℕ → Container → Type 0
 PutsScalar tag bits scale = PutsEntry (fixed_width tag bits scale)
 
--- a signed number is put, by its type tag, and an unsigned one
-abbrev pub PutsInt : ℕ → ℤ → List ℕ → Container → List ℕ → ℤ → List ℕ → Container → Type 0
-PutsInt tag n = PutsEntry (signed_number tag n)
-
-abbrev pub PutsUint : ℕ → ℕ → List ℕ → Container → List ℕ → ℤ → List ℕ → Container → Type 0
-PutsUint tag n = PutsEntry (unsigned_number tag n)
-
--- a boolean is put, of which every number but 0 is true
-abbrev pub PutsBool : ℤ → List ℕ → Container → List ℕ → ℤ → List ℕ → Container → Type 0
-PutsBool truth = PutsScalar 116 (truth_bits truth) 0
-
--- a timestamp is put
-abbrev pub PutsTimestamp : ℕ → List ℕ → Container → List ℕ → ℤ → List ℕ → Container → Type 0
-PutsTimestamp seconds = PutsScalar 84 seconds 0
-
--- a decimal is put, by its number without the point, and its scale
-abbrev pub PutsDecimal : ℕ → ℕ → List ℕ → Container → List ℕ → ℤ → List ℕ → Container → Type 0
-PutsDecimal n scale = PutsScalar 68 n scale
-
--- an entry without a value is put
-abbrev pub PutsVoid : List ℕ → Container → List ℕ → ℤ → List ℕ → Container → Type 0
-PutsVoid = PutsScalar 86 0 0
-
 -- a long string or a byte array is put
 abbrev pub PutsBytes : ℕ → List ℕ → List ℕ → Container → List ℕ → ℤ → List ℕ → Container → Type 0
 PutsBytes tag b = PutsEntry (byte_string tag b)
 
--- the encoding at the start of s is put, unchanged
-abbrev pub PutsValue : ℕ → ℕ → List ℕ → List ℕ → Container → List ℕ → ℤ → List ℕ → Container → Type 0
-PutsValue frame depth s = PutsEntry (first_encoding (limits frame depth) s)
+-- the value at the start of the input is put, unchanged, by the rules of its flags; if one is unknown, nothing changes
+abbrev pub PutsByRules : Option Rules → Input → List ℕ → Container → List ℕ → ℤ → List ℕ → Container → Type 0
+PutsByRules (Some rules) input old into k code new grown = PutsEntry (encoded rules input) old into k code new grown
+PutsByRules None input old into k code new grown = (code ≡ code_of Invalid) × (new ≡ old) × (grown ≡ into)
+
+abbrev pub PutsValue : Input → List ℕ → Container → List ℕ → ℤ → List ℕ → Container → Type 0
+PutsValue input = PutsByRules (rules input) input
 
 -- an entry is opened or rejected whose value is a container; after an error the buffer and the body
 -- are as they were, and so is the container, except for the capacity that is needed

@@ -1,5 +1,5 @@
 -- What is put: encodings, and the values that they are of.
-use Rattle.std.specs.Prelude.{ℕ, zero, ℤ, pos, ◌≡◌, ◌<◌, ◌^◌, List, [], ◌∷◌, ◌++◌, length, ◌⊎◌}
+use Rattle.std.specs.Prelude.{ℕ, ◌≡◌, ◌<◌, ◌^◌, List, [], ◌∷◌, ◌++◌, length, ◌⊎◌}
 use Rattle.amqp_value_core.specs.declared.types.amqp_type.AMQPType.{AMQPType}
 use Rattle.amqp_value_core.specs.Ids.{id_of}
 use Rattle.amqp_value_core.specs.Values.{Scalar, Tree, scalar, long, octets, array, table, scalar_type}
@@ -10,7 +10,7 @@ use Rattle.amqp_value_core.specs.Texts.{text}
 use Rattle.amq_protocol_types.specs.declared.parsing.limits.Limits.{Limits}
 use Rattle.amq_protocol_types.specs.parsing.Limits.{Within}
 use Rattle.amqp_in_place.specs.Bodies.{HasEntries}
-use Rattle.amqp_c_common.specs.Scalars.{scalar_bits, scalar_scale}
+use Rattle.amqp_c.specs.Scalars.{scalar_bits, scalar_scale}
 use Rattle.amqp_c.specs.Containers.{array_tag, table_tag}
 
 -- the type tag, the bits and the scale determine x, as those of an entry do
@@ -24,13 +24,6 @@ pub record IsScalarOf (tag bits scale : ℕ) (x : Scalar) : Type 0 where
 abbrev pub IsScalarTag : ℕ → Type 0
 IsScalarTag tag = (x : Scalar) × IsScalar x × (tag ≡ id_of (scalar_type x))
 
--- the type tags of signed numbers, `b`, `s`, `I` and `l`, and of unsigned ones, `B`, `u` and `i`
-abbrev pub IsSignedTag : ℕ → Type 0
-IsSignedTag tag = (tag ≡ 98) ⊎ (tag ≡ 115) ⊎ (tag ≡ 73) ⊎ (tag ≡ 108)
-
-abbrev pub IsUnsignedTag : ℕ → Type 0
-IsUnsignedTag tag = (tag ≡ 66) ⊎ (tag ≡ 117) ⊎ (tag ≡ 105)
-
 -- the bits and the scale determine x, which is of this type
 pub record IsScalarOfType (type : AMQPType) (bits scale : ℕ) (x : Scalar) : Type 0 where
   pub in_range : IsScalar x
@@ -41,11 +34,6 @@ pub record IsScalarOfType (type : AMQPType) (bits scale : ℕ) (x : Scalar) : Ty
 -- w is the canonical encoding of v, a value of fixed width that these determine
 abbrev pub IsScalarEncoding : ℕ → ℕ → ℕ → List ℕ → Tree → Type 0
 IsScalarEncoding tag bits scale w v = (x : Scalar) × IsScalarOf tag bits scale x × (v ≡ scalar x) × (w ≡ text v)
-
--- the bits of a boolean: every number but 0 is true
-abbrev pub truth_bits : ℤ → ℕ
-truth_bits (pos zero) = 0
-truth_bits _ = 1
 
 -- the type tags of a long string and of a byte array, `S` and `x`
 abbrev pub IsStringTag : ℕ → Type 0

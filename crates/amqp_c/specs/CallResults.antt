@@ -1,46 +1,32 @@
 -- What the calls return.
-use Rattle.std.specs.Prelude.{ℕ, ◌≡◌, ◌+◌, ◌<◌, ◌≤◌, ℤ, pos, List, length, Option, Some, None, Result, Ok, Err}
+use Rattle.std.specs.Prelude.{ℕ, ◌≡◌, ◌+◌, ℤ, pos, List, length, Option, Some, None, Result, Ok, Err, MatchResult}
 use Rattle.amqp_value_core.specs.declared.types.amqp_type.AMQPType.TheVariants.{FieldTable}
 use Rattle.amqp_value_core.specs.Ids.{id_of}
 use Rattle.amqp_value_core.specs.Values.{Tree, table, Entries}
-use Rattle.amqp_value_core.specs.Outcomes.{Reading, found, more, unknown, malformed, Outcome}
-use Rattle.amqp_value_core.specs.Nesting.{OutcomeWithin}
+use Rattle.amqp_value_core.specs.Outcomes.{Reading, found, more, unknown, Outcome}
 use Rattle.amq_protocol_types.specs.declared.parsing.limits.Limits.{Limits}
 use Rattle.amq_protocol_types.specs.parsing.ParseResults.{IsRefusal}
-use Rattle.amq_protocol_types.specs.parsing.Headers.{extent}
 use Rattle.amq_protocol_types.specs.parsing.Limits.{Within}
 use Rattle.amq_protocol_types.specs.parsing.Untagged.{UntaggedWithin}
 use Rattle.amq_protocol_types.specs.parsing.Refusals.{Refusal}
 use Rattle.amqp_in_place.specs.Bodies.{HasEntries}
 use Rattle.amqp_c.specs.declared.cursor.Cursor.{Cursor}
 use Rattle.amqp_c.specs.declared.entry.Entry.{Entry}
-use Rattle.amqp_c_common.specs.declared.fault.Fault.{Fault}
-use Rattle.amqp_c_common.specs.declared.fault.Fault.TheVariants.{More, UnknownTag, Malformed, TooLarge}
-use Rattle.amqp_c_common.specs.ReturnCodes.{fault_of, code_of, count_of}
-use Rattle.amqp_c_common.specs.Spans.{part}
+use Rattle.amqp_c.specs.declared.fault.Fault.{Fault}
+use Rattle.amqp_c.specs.declared.fault.Fault.TheVariants.{More, UnknownTag}
+use Rattle.amqp_c.specs.ReturnCodes.{header_fault, code_of, return_code_of}
+use Rattle.amqp_c.specs.Spans.{part}
 use Rattle.amqp_c.specs.Entries.{IsEntry, IsEntryAtStart, EntryIsIn}
 
 -- it is what an error that is right of reading s is reported as
 abbrev pub IsRefusalOf : List ℕ → Fault → Type 0
-IsRefusalOf s f = (e : Refusal) × (f ≡ fault_of e) × IsRefusal (Outcome s) ⊥ e
-
--- a fault is right, if `Is` states what reading the bytes results in
-abbrev pub IsReadingFault : (Reading → Type 0) → Fault → Type 0
-IsReadingFault Is (More n) = Is (more n)
-IsReadingFault Is UnknownTag = Is unknown
-IsReadingFault Is Malformed = Is malformed
-IsReadingFault Is _ = ⊥
+IsRefusalOf s f = (e : Refusal) × (f ≡ header_fault e) × IsRefusal (Outcome s) ⊥ e
 
 -- a fault of the type tag and the length is right: more bytes are needed, or the tag is unknown
 abbrev pub HeaderFaults : (Reading → Type 0) → Fault → Type 0
 HeaderFaults Is (More n) = Is (more n)
 HeaderFaults Is UnknownTag = Is unknown
 HeaderFaults Is _ = ⊥
-
--- and within limits
-abbrev pub FaultsWithin : Limits → List ℕ → Fault → Type 0
-FaultsWithin l s TooLarge = l.frame < extent s
-FaultsWithin l s f = (extent s ≤ l.frame) × IsReadingFault (OutcomeWithin l.depth s) f
 
 -- a value is read within limits from the start of s, and e is its entry, without a key, all of it inside s
 pub record IsValueTaken (l : Limits) (s : List ℕ) (e : Entry) : Type 0 where
@@ -77,11 +63,6 @@ return_code_if_any (Ok (Some x)) = pos 0
 return_code_if_any (Ok None) = pos 1
 return_code_if_any (Err f) = code_of f
 
--- a number of bytes that were read or are needed, else 0
-abbrev pub count_by : {T : Type 0} → (T → ℕ) → Result T Fault → ℕ
-count_by size (Ok x) = size x
-count_by size (Err f) = count_of (Err f)
-
 -- what is returned, or what was there
 abbrev pub ok_or_old : {T : Type 0} → T → Result T Fault → T
 ok_or_old old (Ok x) = x
@@ -99,3 +80,10 @@ entry_or_old old _ = old
 abbrev pub cursor_or_old : Cursor → Result (Option (Entry × Cursor)) Fault → Cursor
 cursor_or_old old (Ok (Some x)) = x.1
 cursor_or_old old _ = old
+
+-- what `Is` states is given, or the fault is one that `Refuses` allows, and nothing is changed
+pub record Gives {T : Type 0} (Is : T → Type 0) (Refuses : Fault → Type 0) (old : T) (code : ℤ) (new : T) : Type 0 where
+  pub done : Result T Fault
+  pub returned : code ≡ return_code_of done
+  pub given : new ≡ ok_or_old old done
+  pub right : MatchResult done Is Refuses

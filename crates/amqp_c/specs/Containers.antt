@@ -2,7 +2,7 @@
 use Rattle.std.specs.Prelude.{ℕ, ◌≡◌, ◌+◌, ◌-◌, ◌<◌, ◌≤◌, List, [], ◌++◌, ◌==◌, if◌then◌else◌, length, ◌⊎◌}
 use Rattle.amqp_value_core.specs.Strings.{IsShort}
 use Rattle.amqp_value_core.specs.Grammar.{short_field}
-use Rattle.amqp_c_common.specs.Spans.{SpanIsIn}
+use Rattle.amqp_c.specs.Spans.{SpanIsIn}
 use Rattle.amqp_c.specs.declared.container.Container.{Container}
 
 -- the type tags of an array and of a table, `A` and `F`
@@ -30,7 +30,7 @@ IsContainerIn n c = SpanIsIn n c.written × IsContainerTag c.tag × HasNoneOpen 
 abbrev pub end_of : Container → ℕ
 end_of c = c.written.offset + c.written.length
 
--- keys may be any bytes, in it and in what is put and opened there
+-- keys that are put may be any bytes, in it and in what is opened there
 abbrev pub HasAnyKeys : Container → Type 0
 HasAnyKeys c = 0 < c.any_keys
 

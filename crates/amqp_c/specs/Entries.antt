@@ -8,8 +8,8 @@ use Rattle.amq_protocol_types.specs.parsing.Headers.{extent}
 use Rattle.amqp_in_place.specs.Bodies.{HasEntries}
 use Rattle.amqp_c.specs.declared.entry.Entry.{Entry}
 use Rattle.amqp_c.specs.Heads.{has_content}
-use Rattle.amqp_c_common.specs.Scalars.{scalar_bits, scalar_scale}
-use Rattle.amqp_c_common.specs.Spans.{part, SpanIsIn}
+use Rattle.amqp_c.specs.Scalars.{scalar_bits, scalar_scale}
+use Rattle.amqp_c.specs.Spans.{part, SpanIsIn}
 
 -- the entry has no number
 abbrev pub HasNoNumber : Entry → Type 0

@@ -6,8 +6,8 @@ use Rattle.amqp_value_core.specs.Maps.{same_bytes, value_at}
 use Rattle.amq_protocol_types.specs.parsing.Headers.{extent}
 use Rattle.amqp_c.specs.declared.cursor.Cursor.{Cursor}
 use Rattle.amqp_c.specs.declared.entry.Entry.{Entry}
-use Rattle.amqp_c_common.specs.declared.fault.Fault.{Fault}
-use Rattle.amqp_c_common.specs.Spans.{part}
+use Rattle.amqp_c.specs.declared.fault.Fault.{Fault}
+use Rattle.amqp_c.specs.Spans.{part}
 use Rattle.amqp_c.specs.Steps.{IsHeaded, ArePairEncodings, IsOfTable, RefusedBy, GivesFound, GivesLast, IsFoundIn}
 
 -- the bytes begin with pairs of other keys, by their lengths and type tags, and then there is a pair
@@ -25,7 +25,7 @@ first_of k (p ∷ ps) = if same_bytes k p.0 then Some p.1 else first_of k ps
 
 -- a look-up, in what a table has left: of pairs that are encoded there, or that are pairs by their
 -- lengths and type tags, the first with the key is found, whatever is in their values; also if the
--- bytes after it are no pairs. What is left is malformed exactly if it is no pairs, and begins with
+-- bytes after it are no pairs. What is left is cut exactly if it is no pairs, and begins with
 -- no pairs of which one has the key
 pub record LooksUpFirst (s : List ℕ) (c : Cursor) (key : List ℕ) (done : Result (Option Entry) Fault) : Type 0 where
   pub found : (ps : Entries) → IsOfTable (length s) c → TableBody (part s c.left) ps → GivesFound s (value_at key ps) done

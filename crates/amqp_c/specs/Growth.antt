@@ -5,14 +5,13 @@ use Rattle.amqp_value_core.specs.Values.{Tree, Trees, no_trees, tree, Entries, n
 use Rattle.amqp_value_core.specs.Strings.{IsShort}
 use Rattle.amqp_value_core.specs.Grammar.{long_field, Wire, ArrayBody, TableBody}
 use Rattle.amqp_in_place.specs.declared.problems.Rules.{Rules}
-use Rattle.amqp_in_place.specs.declared.problems.Rules.TheVariants.{AnyKeys}
 use Rattle.amqp_in_place.specs.Problems.{allow_key}
-use Rattle.amqp_c_common.specs.Spans.{part, SpanIsIn}
+use Rattle.amqp_c.specs.Spans.{part, SpanIsIn}
 use Rattle.amqp_c.specs.declared.container.Container.{Container}
 use Rattle.amqp_c.specs.Containers.{array_tag, table_tag, IsContainerTag, HasNoneOpen, HasOneOpen, IsKeyOf, IsPlace, end_of, entry_of, end_with, empty_at, up_to}
 use Rattle.amqp_c.specs.BuiltEntries.{tag_and_zeros, IsOfBody}
 use Rattle.amqp_c.specs.ByRules.{IsEncodingBy, AreValuesBy, ArePairsBy, IsBodyBy}
-use Rattle.amqp_c.specs.Items.{Item, IsPutEncoding, item_depth}
+use Rattle.amqp_c.specs.Items.{Item, IsPutEncoding, IsEncodedBy, item_depth}
 use Rattle.amqp_c.specs.Buffers.{with_bytes, StandsAt}
 
 -- the values, with v after them
@@ -47,8 +46,8 @@ pub record GrowsContainer (old : List ℕ) (into : Container) (k w new : List �
 -- an entry is written, with an encoding of the item; the container grows by it
 pub record IsEntryPut (item : Item) (old : List ℕ) (into : Container) (k new : List ℕ) (grown : Container) : Type 0 where
   pub encoding : List ℕ
-  pub encodes : IsPutEncoding into item encoding
-  pub reads : (depth : ℕ) → item_depth item ≤ depth → IsEncodingBy AnyKeys depth encoding
+  pub encodes : IsPutEncoding item encoding
+  pub reads : (rules : Rules) (depth : ℕ) → IsEncodedBy item rules → item_depth item ≤ depth → IsEncodingBy rules depth encoding
   pub appended : IsAppended old into k encoding new
   pub reaches : grown ≡ up_to (end_with into k encoding) into
   pub grows : GrowsContainer old into k encoding new grown

@@ -1,3 +1,8 @@
+pub mod ReturnCodes
+pub mod Inputs
+pub mod ReadErrors
+pub mod Views
+pub mod Spans
 pub mod Scalars
 pub mod Entries
 pub mod Heads
@@ -7,11 +12,9 @@ pub mod NthValues
 pub mod Paths
 pub mod CallResults
 pub mod Measures
-pub mod Problems
 pub mod Calls
-pub mod ReadBy
-pub mod PairsRead
-pub mod Spellings
+pub mod Reads
+pub mod Canonical
 pub mod Containers
 pub mod Buffers
 pub mod BuiltEntries
@@ -21,7 +24,4 @@ pub mod Growth
 pub mod Faults
 pub mod Getters
 pub mod BuildCalls
-pub mod Pairs
-pub mod WrittenTables
-pub mod Needs
 pub mod JsonTexts

@@ -5,8 +5,8 @@ use Rattle.amqp_value_core.specs.Grammar.{ArrayBody}
 use Rattle.amq_protocol_types.specs.parsing.Headers.{extent}
 use Rattle.amqp_c.specs.declared.cursor.Cursor.{Cursor}
 use Rattle.amqp_c.specs.declared.entry.Entry.{Entry}
-use Rattle.amqp_c_common.specs.declared.fault.Fault.{Fault}
-use Rattle.amqp_c_common.specs.Spans.{part, last, SpanIsIn}
+use Rattle.amqp_c.specs.declared.fault.Fault.{Fault}
+use Rattle.amqp_c.specs.Spans.{part, last, SpanIsIn}
 use Rattle.amqp_c.specs.Entries.{IsTagged, IsTrueTo, EntryIsIn}
 use Rattle.amqp_c.specs.Steps.{array_tag, IsHeaded, StandsAlone, EndsIn, RefusedBy, GivesFound, GivesLast}
 
@@ -36,7 +36,7 @@ pub record IsNthIn (s : List ℕ) (c : Cursor) (e : Entry) : Type 0 where
   pub inside : EntryIsIn (length s) e
 
 -- a look-up by an index, in what an array has left: the value at the index is found, whatever is in
--- it and after it. What is left is malformed exactly if it is no values, and doesn't begin with those
+-- it and after it. What is left is cut exactly if it is no values, and doesn't begin with those
 -- up to the index
 pub record LooksUpNth (s : List ℕ) (c : Cursor) (index : ℕ) (done : Result (Option Entry) Fault) : Type 0 where
   pub found : (vs : Trees) → IsOfArray (length s) c → ArrayBody (part s c.left) vs → GivesFound s (nth index vs) done

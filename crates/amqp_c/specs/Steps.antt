@@ -8,10 +8,10 @@ use Rattle.amq_protocol_types.specs.parsing.Headers.{extent}
 use Rattle.amqp_in_place.specs.Bodies.{HasEntries}
 use Rattle.amqp_c.specs.declared.cursor.Cursor.{Cursor}
 use Rattle.amqp_c.specs.declared.entry.Entry.{Entry}
-use Rattle.amqp_c_common.specs.declared.fault.Fault.{Fault}
-use Rattle.amqp_c_common.specs.declared.fault.Fault.TheVariants.{Malformed, Invalid}
-use Rattle.amqp_c_common.specs.declared.span.Span.{Span}
-use Rattle.amqp_c_common.specs.Spans.{part, rest_after, last, SpanIsIn}
+use Rattle.amqp_c.specs.declared.fault.Fault.{Fault}
+use Rattle.amqp_c.specs.declared.fault.Fault.TheVariants.{Cut, Invalid}
+use Rattle.amqp_c.specs.declared.span.Span.{Span}
+use Rattle.amqp_c.specs.Spans.{part, rest_after, last, SpanIsIn}
 use Rattle.amqp_c.specs.Entries.{IsEntry, IsTagged, IsTrueTo, EntryIsIn}
 
 -- the type tags of an array and of a table, `A` and `F`
@@ -103,23 +103,15 @@ StepsIn s c (Some x) = IsCursorStep s c x.0 x.1
 abbrev pub IsCutEntry : List ℕ → Cursor → Type 0
 IsCutEntry s c = (c.tag ≡ array_tag → IsHeaded (part s c.left) → ⊥) × (c.tag ≡ table_tag → HasNoPair (part s c.left))
 
--- a fault is right: what was passed in isn't `valid`, or bytes are malformed and it is so
+-- a fault is right: what was passed in isn't `valid`, or bytes are cut and it is so
 abbrev pub RefusedBy : Type 0 → Type 0 → Fault → Type 0
 RefusedBy valid bad Invalid = valid → ⊥
-RefusedBy valid bad Malformed = bad
+RefusedBy valid bad Cut = bad
 RefusedBy valid bad _ = ⊥
 
 -- a fault of a step is right: the cursor is of no container in s, or no entry is at it
 abbrev pub RefusesStep : List ℕ → Cursor → Fault → Type 0
 RefusesStep s c = RefusedBy (IsOfContainer (length s) c) (IsOfContainer (length s) c × IsCutEntry s c)
-
--- the cursor is before the first entry of a container in s
-abbrev pub IsEntered : List ℕ → Entry → Cursor → Type 0
-IsEntered s e c = (c ≡ contents e) × IsOfContainer (length s) c
-
--- a fault of entering is right: the entry is of no container in s
-abbrev pub RefusesToEnter : List ℕ → Entry → Fault → Type 0
-RefusesToEnter s e = RefusedBy (IsOfContainer (length s) (contents e)) ⊥
 
 -- a step returns the first of the values, with no key, and leaves the others
 abbrev pub GivesValue : List ℕ → Trees → Result (Option (Entry × Cursor)) Fault → Type 0
@@ -163,7 +155,7 @@ pub record IsFoundIn (s : List ℕ) (c : Cursor) (key : List ℕ) (e : Entry) : 
   pub inside : EntryIsIn (length s) e
 
 -- a look-up, in what a table has left: if pairs are left, the value at the key is found, of equal
--- keys the last; what is left is malformed exactly when it isn't pairs by their lengths and type
+-- keys the last; what is left is cut exactly when it isn't pairs by their lengths and type
 -- tags, and of such pairs the last with the key is found, whatever is in their values
 pub record LooksUp (s : List ℕ) (c : Cursor) (key : List ℕ) (done : Result (Option Entry) Fault) : Type 0 where
   pub found : (es : Entries) → IsOfTable (length s) c → HasEntries (part s c.left) es → GivesFound s (value_at key es) done

@@ -7,8 +7,8 @@ ghost use Rattle.amqp_c.specs.Growth.{IsAppended};
 ghost use Rattle.amqp_c.specs.Faults.{LacksCapacityFor};
 ghost use Rattle.amqp_c.specs.Buffers.{with_bytes};
 
+use crate::Fault;
 use crate::container::Container;
-use amqp_c_common::Fault;
 
 /// Writes the bytes from `at` on.
 #[inline(always)]
@@ -32,7 +32,7 @@ pub fn append(
     requires place { IsPlace (length buffer.old) into key.now }
     requires at { at ≡ end_of into }
     requires few { length head.now ≤ 9 }
-    requires limited { length content.now < 2 ^ 32 }
+    requires limited { length content.now ≤ 4294967300 }
     ensures appended { MatchResult result
         (λ grown. IsAppended buffer.old into key.now (head.now ++ content.now) buffer.new
         × (grown ≡ up_to (end_with into key.now (head.now ++ content.now)) into))
@@ -42,23 +42,23 @@ pub fn append(
     let name_length = if into.tag == b'F' { 1 + key.len() } else { 0 };
     let count = name_length + head.len() + content.len();
     if buffer.len() - at < count {
-        return Err(Fault::BufferTooSmall(at + count));
+        return Err(Fault::NoRoom(at + count));
     }
     write_name(buffer, at, into.tag, key);
     write(buffer, at + name_length, head);
-    write_few(buffer, at + name_length + head.len(), content);
+    write_bytes(buffer, at + name_length + head.len(), content);
     Ok(into.up_to(at + count))
 }
 
-/// Writes the bytes from `at` on, as `write` does. Up to 16, as all numbers have, are moved, which takes
-/// less than a call of `memcpy`; by an arm for each length, since moves that overlap take more here:
-/// docs/DECISIONS.md has the counts.
+/// Writes the bytes from `at` on: up to 32 by moves, which take less time than a call of `memcpy`. A number
+/// has up to 8, and most keys up to 16.
 #[inline(always)]
-pub fn write_few(buffer: &mut [u8], at: usize, bytes: &[u8])
+fn write_bytes(buffer: &mut [u8], at: usize, bytes: &[u8])
     requires { at + length bytes.now ≤ length buffer.old }
     ensures { buffer.new ≡ with_bytes at bytes.now buffer.old }
 {
     match bytes.len() {
+        0 => {}
         1 => write(buffer, at, &bytes[..1]),
         2 => write(buffer, at, &bytes[..2]),
         3 => write(buffer, at, &bytes[..3]),
@@ -66,41 +66,9 @@ pub fn write_few(buffer: &mut [u8], at: usize, bytes: &[u8])
         5 => write(buffer, at, &bytes[..5]),
         6 => write(buffer, at, &bytes[..6]),
         7 => write(buffer, at, &bytes[..7]),
-        8 => write(buffer, at, &bytes[..8]),
-        9 => write(buffer, at, &bytes[..9]),
-        10 => write(buffer, at, &bytes[..10]),
-        11 => write(buffer, at, &bytes[..11]),
-        12 => write(buffer, at, &bytes[..12]),
-        13 => write(buffer, at, &bytes[..13]),
-        14 => write(buffer, at, &bytes[..14]),
-        15 => write(buffer, at, &bytes[..15]),
-        16 => write(buffer, at, &bytes[..16]),
-        _ => write(buffer, at, bytes),
-    }
-}
-
-/// Writes the bytes from `at` on, of any number that the caller passed: up to 32 by two moves that may
-/// overlap, after few branches.
-#[inline(always)]
-pub fn write_bytes(buffer: &mut [u8], at: usize, bytes: &[u8])
-    requires { at + length bytes.now ≤ length buffer.old }
-    ensures { buffer.new ≡ with_bytes at bytes.now buffer.old }
-{
-    let count = bytes.len();
-    if count >= 8 {
-        if count <= 16 {
-            write_ends::<8>(buffer, at, bytes);
-        } else if count <= 32 {
-            write_ends::<16>(buffer, at, bytes);
-        } else {
-            write_long(buffer, at, bytes);
-        }
-    } else if count >= 4 {
-        write_ends::<4>(buffer, at, bytes);
-    } else if count >= 2 {
-        write_ends::<2>(buffer, at, bytes);
-    } else if count == 1 {
-        write_ends::<1>(buffer, at, bytes);
+        8..=16 => write_ends::<8>(buffer, at, bytes),
+        17..=32 => write_ends::<16>(buffer, at, bytes),
+        _ => write_long(buffer, at, bytes),
     }
 }
 
@@ -111,30 +79,6 @@ fn write_long(buffer: &mut [u8], at: usize, bytes: &[u8])
     ensures { buffer.new ≡ with_bytes at bytes.now buffer.old }
 {
     write(buffer, at, bytes);
-}
-
-/// Writes the bytes from `at` on, as `write_bytes` does. It takes fewer instructions for more than 32, as a string may
-/// have, and two more for up to 16, as most keys have.
-#[inline(always)]
-pub fn write_content(buffer: &mut [u8], at: usize, bytes: &[u8])
-    requires { at + length bytes.now ≤ length buffer.old }
-    ensures { buffer.new ≡ with_bytes at bytes.now buffer.old }
-{
-    if bytes.len() <= 32 {
-        write_bytes(buffer, at, bytes);
-    } else {
-        copy_long(&mut buffer[at..at + bytes.len()], bytes);
-    }
-}
-
-/// Copies the bytes to their place, out of line. With the buffer and an offset, as `write_long` has them, a call takes
-/// four instructions more.
-#[inline(never)]
-fn copy_long(place: &mut [u8], bytes: &[u8])
-    requires { length bytes.now ≡ length place.old }
-    ensures { place.new ≡ bytes.now }
-{
-    place.copy_from_slice(bytes);
 }
 
 /// Writes N to 2 * N bytes: the first N and the last N, which may overlap.

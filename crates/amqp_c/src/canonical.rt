@@ -1,59 +1,35 @@
-//! Whether the bytes of a value are its canonical encoding.
+//! Whether a value is encoded canonically.
 
-ghost use Rattle.std.specs.Prelude.{MatchResult};
-ghost use Rattle.amq_protocol_types.specs.parsing.Untagged.{tagged};
-ghost use Rattle.amqp_c.specs.CallResults.{FaultsWithin};
-ghost use Rattle.amqp_c.specs.Spellings.{IsSpellingRead};
+ghost use Rattle.std.specs.Prelude.{true, false, Ok, MatchBool};
+ghost use Rattle.amqp_in_place.specs.ProblemResults.{FindsValue};
+ghost use Rattle.amqp_c.specs.Inputs.{limits, encoding};
+ghost use Rattle.amqp_c.specs.Canonical.{IsEncodedSo, IsTold};
 
-use amq_protocol_types::parsing::Limits;
-use amqp_c_common::Fault;
-use amqp_in_place::{canonical_len, canonical_table_len, read_in_place, read_table_in_place};
-use amqp_value_core::types::AMQPType;
+use crate::{Fault, Input};
+use amqp_in_place::{Rules, canonical_len, canonical_table_len};
 
-/// The bytes of a value that is read.
-#[derive(Clone, Copy)]
-pub struct Spelling {
-    /// How many they are.
-    pub length: usize,
-    /// Whether they are the canonical ones.
-    pub is_canonical: bool,
+/// Whether the value, which is read within the limits, is encoded canonically: in one pass if it is, otherwise in at
+/// most two.
+pub fn is_canonical(input: &Input<'_>) -> Result<bool, Fault>
+    ensures { IsTold input.now result }
+{
+    if has_canonical(input) {
+        return Ok(true);
+    }
+    match input.read_error(Rules::Reading) {
+        Some(error) => Err(error.fault),
+        None => Ok(false),
+    }
 }
 
-/// Reads the value at the start within limits, and says whether its bytes are canonical: in one pass if
-/// they are, otherwise in at most two.
-pub fn read_spelling(bytes: &[u8], limits: Limits) -> Result<Spelling, Fault>
-    ensures { MatchResult result
-        (IsSpellingRead limits bytes.now bytes.now)
-        (FaultsWithin limits bytes.now) }
+/// Whether the canonical encoding of a value within the limits is at the start.
+fn has_canonical(input: &Input<'_>) -> bool
+    ensures { MatchBool result
+        (IsTold input.now (Ok true))
+        (FindsValue (limits input.now) (encoding input.now) → IsEncodedSo false input.now) }
 {
-    if let Some(length) = canonical_len(bytes, limits) {
-        return Ok(Spelling {
-            length,
-            is_canonical: true,
-        });
+    if input.is_untagged() {
+        return canonical_table_len(input.bytes(), input.limits()).is_some();
     }
-    let (_, rest) = read_in_place(bytes, limits)?;
-    Ok(Spelling {
-        length: bytes.len() - rest.len(),
-        is_canonical: false,
-    })
-}
-
-/// That of the table without its type tag at the start.
-pub fn read_table_spelling(bytes: &[u8], limits: Limits) -> Result<Spelling, Fault>
-    ensures { MatchResult result
-        (IsSpellingRead limits bytes.now (tagged AMQPType.FieldTable bytes.now))
-        (FaultsWithin limits (tagged AMQPType.FieldTable bytes.now)) }
-{
-    if let Some(length) = canonical_table_len(bytes, limits) {
-        return Ok(Spelling {
-            length,
-            is_canonical: true,
-        });
-    }
-    let (_, rest) = read_table_in_place(bytes, limits)?;
-    Ok(Spelling {
-        length: bytes.len() - rest.len(),
-        is_canonical: false,
-    })
+    canonical_len(input.bytes(), input.limits()).is_some()
 }

@@ -5,7 +5,7 @@ ghost use Rattle.amqp_c.specs.Containers.{IsContainerTag, IsKeyOf, HasNoneOpen, 
 ghost use Rattle.amqp_c.specs.Faults.{RefusesPlace};
 
 use crate::key::is_key;
-use amqp_c_common::{Fault, Span};
+use crate::{Fault, Span};
 
 /// An array or a table that is being put together.
 #[repr(C)]
@@ -17,8 +17,7 @@ pub struct Container {
     pub tag: u8,
     /// 1 while an entry that was opened in it isn't closed, otherwise 0.
     pub inner: u8,
-    /// 0 if keys are UTF-8. With any other number they may be any bytes, in it and in what is put and opened
-    /// there.
+    /// 0 if keys that are put must be UTF-8. With any other number they may be any bytes, also in what is opened there.
     pub any_keys: u8,
     /// After a buffer was too small for an entry: the capacity that it should have had.
     pub needed: usize,

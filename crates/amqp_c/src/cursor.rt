@@ -5,20 +5,20 @@ ghost use Rattle.amqp_value_core.specs.Values.{Tree, Trees, Entries};
 ghost use Rattle.amqp_value_core.specs.Grammar.{short_field, ArrayBody, TableBody};
 ghost use Rattle.amqp_value_core.specs.Outcomes.{Outcome, found};
 ghost use Rattle.amq_protocol_types.specs.parsing.Headers.{extent};
-ghost use Rattle.amqp_c_common.specs.Spans.{part, SpanIsIn};
+ghost use Rattle.amqp_c.specs.Spans.{part, SpanIsIn};
 ghost use Rattle.amqp_c.specs.Entries.{IsTagged, IsTrueTo, EntryIsIn};
-ghost use Rattle.amqp_c.specs.Steps.{contents, IsOfContainer, IsOfTable, IsEntered, RefusesToEnter, IsHeaded, HasNoPair, StepsIn, RefusesStep, GivesNextValue, GivesNextPair, IsFirstEntryIn, IsValueIn, IsPairIn, EndsIn, HasNoKey, StandsAlone, StandsKeyed, LooksUp};
+ghost use Rattle.amqp_c.specs.Steps.{contents, IsOfContainer, IsHeaded, HasNoPair, StepsIn, RefusesStep, GivesNextValue, GivesNextPair, IsFirstEntryIn, IsValueIn, IsPairIn, EndsIn, StandsAlone, StandsKeyed};
 
 use crate::entry::{Entry, first};
+use crate::{Fault, Span};
 use amq_protocol_types::parsing::header::value_len;
-use amqp_c_common::{Fault, Span};
 use amqp_value_core::input::SliceInput;
 
-/// What is left of an array or a table.
+/// A position in an array or a table: `amqpv_cursor`.
 #[repr(C)]
 #[derive(Clone, Copy)]
 pub struct Cursor {
-    /// The bytes of the body that are left.
+    /// What has not been visited of the body.
     pub left: Span,
     /// The type tag: `A` of an array, `F` of a table.
     pub tag: u8,
@@ -32,18 +32,6 @@ impl Entry {
         Cursor {
             left: self.content,
             tag: self.tag,
-        }
-    }
-
-    /// A cursor before the first entry of the container.
-    pub fn enter(self, bytes: &[u8]) -> Result<Cursor, Fault>
-        ensures entered { IfOk result (IsEntered bytes.now self) }
-        ensures refused { IfErr result (RefusesToEnter bytes.now self) }
-    {
-        let cursor = self.contents();
-        match cursor.body(bytes) {
-            Some(_) => Ok(cursor),
-            None => Err(Fault::Invalid),
         }
     }
 }
@@ -93,7 +81,7 @@ impl Cursor {
             first_value(bytes, self.left)
         };
         let Some(entry) = next else {
-            return Err(Fault::Malformed);
+            return Err(Fault::Cut);
         };
         let rest = Cursor {
             left: self.left.rest_after(entry.value),
@@ -101,80 +89,6 @@ impl Cursor {
         };
         Ok(Some((entry, rest)))
     }
-
-    /// The pairs that are left, if the cursor is of a table and inside `bytes`.
-    pub fn table_body(self, bytes: &[u8]) -> Option<&[u8]>
-        ensures { MatchOption result
-            (IsOfTable (length bytes.now) self → ⊥)
-            (λ body. IsOfTable (length bytes.now) self
-            × (body.now ≡ part bytes.now self.left)) }
-    {
-        if self.tag != b'F' {
-            return None;
-        }
-        self.left.of(bytes)
-    }
-
-    /// The entry at the key: of equal keys the last. It traverses all entries that are left, and
-    /// returns one.
-    pub fn find(self, bytes: &[u8], key: &[u8]) -> Result<Option<Entry>, Fault>
-        ensures { LooksUp bytes.now self key.now result }
-    {
-        let Some(body) = self.table_body(bytes) else {
-            return Err(Fault::Invalid);
-        };
-        let mut at = None;
-        let mut left = body;
-        'pairs: while !left.is_empty() {
-            let Some((name, value)) = split_key(left) else {
-                return Err(Fault::Malformed);
-            };
-            if key == name {
-                at = Some(left.len());
-            }
-            let Some(later) = after_value(value) else {
-                return Err(Fault::Malformed);
-            };
-            left = later;
-        }
-        let Some(count) = at else {
-            return Ok(None);
-        };
-        match first_pair(bytes, self.left.last(count)) {
-            Some(entry) => Ok(Some(entry)),
-            None => Err(Fault::Malformed),
-        }
-    }
-}
-
-/// The key of the pair at the start, and the bytes from its value on.
-#[inline(always)]
-pub fn split_key(pairs: &[u8]) -> Option<(&[u8], &[u8])>
-    ensures { MatchOption result
-        (HasNoKey pairs.now)
-        (λ x. (pairs.now ≡ short_field x.0.now ++ x.1.now) × (0 < length x.1.now)) }
-{
-    let (length, named) = pairs.split_first()?;
-    let length = usize::from(*length);
-    if named.len() <= length {
-        return None;
-    }
-    Some(named.split_at(length))
-}
-
-/// What is after the value at the start, by its header only.
-#[inline(always)]
-pub fn after_value(value: &[u8]) -> Option<&[u8]>
-    ensures { MatchOption result
-        (IsHeaded value.now → ⊥)
-        (λ rest. (rest.now ≡ drop (extent value.now) value.now) × IsHeaded value.now) }
-{
-    let taken = value_len(SliceInput::new(value));
-    if taken == 0 || value.len() < taken {
-        return None;
-    }
-    let (_, later) = value.split_at(taken);
-    Some(later)
 }
 
 /// The entry of the value at the start of the span.

@@ -14,16 +14,16 @@ ghost use Rattle.amqp_c.specs.Entries.{IsEntryAtStart, EntryIsIn};
 ghost use Rattle.amqp_c.specs.CallResults.{GivesFirst, HeaderFaults, IsRefusalOf};
 ghost use Rattle.amqp_c.specs.Heads.{has_content};
 
+use crate::{Fault, Span};
 use amq_protocol_types::parsing::{
     ParserResult, parse_boolean, parse_decimal_value, parse_double, parse_float,
     parse_length_prefixed, parse_long_int, parse_long_long_int, parse_long_uint, parse_short_int,
     parse_short_short_int, parse_short_short_uint, parse_short_uint, parse_timestamp, parse_type,
 };
-use amqp_c_common::{Fault, Span};
 use amqp_value_core::input::{ParsableInput, SliceInput};
 use amqp_value_core::types::AMQPType;
 
-/// A value, and in a table its key, by position.
+/// A value, and its key if it is in a table: `amqpv_entry`.
 #[repr(C)]
 #[derive(Clone, Copy)]
 pub struct Entry {

@@ -1,16 +1,10 @@
-//! What the value of fixed width of an entry is.
+//! The integer of an entry.
 
-ghost use Rattle.std.specs.Prelude.{◌≡◌, ◌<◌, ◌^◌, pos, MatchResult};
-ghost use Rattle.amqp_c_common.specs.ReturnCodes.{return_code_of};
-ghost use Rattle.amqp_c.specs.CallResults.{ok_or_old};
-ghost use Rattle.amqp_c.specs.Getters.{IsInteger, IsBool, IsTimestamp, IsDecimal, RefusesGet, RefusesInt, RefusesUint};
+ghost use Rattle.std.specs.Prelude.{pos, MatchBool, MatchResult};
+ghost use Rattle.amqp_c.specs.Getters.{IsSignedTag, IsUnsignedTag, IsInteger, RefusesInt, RefusesUint};
 
+use crate::Fault;
 use crate::entry::Entry;
-use crate::integers::{is_signed_tag, is_unsigned_tag};
-use amqp_c_common::Fault;
-
-/// Something is given.
-const OK: i32 = 0;
 
 impl Entry {
     // This tactic and the next name lemmas on integers by their sign, which no callee's clause states.
@@ -47,59 +41,20 @@ impl Entry {
         };
         Ok(number)
     }
-
-    /// Its boolean, as 0 or 1.
-    pub fn as_bool(&self) -> Result<i32, Fault>
-        ensures { MatchResult result (IsBool self.now)
-            (RefusesGet (self.now.tag ≡ 116) (self.now.bits < 2)) }
-    {
-        if self.tag != b't' {
-            return Err(Fault::BadTag);
-        }
-        match self.bits {
-            0 => Ok(0),
-            1 => Ok(1),
-            _ => Err(Fault::OutOfRange),
-        }
-    }
-
-    /// Its timestamp.
-    pub fn as_timestamp(&self) -> Result<u64, Fault>
-        ensures { MatchResult result (IsTimestamp self.now)
-            (RefusesGet (self.now.tag ≡ 84) (Unit {0})) }
-    {
-        if self.tag != b'T' {
-            return Err(Fault::BadTag);
-        }
-        Ok(self.bits)
-    }
-
-    /// Its decimal: the number without the point, and how many digits are after the point.
-    pub fn as_decimal(&self) -> Result<(u32, u8), Fault>
-        ensures { MatchResult result (IsDecimal self.now)
-            (RefusesGet (self.now.tag ≡ 68) (self.now.bits < 2 ^ 32)) }
-    {
-        if self.tag != b'D' {
-            return Err(Fault::BadTag);
-        }
-        let Ok(number) = u32::try_from(self.bits) else {
-            return Err(Fault::OutOfRange);
-        };
-        Ok((number, self.scale))
-    }
 }
 
-/// Leaves the decimal that is given.
-pub fn store_decimal(done: Result<(u32, u8), Fault>, number: &mut u32, scale: &mut u8) -> i32
-    ensures returned { result ≡ return_code_of done }
-    ensures decimal { (number.new, scale.new) ≡ ok_or_old (number.old, scale.old) done }
+/// Whether it is the type tag of signed numbers.
+#[inline(always)]
+fn is_signed_tag(tag: u8) -> bool
+    ensures { MatchBool result (IsSignedTag tag) (IsSignedTag tag → ⊥) }
 {
-    match done {
-        Ok((given, digits)) => {
-            *number = given;
-            *scale = digits;
-            OK
-        }
-        Err(fault) => fault.code(),
-    }
+    tag == b'b' || tag == b's' || tag == b'I' || tag == b'l'
+}
+
+/// Whether it is the type tag of unsigned numbers.
+#[inline(always)]
+fn is_unsigned_tag(tag: u8) -> bool
+    ensures { MatchBool result (IsUnsignedTag tag) (IsUnsignedTag tag → ⊥) }
+{
+    tag == b'B' || tag == b'u' || tag == b'i'
 }

@@ -1,28 +1,30 @@
-//! From an encoding to its JSON text, without an allocator.
+//! From an encoding to JSON text, without an allocator.
 
-// The tactic at the function names the lemma that its clause is proved by.
-
-ghost use Rattle.std.specs.Prelude.{length, MatchResult};
+ghost use Rattle.std.specs.Prelude.{◌≡◌, false, length, Err, MatchResult};
+ghost use Rattle.amqp_c.specs.declared.fault.Fault.TheVariants.{Invalid};
+ghost use Rattle.amqp_c.specs.Inputs.{is_strict};
 ghost use Rattle.amqp_c.specs.JsonTexts.{IsOrderedJsonPut, IsOrderedJsonFault};
 
-use amq_protocol_types::parsing::Limits;
-use amqp_c_common::Fault;
-use amqp_json::{WriteError, write_json};
+use crate::{Fault, Input};
+use amqp_json::write_json_of_view;
 
-/// Puts the JSON text of the value that `bytes` begin with at the start of `buffer`, and returns how
-/// many bytes it has. After a fault the buffer may have some of it.
+/// Puts the JSON text of the value at the start of the input at the start of `buffer`, and returns how many bytes it
+/// has. After a fault the buffer may have some of it.
 ///
-/// If the keys of a table don't ascend, the fault is `OutOfMemory`: sorting them takes an allocator.
-#[tactic(auto, using(crate::proofs::JsonFaults::refused_so))]
-pub fn put_json(bytes: &[u8], limits: Limits, buffer: &mut [u8]) -> Result<usize, Fault>
+/// If the keys of a table don't ascend, the fault is `NoMemory`, since nothing can be sorted without an allocator.
+pub fn put_json(input: &Input<'_>, buffer: &mut [u8]) -> Result<usize, Fault>
     ensures written { MatchResult result
-        (IsOrderedJsonPut limits bytes.now buffer.old buffer.new)
-        (IsOrderedJsonFault limits bytes.now (length buffer.old)) }
+        (IsOrderedJsonPut input.now buffer.old buffer.new)
+        (IsOrderedJsonFault input.now (length buffer.old)) }
+    ensures flags { is_strict input.now ≡ false → result ≡ Err Invalid }
 {
-    match write_json(bytes, limits, buffer) {
-        Ok((count, _)) => Ok(count),
-        Err(WriteError::Refused(refusal)) => Err(Fault::from(refusal)),
-        Err(WriteError::BufferTooSmall(count)) => Err(Fault::BufferTooSmall(count)),
-        Err(WriteError::KeysOutOfOrder) => Err(Fault::OutOfMemory),
+    let value = input.view()?;
+    let capacity = buffer.len();
+    let Some(count) = write_json_of_view(value, buffer) else {
+        return Err(Fault::NoMemory);
+    };
+    if count > capacity {
+        return Err(Fault::NoRoom(count));
     }
+    Ok(count)
 }

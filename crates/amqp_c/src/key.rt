@@ -6,14 +6,6 @@ ghost use Rattle.std.specs.Str.{IsAscii, IsUtf8};
 
 use std::str;
 
-/// Whether the bytes are a short string, as each key of a table is.
-#[inline(always)]
-pub fn is_short_string(bytes: &[u8]) -> bool
-    ensures { MatchBool result (IsShort bytes.now) (IsShort bytes.now → ⊥) }
-{
-    is_key(bytes, 0)
-}
-
 // The tactic names why ASCII is UTF-8.
 /// Whether the bytes are a short string, or if a number isn't 0, any of at most 255 bytes. Of ASCII the number
 /// isn't looked at.

@@ -1,345 +1,179 @@
-//! Calls for C that don't allocate: reading in place, and putting arrays and tables together in a
-//! buffer, entry by entry, and JSON of tables whose keys ascend.
+//! Calls for C that don't allocate: reading in place, building arrays and tables in a buffer, and writing JSON of
+//! tables whose keys ascend.
 //!
-//! No call allocates, keeps state, prints or ends the process. What comes in is checked each time:
-//! whatever a cursor, an entry or a container holds, no byte outside of the bytes is read and none
-//! outside of the buffer is touched, and each offset that is returned is inside the bytes. After an
-//! error the buffer and the container are as they were, but for the buffer of a JSON text.
-//! `include/amqp_values.h` declares the calls.
+//! No call allocates, keeps state, prints or ends the process. Each checks what it is passed: whatever is in a cursor,
+//! an entry or a container, no byte outside the input is read, none outside the buffer is written, and each offset
+//! that is returned is inside the input. After an error nothing is changed, but where a call's comment says otherwise.
+//! `include/amqp_values.h` declares the calls, and docs/PROMISES.md has their stack use.
 #![tactic(auto)]
 
-ghost use Rattle.std.specs.Prelude.{◌≡◌};
-ghost use Rattle.amqp_c.specs.Problems.{FindsInValue, FindsInTable};
-ghost use Rattle.amqp_c.specs.BuildCalls.{PutsScalar, PutsInt, PutsUint, PutsBool, PutsTimestamp, PutsDecimal, PutsVoid, PutsBytes, PutsValue, OpensContainer, ClosesContainer};
-ghost use Rattle.amqp_c.specs.WrittenTables.{WritesTable};
+ghost use Rattle.std.specs.Prelude.{◌≡◌, Some, None, true, false, pos};
+ghost use Rattle.amqp_value_core.specs.Outcomes.{Outcome};
+ghost use Rattle.amqp_in_place.specs.declared.problems.Rules.TheVariants.{Reading};
+ghost use Rattle.amqp_c.specs.declared.fault.Fault.TheVariants.{Invalid};
+ghost use Rattle.amqp_c.specs.Inputs.{rules, is_first_key, is_strict, encoding};
+ghost use Rattle.amqp_c.specs.ReadErrors.{read_error};
+ghost use Rattle.amqp_c.specs.ReturnCodes.{code_of};
+ghost use Rattle.amqp_c.specs.BuildCalls.{PutsScalar, PutsBytes, PutsValue, OpensContainer, ClosesContainer};
+ghost use Rattle.amqp_c.specs.CallResults.{HeaderFaults, Gives};
+ghost use Rattle.amqp_c.specs.Calls.{StepsToNext, FindsPath};
+ghost use Rattle.amqp_c.specs.Canonical.{TellsCanonical};
+ghost use Rattle.amqp_c.specs.Getters.{IsInteger, RefusesInt, RefusesUint};
 ghost use Rattle.amqp_c.specs.JsonTexts.{WritesOrderedJson};
-ghost use Rattle.amqp_c.specs.Getters.{GetsInt, GetsUint, GetsBool, GetsTimestamp, GetsDecimal};
-ghost use Rattle.amqp_c.specs.ReadBy.{ReadsValueBy, ReadsTableBy};
-ghost use Rattle.amqp_c.specs.PairsRead.{ReadsPairs};
-ghost use Rattle.amqp_c.specs.Spellings.{TellsCanonical, TellsCanonicalTable};
-ghost use Rattle.amqp_c.specs.Calls.{GivesNeeded, ReadsValue, ReadsTable, MeasuresValue, MeasuresTable, GivesFirstEntry, EntersContainer, StepsToNext, FindsLast, FindsFirst, FindsPath};
+ghost use Rattle.amqp_c.specs.Measures.{IsMeasured};
+ghost use Rattle.amqp_c.specs.Reads.{IsEntryOf, IsReadEntry, FailsByGrammar, HasProblemInside, ReadsAs};
 
 mod buffer;
 mod canonical;
 mod container;
 mod cursor;
 mod entry;
+mod fault;
 mod getter;
-mod integers;
+mod input;
 mod json;
 mod key;
 mod lookup;
 mod measure;
-mod needed;
 mod nest;
 mod number;
-mod pair;
-mod path;
+mod output;
 mod problem;
 mod put;
 mod read;
-mod read_by;
-mod read_pairs;
+mod span;
 mod store;
-mod table;
+mod view;
 
-use amq_protocol_types::parsing::Limits;
-use amqp_c_common::{Fault, return_count};
-use amqp_in_place::{first_problem, first_problem_in_table};
-use canonical::{read_spelling, read_table_spelling};
+// What `amqp_c_alloc` uses too.
+pub use fault::Fault;
+pub use input::Input;
+pub use output::{put_at_start, return_length};
+pub use problem::Problem;
+pub use span::Span;
+
+// What is used here.
+use amqp_in_place::Rules;
+use canonical::is_canonical;
 use container::Container;
 use cursor::Cursor;
-use entry::{Entry, first};
-use getter::store_decimal;
-use integers::{put_int, put_uint, truth_bits};
+use entry::Entry;
 use json::put_json;
-use measure::{Measure, measured_table, measured_value};
-use needed::store_needed;
+use lookup::{Step, find};
+use measure::{Size, measure};
 use nest::{close, open};
-use pair::Pair;
-use path::{EqualKeys, Step, find_path};
-use problem::{Problem, rules_of};
 use put::{put_bytes, put_scalar, put_value};
-use read::{read, read_table};
-use read_by::{read_by, read_table_by};
-use read_pairs::read_pairs;
+use read::{peek, read};
 use store::{
-    store, store_closed, store_found, store_grown, store_measure, store_opened, store_pairs,
-    store_problem, store_read, store_read_by, store_spelling, store_step,
+    store, store_closed, store_found, store_grown, store_opened, store_read, store_step, told,
 };
-use table::write_table;
 
-/// Reads the value at the start within limits, checks all of it, and returns its entry.
-/// docs/PROMISES.md has what a level of nesting takes of the stack.
-///
-/// `count` becomes how many bytes the value takes, or how many more the field that is being read
-/// needs, otherwise 0.
+/// Checks the value at the start of the input, all of it, and returns its entry, or the first problem. By
+/// `Rules::Reading` a value is read if, and only if, the grammar has one there.
 #[unsafe(no_mangle)]
-pub extern "C" fn amqpv_read(
-    bytes: &[u8],
-    frame: u32,
-    depth: u32,
-    entry: &mut Entry,
-    count: &mut usize,
-) -> i32
-    ensures { ReadsValue frame depth bytes.now entry.old result entry.new count.new }
+pub extern "C" fn amqpv_read(input: &Input<'_>, entry: &mut Entry, problem: &mut Problem) -> i32
+    ensures unknown_flag { rules input.now ≡ None → (result ≡ code_of Invalid)
+        × (entry.new ≡ entry.old) × (problem.new ≡ problem.old) }
+    ensures reads { (by : Rules) → rules input.now ≡ Some by
+        → ReadsAs (IsEntryOf input.now) (read_error by input.now)
+        entry.old problem.old result entry.new problem.new }
+    ensures value { rules input.now ≡ Some Reading → result ≡ pos 0 → IsReadEntry input.now entry.new }
+    ensures grammar { rules input.now ≡ Some Reading → FailsByGrammar input.now }
+    ensures inside { (by : Rules) → rules input.now ≡ Some by → HasProblemInside by input.now }
 {
-    store_read(read(bytes, Limits { frame, depth }), entry, count)
-}
-
-/// Reads the table without its type tag at the start, and returns its entry, whose content is its
-/// pairs. The limits count the type tag as if it were there; `count` is as for `amqpv_read`, and of
-/// the bytes that are there.
-#[unsafe(no_mangle)]
-pub extern "C" fn amqpv_read_table(
-    bytes: &[u8],
-    frame: u32,
-    depth: u32,
-    entry: &mut Entry,
-    count: &mut usize,
-) -> i32
-    ensures { ReadsTable frame depth bytes.now entry.old result entry.new count.new }
-{
-    store_read(read_table(bytes, Limits { frame, depth }), entry, count)
-}
-
-/// Reads the value at the start within limits as `amqpv_read` does, by the rules that a number denotes:
-/// those of `amqpv_read` (0), the same with any bytes as keys (1), or RabbitMQ's (2). If it isn't read, the
-/// first problem is returned, by the same rules. docs/PROMISES.md has what a level of nesting takes of the
-/// stack.
-#[unsafe(no_mangle)]
-pub extern "C" fn amqpv_read_by(
-    bytes: &[u8],
-    rules: u32,
-    frame: u32,
-    depth: u32,
-    entry: &mut Entry,
-    count: &mut usize,
-    problem: &mut Problem,
-) -> i32
-    ensures { ReadsValueBy rules frame depth bytes.now
-        entry.old problem.old result entry.new count.new problem.new }
-{
-    let Some(rules) = rules_of(rules) else {
-        return return_count(Err(Fault::BadTag), count);
+    // A copy's fields aren't loaded again after each call.
+    let input = *input;
+    let Some(rules) = input.rules() else {
+        return Fault::Invalid.code();
     };
-    let read = read_by(bytes, rules, Limits { frame, depth });
-    store_read_by(read, entry, count, problem)
+    store_read(read(&input, rules), entry, problem)
 }
 
-/// Reads the table without its type tag at the start by the rules that a number denotes, as
-/// `amqpv_read_by` does the value after its type tag. The offset of a problem counts from its length on.
+/// Returns the entry of the value at the start of the input, by its type tag and its length only, in constant time.
 #[unsafe(no_mangle)]
-pub extern "C" fn amqpv_read_table_by(
-    bytes: &[u8],
-    rules: u32,
-    frame: u32,
-    depth: u32,
-    entry: &mut Entry,
-    count: &mut usize,
-    problem: &mut Problem,
-) -> i32
-    ensures { ReadsTableBy rules frame depth bytes.now
-        entry.old problem.old result entry.new count.new problem.new }
+pub extern "C" fn amqpv_peek(input: &Input<'_>, entry: &mut Entry) -> i32
+    ensures unknown_flag { rules input.now ≡ None
+        → (result ≡ code_of Invalid) × (entry.new ≡ entry.old) }
+    ensures peeks { (by : Rules) → rules input.now ≡ Some by
+        → Gives (IsEntryOf input.now) (HeaderFaults (Outcome (encoding input.now)))
+        entry.old result entry.new }
 {
-    let Some(rules) = rules_of(rules) else {
-        return return_count(Err(Fault::BadTag), count);
-    };
-    let read = read_table_by(bytes, rules, Limits { frame, depth });
-    store_read_by(read, entry, count, problem)
+    if input.rules().is_none() {
+        return Fault::Invalid.code();
+    }
+    store(peek(input), entry)
 }
 
-/// Reads the table without its type tag at the start within limits, checks all of it, and returns the
-/// entries of its pairs.
-///
-/// `count` becomes how many there are, or how many places they need, otherwise 0; `taken` how many bytes
-/// the table takes, or how many more the field that is being read needs, otherwise 0.
+/// Returns the next entry of a container and advances the cursor past it, in constant time.
 #[unsafe(no_mangle)]
-pub extern "C" fn amqpv_read_pairs(
-    bytes: &[u8],
-    frame: u32,
-    depth: u32,
-    pairs: &mut [Entry],
-    count: &mut usize,
-    taken: &mut usize,
-) -> i32
-    ensures { ReadsPairs frame depth bytes.now pairs.old result pairs.new count.new taken.new }
+pub extern "C" fn amqpv_next(input: &Input<'_>, cursor: &mut Cursor, entry: &mut Entry) -> i32
+    ensures { StepsToNext input.now.bytes.now cursor.old entry.old result cursor.new entry.new }
 {
-    store_pairs(
-        read_pairs(bytes, Limits { frame, depth }, pairs),
-        count,
-        taken,
-    )
+    store_step(cursor.next(input.bytes), cursor, entry)
 }
 
-/// Returns whether the value at the start, which is read within limits as by `amqpv_read`, is its canonical
-/// encoding, with that call's count. docs/PROMISES.md has what a level of nesting takes of the stack.
+/// Follows a path from an entry, by a look-up for each step, and returns the entry at its end.
 #[unsafe(no_mangle)]
-pub extern "C" fn amqpv_is_canonical(bytes: &[u8], frame: u32, depth: u32, count: &mut usize) -> i32
-    ensures { TellsCanonical frame depth bytes.now result count.new }
-{
-    store_spelling(read_spelling(bytes, Limits { frame, depth }), count)
-}
-
-/// Returns whether the table without its type tag at the start, which is read within limits as by
-/// `amqpv_read_table`, is its canonical encoding, with that call's count.
-#[unsafe(no_mangle)]
-pub extern "C" fn amqpv_is_canonical_table(
-    bytes: &[u8],
-    frame: u32,
-    depth: u32,
-    count: &mut usize,
-) -> i32
-    ensures { TellsCanonicalTable frame depth bytes.now result count.new }
-{
-    store_spelling(read_table_spelling(bytes, Limits { frame, depth }), count)
-}
-
-/// Measures the value at the start, which is read within limits as by `amqpv_read`. docs/PROMISES.md
-/// has what a level of nesting takes of the stack.
-#[unsafe(no_mangle)]
-pub extern "C" fn amqpv_measure_value(
-    bytes: &[u8],
-    frame: u32,
-    depth: u32,
-    measure: &mut Measure,
-    count: &mut usize,
-) -> i32
-    ensures { MeasuresValue frame depth bytes.now measure.old result measure.new count.new }
-{
-    store_measure(
-        measured_value(bytes, Limits { frame, depth }),
-        measure,
-        count,
-    )
-}
-
-/// Measures the table without its type tag at the start, which is read within limits as by
-/// `amqpv_read_table`.
-#[unsafe(no_mangle)]
-pub extern "C" fn amqpv_measure_table(
-    bytes: &[u8],
-    frame: u32,
-    depth: u32,
-    measure: &mut Measure,
-    count: &mut usize,
-) -> i32
-    ensures { MeasuresTable frame depth bytes.now measure.old result measure.new count.new }
-{
-    store_measure(
-        measured_table(bytes, Limits { frame, depth }),
-        measure,
-        count,
-    )
-}
-
-/// Finds the first thing in the value at the start that isn't allowed by the rules that a number
-/// denotes: those of `amqpv_read` (0), the same with any bytes as keys (1), or RabbitMQ's (2).
-/// docs/PROMISES.md has what a level of nesting takes of the stack.
-#[unsafe(no_mangle)]
-pub extern "C" fn amqpv_first_problem(
-    bytes: &[u8],
-    rules: u32,
-    frame: u32,
-    depth: u32,
-    problem: &mut Problem,
-) -> i32
-    ensures { FindsInValue rules frame depth bytes.now problem.old result problem.new }
-{
-    let Some(rules) = rules_of(rules) else {
-        return Fault::BadTag.code();
-    };
-    store_problem(
-        first_problem(bytes, rules, Limits { frame, depth }),
-        problem,
-    )
-}
-
-/// Finds that in the table without its type tag at the start. Offsets count from its length on, and
-/// the limits count the type tag as if it were there.
-#[unsafe(no_mangle)]
-pub extern "C" fn amqpv_first_problem_in_table(
-    bytes: &[u8],
-    rules: u32,
-    frame: u32,
-    depth: u32,
-    problem: &mut Problem,
-) -> i32
-    ensures { FindsInTable rules frame depth bytes.now problem.old result problem.new }
-{
-    let Some(rules) = rules_of(rules) else {
-        return Fault::BadTag.code();
-    };
-    store_problem(
-        first_problem_in_table(bytes, rules, Limits { frame, depth }),
-        problem,
-    )
-}
-
-/// Returns the entry of the value at the start, by its type tag and its length only, in constant
-/// time.
-#[unsafe(no_mangle)]
-pub extern "C" fn amqpv_first(bytes: &[u8], entry: &mut Entry) -> i32
-    ensures { GivesFirstEntry bytes.now entry.old result entry.new }
-{
-    store(first(bytes), entry)
-}
-
-/// Returns a cursor before the first entry of an array or a table, in constant time.
-#[unsafe(no_mangle)]
-pub extern "C" fn amqpv_enter(bytes: &[u8], entry: &Entry, cursor: &mut Cursor) -> i32
-    ensures { EntersContainer bytes.now entry.now cursor.old result cursor.new }
-{
-    store(entry.enter(bytes), cursor)
-}
-
-/// Returns the next entry and sets the cursor after it, in constant time.
-#[unsafe(no_mangle)]
-pub extern "C" fn amqpv_next(bytes: &[u8], cursor: &mut Cursor, entry: &mut Entry) -> i32
-    ensures { StepsToNext bytes.now cursor.old entry.old result cursor.new entry.new }
-{
-    store_step(cursor.next(bytes), cursor, entry)
-}
-
-/// Returns the entry at a key of the table, of those that the cursor has left: of equal keys the
-/// last. It traverses all of them.
-#[unsafe(no_mangle)]
-pub extern "C" fn amqpv_find(bytes: &[u8], cursor: &Cursor, key: &[u8], entry: &mut Entry) -> i32
-    ensures { FindsLast bytes.now cursor.now key.now entry.old result entry.new }
-{
-    store_found(cursor.find(bytes, key), entry)
-}
-
-/// Returns the entry at a key of the table, of those that the cursor has left: of equal keys the
-/// first. It looks at no byte after that entry.
-#[unsafe(no_mangle)]
-pub extern "C" fn amqpv_find_first(
-    bytes: &[u8],
-    cursor: &Cursor,
-    key: &[u8],
-    entry: &mut Entry,
-) -> i32
-    ensures { FindsFirst bytes.now cursor.now key.now entry.old result entry.new }
-{
-    store_found(cursor.find_first(bytes, key), entry)
-}
-
-/// Returns the entry that a path leads to from another, by a look-up for each step. Of equal keys
-/// the last counts (0), or the first (1).
-#[unsafe(no_mangle)]
-pub extern "C" fn amqpv_find_path(
-    bytes: &[u8],
+pub extern "C" fn amqpv_find(
+    input: &Input<'_>,
     from: &Entry,
-    steps: &[Step<'_>],
-    equal_keys: u32,
+    path: &[Step<'_>],
     entry: &mut Entry,
 ) -> i32
-    ensures { FindsPath bytes.now from.now steps.now equal_keys entry.old result entry.new }
+    ensures unknown_flag { rules input.now ≡ None
+        → (result ≡ code_of Invalid) × (entry.new ≡ entry.old) }
+    ensures finds { (by : Rules) → rules input.now ≡ Some by
+        → FindsPath input.now.bytes.now from.now path.now (is_first_key input.now)
+        entry.old result entry.new }
 {
-    let Some(equal) = EqualKeys::of(equal_keys) else {
-        return store_found(Err(from.fault_of_keys(bytes.len())), entry);
-    };
-    store_found(find_path(bytes, from, steps, equal), entry)
+    if input.rules().is_none() {
+        return Fault::Invalid.code();
+    }
+    store_found(find(input.bytes, from, path, input.is_first_key()), entry)
+}
+
+/// Converts an integer of any type to an `i64`.
+#[unsafe(no_mangle)]
+pub extern "C" fn amqpv_as_int(entry: &Entry, number: &mut i64) -> i32
+    ensures { Gives (IsInteger entry.now) (RefusesInt entry.now) number.old result number.new }
+{
+    store(entry.as_int(), number)
+}
+
+/// Converts an integer of any type to a `u64`.
+#[unsafe(no_mangle)]
+pub extern "C" fn amqpv_as_uint(entry: &Entry, number: &mut u64) -> i32
+    ensures { Gives (λ n. IsInteger entry.now (pos n)) (RefusesUint entry.now)
+        number.old result number.new }
+{
+    store(entry.as_uint(), number)
+}
+
+/// Checks the value at the start of the input as `amqpv_read` does, and measures it.
+#[unsafe(no_mangle)]
+pub extern "C" fn amqpv_measure(input: &Input<'_>, size: &mut Size, problem: &mut Problem) -> i32
+    ensures flags { is_strict input.now ≡ false → (result ≡ code_of Invalid)
+        × (size.new ≡ size.old) × (problem.new ≡ problem.old) }
+    ensures measures { is_strict input.now ≡ true
+        → ReadsAs (IsMeasured input.now) (read_error Reading input.now)
+        size.old problem.old result size.new problem.new }
+{
+    if !input.is_strict() {
+        return Fault::Invalid.code();
+    }
+    store_read(measure(input), size, problem)
+}
+
+/// Returns whether the value at the start of the input, which is read as by `amqpv_read`, is encoded canonically.
+#[unsafe(no_mangle)]
+pub extern "C" fn amqpv_is_canonical(input: &Input<'_>) -> i32
+    ensures flags { is_strict input.now ≡ false → result ≡ code_of Invalid }
+    ensures tells { is_strict input.now ≡ true → TellsCanonical input.now result }
+{
+    if !input.is_strict() {
+        return Fault::Invalid.code();
+    }
+    told(is_canonical(input))
 }
 
 /// Puts an entry after what is written: a value of fixed width, by its type tag, its bits and its
@@ -358,102 +192,6 @@ pub extern "C" fn amqpv_put(
     store_grown(put_scalar(buffer, *into, key, tag, bits, scale), into)
 }
 
-/// Puts an entry after what is written: a signed number, by its type tag.
-#[unsafe(no_mangle)]
-pub extern "C" fn amqpv_put_int(
-    buffer: &mut [u8],
-    into: &mut Container,
-    key: &[u8],
-    tag: u8,
-    number: i64,
-) -> i32
-    ensures { PutsInt tag number buffer.old into.old key.now result buffer.new into.new }
-{
-    store_grown(put_int(buffer, *into, key, tag, number), into)
-}
-
-/// Puts an entry after what is written: an unsigned number, by its type tag.
-#[unsafe(no_mangle)]
-pub extern "C" fn amqpv_put_uint(
-    buffer: &mut [u8],
-    into: &mut Container,
-    key: &[u8],
-    tag: u8,
-    number: u64,
-) -> i32
-    ensures { PutsUint tag number buffer.old into.old key.now result buffer.new into.new }
-{
-    store_grown(put_uint(buffer, *into, key, tag, number), into)
-}
-
-/// Puts an entry after what is written: a boolean, of which every number but 0 is true.
-#[unsafe(no_mangle)]
-pub extern "C" fn amqpv_put_bool(
-    buffer: &mut [u8],
-    into: &mut Container,
-    key: &[u8],
-    truth: i32,
-) -> i32
-    ensures { PutsBool truth buffer.old into.old key.now result buffer.new into.new }
-{
-    store_grown(
-        put_scalar(buffer, *into, key, b't', truth_bits(truth), 0),
-        into,
-    )
-}
-
-/// Puts an entry after what is written: a timestamp.
-#[unsafe(no_mangle)]
-pub extern "C" fn amqpv_put_timestamp(
-    buffer: &mut [u8],
-    into: &mut Container,
-    key: &[u8],
-    seconds: u64,
-) -> i32
-    ensures { PutsTimestamp seconds buffer.old into.old key.now result buffer.new into.new }
-{
-    store_grown(put_scalar(buffer, *into, key, b'T', seconds, 0), into)
-}
-
-/// Puts an entry after what is written: a decimal, by its number without the point, and how many of
-/// its digits are after the point.
-#[unsafe(no_mangle)]
-pub extern "C" fn amqpv_put_decimal(
-    buffer: &mut [u8],
-    into: &mut Container,
-    key: &[u8],
-    number: u32,
-    scale: u8,
-) -> i32
-    ensures { PutsDecimal number scale buffer.old into.old key.now result buffer.new into.new }
-{
-    store_grown(
-        put_scalar(buffer, *into, key, b'D', u64::from(number), scale),
-        into,
-    )
-}
-
-/// Puts an entry after what is written, without a value.
-#[unsafe(no_mangle)]
-pub extern "C" fn amqpv_put_void(buffer: &mut [u8], into: &mut Container, key: &[u8]) -> i32
-    ensures { PutsVoid buffer.old into.old key.now result buffer.new into.new }
-{
-    store_grown(put_scalar(buffer, *into, key, b'V', 0, 0), into)
-}
-
-/// Puts an entry after what is written: a long string.
-#[unsafe(no_mangle)]
-pub extern "C" fn amqpv_put_string(
-    buffer: &mut [u8],
-    into: &mut Container,
-    key: &[u8],
-    text: &[u8],
-) -> i32
-    ensures { PutsBytes 83 text.now buffer.old into.old key.now result buffer.new into.new }
-{
-    store_grown(put_bytes(buffer, *into, key, b'S', text), into)
-}
-
 /// Puts an entry after what is written: a long string or a byte array.
 #[unsafe(no_mangle)]
 pub extern "C" fn amqpv_put_bytes(
@@ -468,23 +206,21 @@ pub extern "C" fn amqpv_put_bytes(
     store_grown(put_bytes(buffer, *into, key, tag, bytes), into)
 }
 
-/// Puts an entry after what is written: the encoding at the start of other bytes, read within
-/// limits and copied unchanged. docs/PROMISES.md has what a level of nesting takes of the stack.
+/// Puts an entry after what is written: the encoded value at the start of the input, which is read by the rules of its
+/// flags, and copied unchanged.
 #[unsafe(no_mangle)]
 pub extern "C" fn amqpv_put_value(
     buffer: &mut [u8],
     into: &mut Container,
     key: &[u8],
-    bytes: &[u8],
-    frame: u32,
-    depth: u32,
+    input: &Input<'_>,
 ) -> i32
-    ensures { PutsValue frame depth bytes.now buffer.old into.old key.now result buffer.new into.new }
+    ensures { PutsValue input.now buffer.old into.old key.now result buffer.new into.new }
 {
-    store_grown(
-        put_value(buffer, *into, key, bytes, Limits { frame, depth }),
-        into,
-    )
+    match input.rules() {
+        Some(rules) => store_grown(put_value(buffer, *into, key, input, rules), into),
+        None => Fault::Invalid.code(),
+    }
 }
 
 /// Begins an entry after what is written, whose value is an array or a table: `body` is then
@@ -511,94 +247,16 @@ pub extern "C" fn amqpv_close(buffer: &mut [u8], into: &mut Container, body: &Co
     store_closed(close(buffer, *into, *body), into)
 }
 
-/// Writes the table of these pairs, in their order, without its type tag, to the start of the buffer.
-/// Of the pairs the first that can't be written decides what is returned; if none does, whether the
-/// buffer is large enough.
+/// Writes the JSON text of the value at the start of the input to the start of `buffer`. If the keys of a table don't
+/// ascend, it returns the code of `NoMemory`, since it would have to allocate to sort them. After an error the buffer
+/// may have some of the text.
 ///
-/// `count` becomes how many bytes were written, or which capacity is needed, otherwise 0.
+/// `length` becomes how many bytes were written, or the capacity that is needed, otherwise 0.
 #[unsafe(no_mangle)]
-pub extern "C" fn amqpv_write_table(pairs: &[Pair<'_>], buffer: &mut [u8], count: &mut usize) -> i32
-    ensures { WritesTable pairs.now buffer.old result buffer.new count.new }
+pub extern "C" fn amqpv_write_json(input: &Input<'_>, buffer: &mut [u8], length: &mut usize) -> i32
+    ensures { WritesOrderedJson input.now buffer.old result buffer.new length.new }
 {
-    return_count(write_table(buffer, pairs), count)
-}
-
-/// Returns how large a buffer has to be at least so that an entry can be put after what is written,
-/// by the length of its key, its type tag, and how many bytes its value has after their length.
-///
-/// `count` becomes that capacity, or 0 after an error.
-#[unsafe(no_mangle)]
-pub extern "C" fn amqpv_needed(
-    into: &Container,
-    key_length: usize,
-    tag: u8,
-    content_length: usize,
-    count: &mut usize,
-) -> i32
-    ensures { GivesNeeded into.now key_length tag content_length result count.new }
-{
-    store_needed(into, key_length, tag, content_length, count)
-}
-
-/// Returns the integer of an entry as a signed one, if it fits.
-#[unsafe(no_mangle)]
-pub extern "C" fn amqpv_as_int(entry: &Entry, number: &mut i64) -> i32
-    ensures { GetsInt entry.now number.old result number.new }
-{
-    store(entry.as_int(), number)
-}
-
-/// Returns the integer of an entry as an unsigned one, if it isn't below 0.
-#[unsafe(no_mangle)]
-pub extern "C" fn amqpv_as_uint(entry: &Entry, number: &mut u64) -> i32
-    ensures { GetsUint entry.now number.old result number.new }
-{
-    store(entry.as_uint(), number)
-}
-
-/// Returns the boolean of an entry as 0 or 1.
-#[unsafe(no_mangle)]
-pub extern "C" fn amqpv_as_bool(entry: &Entry, truth: &mut i32) -> i32
-    ensures { GetsBool entry.now truth.old result truth.new }
-{
-    store(entry.as_bool(), truth)
-}
-
-/// Returns the timestamp of an entry.
-#[unsafe(no_mangle)]
-pub extern "C" fn amqpv_as_timestamp(entry: &Entry, seconds: &mut u64) -> i32
-    ensures { GetsTimestamp entry.now seconds.old result seconds.new }
-{
-    store(entry.as_timestamp(), seconds)
-}
-
-/// Returns the decimal of an entry: its number without the point, and how many of its digits are
-/// after the point.
-#[unsafe(no_mangle)]
-pub extern "C" fn amqpv_as_decimal(entry: &Entry, number: &mut u32, scale: &mut u8) -> i32
-    ensures { GetsDecimal entry.now (number.old, scale.old) result (number.new, scale.new) }
-{
-    store_decimal(entry.as_decimal(), number, scale)
-}
-
-/// Writes the JSON text of the value that `bytes` begin with to the start of `buffer`. If the keys of a
-/// table don't ascend, it returns the code of `OutOfMemory`, since it would have to allocate to sort them.
-/// After an error the buffer may have some of the text.
-/// docs/PROMISES.md has what a level of nesting takes of the stack.
-///
-/// `count` becomes how many bytes were written, how many more are needed of the value, or how many
-/// the buffer has to have, otherwise 0.
-#[unsafe(no_mangle)]
-pub extern "C" fn amqpv_write_json(
-    bytes: &[u8],
-    frame: u32,
-    depth: u32,
-    buffer: &mut [u8],
-    count: &mut usize,
-) -> i32
-    ensures { WritesOrderedJson frame depth bytes.now buffer.old result buffer.new count.new }
-{
-    return_count(put_json(bytes, Limits { frame, depth }, buffer), count)
+    return_length(put_json(input, buffer), length)
 }
 
 /// The version of the library: 10000 times its major number, 100 times its minor number, and its

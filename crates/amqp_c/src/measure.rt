@@ -1,54 +1,71 @@
 //! How large a value is.
 
-ghost use Rattle.std.specs.Prelude.{◌≡◌, MatchResult};
-ghost use Rattle.amq_protocol_types.specs.parsing.Untagged.{tagged};
-ghost use Rattle.amqp_c.specs.CallResults.{FaultsWithin};
+ghost use Rattle.std.specs.Prelude.{◌≡◌, None, Some, MatchOption, MatchResult};
+ghost use Rattle.amqp_in_place.specs.declared.problems.Rules.TheVariants.{Reading};
+ghost use Rattle.amqp_in_place.specs.ProblemResults.{FindsValue};
+ghost use Rattle.amqp_c.specs.Inputs.{limits, encoding};
+ghost use Rattle.amqp_c.specs.ReadErrors.{read_error};
 ghost use Rattle.amqp_c.specs.Measures.{same_measure, IsMeasured};
 
-use amq_protocol_types::parsing::Limits;
-use amqp_c_common::Fault;
-use amqp_in_place::{measure_table, measure_value};
-use amqp_value_core::types::AMQPType;
+use crate::Input;
+use crate::problem::ReadError;
+use amqp_in_place::{Measure, Rules, measure_table, measure_value};
 
-/// How large a value is, by its encoding.
+/// The size of a value: `amqpv_size`.
 #[repr(C)]
 #[derive(Clone, Copy)]
-pub struct Measure {
-    /// How many bytes the encoding has, of those that were passed.
-    pub length: usize,
-    /// How many values are written in it, itself and each pair's included.
+pub struct Size {
+    /// The length of the encoding, of the bytes that were passed.
+    pub bytes: usize,
+    /// The number of values: itself and every value inside, duplicate keys included.
     pub values: usize,
-    /// How many levels containers nest, 0 if there is none.
+    /// How deep containers nest: 0 for a scalar.
     pub levels: usize,
 }
 
-impl Measure {
+impl Size {
     /// The measure in C's struct.
-    fn of(measure: amqp_in_place::Measure) -> Measure
+    fn of(measure: Measure) -> Size
         ensures { result ≡ same_measure measure }
     {
-        Measure {
-            length: measure.bytes,
+        Size {
+            bytes: measure.bytes,
             values: measure.values,
             levels: measure.levels,
         }
     }
 }
 
-/// Measures the value at the start, which is read within limits.
-pub fn measured_value(bytes: &[u8], limits: Limits) -> Result<Measure, Fault>
+/// Measures the value, which is read within the limits.
+pub fn measure(input: &Input<'_>) -> Result<Size, ReadError>
     ensures { MatchResult result
-        (IsMeasured limits bytes.now bytes.now)
-        (FaultsWithin limits bytes.now) }
+        (λ size. (read_error Reading input.now ≡ None) × IsMeasured input.now size)
+        (λ error. read_error Reading input.now ≡ Some error) }
 {
-    Ok(Measure::of(measure_value(bytes, limits)?))
+    if let Some(measure) = measured(input) {
+        return Ok(Size::of(measure));
+    }
+    match input.read_error(Rules::Reading) {
+        Some(error) => Err(error),
+        None => unreachable!(),
+    }
 }
 
-/// Measures the table without its type tag at the start, which is read within limits.
-pub fn measured_table(bytes: &[u8], limits: Limits) -> Result<Measure, Fault>
-    ensures { MatchResult result
-        (IsMeasured limits bytes.now (tagged AMQPType.FieldTable bytes.now))
-        (FaultsWithin limits (tagged AMQPType.FieldTable bytes.now)) }
+/// The measure of the value, if it is read.
+fn measured(input: &Input<'_>) -> Option<Measure>
+    ensures { MatchOption result
+        (FindsValue (limits input.now) (encoding input.now) → ⊥)
+        (λ measure. (read_error Reading input.now ≡ None)
+        × IsMeasured input.now (same_measure measure)) }
 {
-    Ok(Measure::of(measure_table(bytes, limits)?))
+    if input.is_untagged() {
+        return match measure_table(input.bytes(), input.limits()) {
+            Ok(measure) => Some(measure),
+            Err(_refused) => None,
+        };
+    }
+    match measure_value(input.bytes(), input.limits()) {
+        Ok(measure) => Some(measure),
+        Err(_refused) => None,
+    }
 }

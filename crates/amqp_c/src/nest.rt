@@ -5,10 +5,9 @@ ghost use Rattle.amqp_value_core.specs.Grammar.{short_field};
 ghost use Rattle.amqp_c.specs.Faults.{RefusesToOpen, RefusesToClose};
 ghost use Rattle.amqp_c.specs.Growth.{IsOpened, IsOpen, IsClosed};
 
+use crate::Fault;
 use crate::buffer::{append, write};
 use crate::container::{Container, is_container_tag};
-use crate::put::length_field;
-use amqp_c_common::Fault;
 
 /// Opens an entry whose value is an array or a table, and returns its body, which is empty.
 #[inline(always)]
@@ -38,10 +37,10 @@ pub fn close(buffer: &mut [u8], into: Container, body: Container) -> Result<Cont
     if !is_open(buffer, into, body) {
         return Err(Fault::Invalid);
     }
-    let Some(length) = length_field(body.written.length) else {
+    let Ok(length) = u32::try_from(body.written.length) else {
         return Err(Fault::TooLarge);
     };
-    write(buffer, body.written.offset - 4, &length);
+    write(buffer, body.written.offset - 4, &length.to_be_bytes());
     let outer = Container { inner: 0, ..into };
     Ok(outer.up_to(body.written.offset + body.written.length))
 }

@@ -7,8 +7,8 @@ ghost use Rattle.amqp_value_core.specs.Texts.{text};
 ghost use Rattle.amqp_c.specs.BuiltEntries.{IsScalarOf, IsScalarOfType, IsScalarTag};
 ghost use Rattle.amqp_c.specs.Faults.{RefusesNumber};
 
+use crate::Fault;
 use crate::entry::has_content;
-use amqp_c_common::Fault;
 use amqp_value_core::types::AMQPType;
 use std::marker::Model;
 
@@ -45,15 +45,6 @@ impl Encoding {
             payload: u64::from_le_bytes(bytes),
             length: payload.len(),
         }
-    }
-
-    /// How many bytes it has.
-    #[inline(always)]
-    pub fn len(&self) -> usize
-        ensures len { result ≡ length self.now }
-        ensures few { result ≤ 9 }
-    {
-        1 + self.length
     }
 
     /// Its type tag, and eight bytes that begin with its payload, with how many that has.

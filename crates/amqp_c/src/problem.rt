@@ -1,64 +1,84 @@
-//! What the rules don't allow in a value.
+//! Why and where reading failed.
 
 ghost use Rattle.std.specs.Prelude.{◌≡◌};
-ghost use Rattle.amqp_c.specs.Problems.{rules_of, kind_number, unknown_tag, numbered};
+ghost use Rattle.amqp_c.specs.ReadErrors.{fault_of, missing_of, unknown_tag, header_lack, error_of};
 
-use amqp_in_place::{ProblemKind, Rules};
+use crate::fault::Fault;
+use amq_protocol_types::parsing::header::Header;
+use amqp_in_place::ProblemKind;
 
-/// Something in a value that isn't allowed.
+/// Where reading failed: `amqpv_problem`.
 #[repr(C)]
 #[derive(Clone, Copy)]
 pub struct Problem {
-    /// How many bytes are before the value with the problem, or before the pair if its key is cut
-    /// or isn't UTF-8.
+    /// The offset of the value, or of the pair if its key is the problem, or of a byte of a JSON text.
     pub offset: usize,
-    /// The number of what is wrong.
-    pub kind: u8,
-    /// The byte that is no type tag, or none that RabbitMQ knows; else 0.
+    /// After `Fault::More`: at least this many more bytes are needed. Otherwise 0.
+    pub missing: usize,
+    /// After `Fault::UnknownTag`: the byte. Otherwise 0.
     pub tag: u8,
 }
 
-impl Problem {
-    /// The problem in C's struct.
-    pub fn of(problem: amqp_in_place::Problem) -> Problem
-        ensures { result ≡ numbered problem }
+/// Why and where reading failed.
+#[derive(Clone, Copy)]
+pub struct ReadError {
+    pub fault: Fault,
+    pub problem: Problem,
+}
+
+impl ReadError {
+    /// What reading reports of the first problem in a value with this header.
+    pub fn of(first: amqp_in_place::Problem, header: Header) -> ReadError
+        ensures { result ≡ error_of first (header_lack header) }
     {
-        Problem {
-            offset: problem.offset,
-            kind: number_of(problem.kind),
-            tag: unknown_tag(problem.kind),
+        ReadError {
+            fault: fault_of(first, header),
+            problem: Problem {
+                offset: first.offset,
+                missing: missing_of(first, header),
+                tag: unknown_tag(first.kind),
+            },
         }
     }
 }
 
-/// The rules that a number denotes.
-pub fn rules_of(number: u32) -> Option<Rules>
-    ensures { result ≡ rules_of number }
+/// Why reading failed. A value that the bytes end before is reported as `More`.
+fn fault_of(first: amqp_in_place::Problem, header: Header) -> Fault
+    ensures { result ≡ fault_of first.offset first.kind (header_lack header) }
 {
-    match number {
-        0 => Some(Rules::Reading),
-        1 => Some(Rules::AnyKeys),
-        2 => Some(Rules::RabbitMq),
-        _ => None,
+    match (first.offset, first.kind) {
+        (0, ProblemKind::Cut) => Fault::More(lack_of(header)),
+        (_, ProblemKind::Cut) => Fault::Cut,
+        (_, ProblemKind::UnknownTag(_)) => Fault::UnknownTag,
+        (_, ProblemKind::NotFinite) => Fault::NotFinite,
+        (_, ProblemKind::KeyCut) => Fault::KeyCut,
+        (_, ProblemKind::KeyNotUtf8) => Fault::KeyNotUtf8,
+        (_, ProblemKind::TooDeep) => Fault::TooDeep,
+        (_, ProblemKind::TooLarge) => Fault::TooLarge,
     }
 }
 
-/// The number that denotes what is wrong.
-fn number_of(kind: ProblemKind) -> u8
-    ensures { result ≡ kind_number kind }
+/// How many more bytes are needed at least, if the bytes end before the value; otherwise 0.
+fn missing_of(first: amqp_in_place::Problem, header: Header) -> usize
+    ensures { result ≡ missing_of first.offset first.kind (header_lack header) }
 {
-    match kind {
-        ProblemKind::UnknownTag(_) => 1,
-        ProblemKind::NotFinite => 2,
-        ProblemKind::Cut => 3,
-        ProblemKind::KeyCut => 4,
-        ProblemKind::TooDeep => 5,
-        ProblemKind::TooLarge => 6,
-        ProblemKind::KeyNotUtf8 => 7,
+    match (first.offset, first.kind) {
+        (0, ProblemKind::Cut) => lack_of(header),
+        _ => 0,
     }
 }
 
-/// The type tag that is unknown, else 0.
+/// How many bytes a header lacks.
+fn lack_of(header: Header) -> usize
+    ensures { result ≡ header_lack header }
+{
+    match header {
+        Header::Lacks(count) => count,
+        _ => 0,
+    }
+}
+
+/// The byte that isn't a type tag, otherwise 0.
 fn unknown_tag(kind: ProblemKind) -> u8
     ensures { result ≡ unknown_tag kind }
 {

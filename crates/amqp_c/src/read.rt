@@ -1,37 +1,73 @@
-//! Reading the value at the start.
+//! Reading the value at the start of an input.
 
-ghost use Rattle.std.specs.Prelude.{MatchResult};
+ghost use Rattle.std.specs.Prelude.{◌≡◌, None, Some, IfOk, MatchResult};
+ghost use Rattle.amqp_value_core.specs.Outcomes.{Outcome};
 ghost use Rattle.amq_protocol_types.specs.parsing.Untagged.{tagged};
-ghost use Rattle.amqp_c.specs.CallResults.{IsValueTaken, IsTableTaken, FaultsWithin};
+ghost use Rattle.amqp_in_place.specs.declared.problems.Rules.TheVariants.{Reading};
+ghost use Rattle.amqp_c.specs.Inputs.{encoding};
+ghost use Rattle.amqp_c.specs.ReadErrors.{read_error};
+ghost use Rattle.amqp_c.specs.CallResults.{HeaderFaults};
+ghost use Rattle.amqp_c.specs.Reads.{IsPrefixedTable, IsEntryOf, IsReadEntry, FailsByGrammar, HasProblemInside};
 
 use crate::entry::{Entry, first};
-use amq_protocol_types::parsing::Limits;
-use amqp_c_common::{Fault, Span};
-use amqp_in_place::{read_in_place, read_table_in_place};
+use crate::problem::ReadError;
+use crate::{Fault, Input, Span};
+use amq_protocol_types::parsing::parse_length_prefixed;
+use amqp_in_place::Rules;
+use amqp_value_core::input::{ParsableInput, SliceInput};
 use amqp_value_core::types::AMQPType;
 
-/// Reads a value within limits, checks all of it, and returns its entry.
-pub fn read(bytes: &[u8], limits: Limits) -> Result<Entry, Fault>
-    ensures { MatchResult result (IsValueTaken limits bytes.now) (FaultsWithin limits bytes.now) }
+/// Reads the value within the limits by the rules, checks all of it, and returns its entry.
+#[inline(always)]
+pub fn read(input: &Input<'_>, rules: Rules) -> Result<Entry, ReadError>
+    ensures error { MatchResult result
+        (λ entry. read_error rules input.now ≡ None)
+        (λ error. read_error rules input.now ≡ Some error) }
+    ensures entry { IfOk result (IsEntryOf input.now) }
+    ensures value { rules ≡ Reading → IfOk result (IsReadEntry input.now) }
+    ensures grammar { rules ≡ Reading → FailsByGrammar input.now }
+    ensures inside { HasProblemInside rules input.now }
 {
-    read_in_place(bytes, limits)?;
-    first(bytes)
+    if let Some(error) = input.read_error(rules) {
+        return Err(error);
+    }
+    match peek(input) {
+        Ok(entry) => Ok(entry),
+        Err(_fault) => unreachable!(),
+    }
 }
 
-/// Reads a table without its type tag within limits, checks all of it, and returns its entry.
-pub fn read_table(bytes: &[u8], limits: Limits) -> Result<Entry, Fault>
+/// The entry of the value, by its type tag and its length only. What is inside a container isn't looked at.
+#[inline(always)]
+pub fn peek(input: &Input<'_>) -> Result<Entry, Fault>
     ensures { MatchResult result
-        (IsTableTaken limits bytes.now)
-        (FaultsWithin limits (tagged AMQPType.FieldTable bytes.now)) }
+        (IsEntryOf input.now)
+        (HeaderFaults (Outcome (encoding input.now))) }
 {
-    let (_, rest) = read_table_in_place(bytes, limits)?;
-    let length = bytes.len() - rest.len();
+    if input.is_untagged() {
+        first_table(input.bytes)
+    } else {
+        first(input.bytes)
+    }
+}
+
+/// The entry of the table without its type tag, by its length only.
+#[inline(always)]
+fn first_table(bytes: &[u8]) -> Result<Entry, Fault>
+    ensures { MatchResult result
+        (IsPrefixedTable bytes.now)
+        (HeaderFaults (Outcome (tagged AMQPType.FieldTable bytes.now))) }
+{
+    let (rest, body) = parse_length_prefixed(SliceInput::new(bytes))?;
     Ok(Entry {
         key: Span::NONE,
-        value: Span { offset: 0, length },
+        value: Span {
+            offset: 0,
+            length: bytes.len() - rest.input_len(),
+        },
         content: Span {
             offset: 4,
-            length: length - 4,
+            length: body.input_len(),
         },
         bits: 0,
         tag: b'F',

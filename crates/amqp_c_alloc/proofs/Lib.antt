@@ -2,4 +2,3 @@ mod CanonicalWritten
 mod JsonWritten
 mod Marked
 mod Reached
-mod TextProblems

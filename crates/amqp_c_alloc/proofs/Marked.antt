@@ -1,5 +1,5 @@
 -- The marks of a block.
-use Rattle.std.proofs.Common.{◌≡◌, ℕ, ◌+◌, ◌-◌, ◌%◌, ◌^◌, ◌≢◌, max, ◌<◌, ◌≤◌, Bool, true, false, cond, List, [], ◌∷◌, map, length, get_or, refl, sym, ap, ap₂, ◌∙◌, subst, arith, inl, inr, w8, Fits}
+use Rattle.std.proofs.Common.{◌≡◌, ℕ, ◌+◌, ◌-◌, ◌%◌, ◌^◌, max, ◌<◌, ◌≤◌, Bool, true, false, cond, List, [], ◌∷◌, map, length, get_or, refl, sym, ap, ap₂, ◌∙◌, subst, arith, inl, inr, w8, Fits}
 use Rattle.std.proofs.lemmas.Bool.{agree_below, agree_below_at, cases_lt}
 use Rattle.std.proofs.lemmas.List.{get_or-map, length-map}
 use Rattle.std.proofs.lemmas.Nat.Bits.{bit_at-zero}
@@ -36,11 +36,6 @@ has_marks t start bits fits is k inside from none =
     let long = length-chunk start 64 t fits in
     let bit = sym (bit_mask_l (map is_mark xs) k) ∙ ap (λ m. bit_at m k) (sym is) ∙ none in
     ap is_mark (sym (get_or-chunk start 64 t k 0 inside)) ∙ sym (get_or-map is_mark xs k 0 false (omega arith)) ∙ unset (get_or (map is_mark xs) k false) bit
-
--- those that are left without one
-pub marks_without : (t : List ℕ) (start bits at bit less next : ℕ) → HasMarksFrom t start bits at → at ≤ next → start + bit < next → ((k : ℕ) → k < 64 → k ≢ bit → bit_at less k ≡ bit_at bits k)
-    → HasMarksFrom t start less next
-marks_without t start bits at bit less next has more past others k inside from none = has k inside (omega arith) (sym (others k inside (omega arith)) ∙ none)
 
 -- what is read up to the first of them, and up to the block's end if none is left
 pub reaches_mark : (most : ℕ) (t : List ℕ) (r : Reading) (start bits bit : ℕ) → Reaches most t r → start ≤ r.at → start + 64 ≤ length t → HasMarksFrom t start bits r.at → bit < 64 → r.at ≤ start + bit

@@ -1,117 +1,127 @@
--- What the calls between encodings and JSON texts return, and leave in the buffer.
-use Rattle.std.specs.Prelude.{ℕ, min, ◌≡◌, ◌<◌, ◌≤◌, ◌⊎◌, ◌↔◌, ℤ, true, false, List, ◌++◌, length, Option, Some, None, is_some, IfSome, Result, Err, IfErr, MatchResult}
-use Rattle.std.specs.Str.{IsUtf8}
+-- The calls between encodings and JSON texts.
+use Rattle.std.specs.Prelude.{ℕ, min, ◌≡◌, ◌<◌, ◌≤◌, ℤ, true, false, List, ◌++◌, length, Option, Some, None, IfSome, Result, Ok, Err, IfErr, MatchResult, ◌⊎◌}
+use Rattle.std.specs.Str.{IsUtf8, IsValidUpTo}
 use Rattle.amqp_value_core.specs.Values.{Tree}
 use Rattle.amqp_value_core.specs.Outcomes.{Outcome, found}
 use Rattle.amqp_value_core.specs.Texts.{text}
-use Rattle.amq_protocol_types.specs.declared.parsing.limits.Limits.{Limits}
-use Rattle.amq_protocol_types.specs.parsing.Limits.{Within}
 use Rattle.amqp_json.specs.declared.error.JsonError.{JsonError}
 use Rattle.amqp_json.specs.declared.error.JsonError.TheVariants as json
-use Rattle.amqp_json.specs.Ascending.{OutOfOrder}
 use Rattle.amqp_json.specs.Conversions.{IsJsonOf}
 use Rattle.amqp_json.specs.Meaning.{most_levels, meant}
 use Rattle.amqp_json.specs.Written.{counted}
-use Rattle.amqp_c_common.specs.declared.fault.Fault.{Fault}
-use Rattle.amqp_c_common.specs.declared.fault.Fault.TheVariants.{OutOfMemory, BufferTooSmall, NotJson, NoEncoding}
-use Rattle.amqp_c_common.specs.ReturnCodes.{return_code_of, count_of}
-use Rattle.amqp_c_common.specs.Reading.{limits, IsReadFault}
-use Rattle.amqp_c_common.specs.Buffers.{IsPutAtStart}
-use Rattle.amqp_c_alloc.specs.Nesting.{nests_within}
-use Rattle.amqp_c_alloc.specs.TextProblems.{numbered_or_old, IsTextProblem}
-use Rattle.amqp_c_alloc.specs.declared.problem.Problem.{Problem}
-use Rattle.amqp_c_alloc.specs.declared.problem.TextProblem.{TextProblem}
-use Rattle.amqp_c_alloc.specs.declared.problem.TextProblemKind.TheVariants as problem
+use Rattle.amqp_c.specs.declared.fault.Fault.{Fault}
+use Rattle.amqp_c.specs.declared.fault.Fault.TheVariants.{TooDeep, NotUtf8, NotJson, NotAValue, NoEncoding, Invalid, NoRoom, NoMemory}
+use Rattle.amqp_c.specs.declared.input.Input.{Input}
+use Rattle.amqp_c.specs.declared.problem.Problem.{Problem}
+use Rattle.amqp_c.specs.Buffers.{IsPutAtStart}
+use Rattle.amqp_c.specs.JsonTexts.{HasUnorderedKeys}
+use Rattle.amqp_c.specs.Inputs.{limits, is_strict, encoding}
+use Rattle.amqp_c.specs.ReturnCodes.{return_code_of, length_of}
+use Rattle.amqp_c.specs.Views.{IsStrictFault}
+use Rattle.amqp_c_alloc.specs.Nesting.{nests_within, IsTooDeepAt}
 
--- ---- from an encoding to the JSON text
+-- ---- from an encoding to JSON text
 
--- the JSON text of the value that is read from s within the limits is put into the buffer
-abbrev pub IsJsonPut : Limits → List ℕ → List ℕ → List ℕ → ℕ → Type 0
-IsJsonPut l s old new n = (t : List ℕ) × (rest : List ℕ) × IsJsonOf l s t rest × IsPutAtStart t old new n
+-- the JSON text of the value that is read is put into the buffer
+abbrev pub IsJsonPut : Input → List ℕ → List ℕ → ℕ → Type 0
+IsJsonPut input old new n = (t : List ℕ) × (rest : List ℕ) × IsJsonOf (limits input) (encoding input) t rest × IsPutAtStart t old new n
 
--- a fault is right, for s and a buffer of that many bytes: the JSON text of the value that is read
--- has more bytes than the buffer, and as many as the fault reports; or what reading results in
-abbrev pub IsJsonFault : Limits → List ℕ → ℕ → Fault → Type 0
-IsJsonFault l s buffer (BufferTooSmall n) = (t : List ℕ) × (rest : List ℕ) × IsJsonOf l s t rest × (n ≡ counted t) × (buffer < n)
-IsJsonFault l s buffer f = IsReadFault l s f
+-- the text has more bytes than the buffer, as many as the fault reports
+abbrev pub LacksRoomFor : List ℕ → ℕ → Fault → Type 0
+LacksRoomFor t buffer f = (f ≡ NoRoom (counted t)) × (buffer < counted t)
 
--- a value is read from s within the limits, and in one of its tables the keys don't ascend
-abbrev pub HasKeysOutOfOrder : Limits → List ℕ → Type 0
-HasKeysOutOfOrder l s = (v : Tree) × (rest : List ℕ) × Within l s (found v rest) × OutOfOrder s rest
+-- a fault is right, for a buffer of that many bytes: the value isn't read; or memory ran out, for a value in which keys
+-- don't ascend; or the text has more bytes, as many as the fault reports
+abbrev pub IsJsonFault : Input → ℕ → Fault → Type 0
+IsJsonFault input buffer f =
+    IsStrictFault input f
+    ⊎ ((f ≡ NoMemory) × HasUnorderedKeys input)
+    ⊎ ((t : List ℕ) × (rest : List ℕ) × IsJsonOf (limits input) (encoding input) t rest × LacksRoomFor t buffer f)
 
--- the JSON text of the value at the start of s is put into the buffer; or the fault is right, and
--- the buffer as it was; memory runs out only if a value is read, and in one of its tables the keys
--- don't ascend
-pub record WritesJson (frame depth : ℕ) (s old : List ℕ) (code : ℤ) (new : List ℕ) (count : ℕ) : Type 0 where
+-- the JSON text of the value is put into the buffer; or the fault is right, and the buffer as it was
+pub record WritesJson (input : Input) (old : List ℕ) (code : ℤ) (new : List ℕ) (n : ℕ) : Type 0 where
   pub done : Result ℕ Fault
   pub returned : code ≡ return_code_of done
-  pub counted : count ≡ count_of done
-  pub written : MatchResult done (IsJsonPut (limits frame depth) s old new) (IsJsonFault (limits frame depth) s (length old))
-  pub memory : done ≡ Err OutOfMemory → HasKeysOutOfOrder (limits frame depth) s
+  pub counted : n ≡ length_of done
+  pub written : MatchResult done (IsJsonPut input old new) (IsJsonFault input (length old))
+  pub flags : is_strict input ≡ false → done ≡ Err Invalid
   pub kept : IfErr done (λ _. new ≡ old)
 
--- ---- from a JSON text to the encoding
+-- ---- from JSON text to the encoding
 
 -- the text is UTF-8, and means the value
 abbrev pub IsTextOf : List ℕ → Tree → Type 0
 IsTextOf t v = IsUtf8 t × (meant t ≡ Some v)
 
--- the text isn't UTF-8, or means no value
-abbrev pub MeansNothing : List ℕ → Type 0
-MeansNothing t = (v : Tree) → IsTextOf t v → ⊥
-
 -- the bytes are read as the value, whatever follows
 abbrev pub IsReadAs : List ℕ → Tree → Type 0
 IsReadAs bytes v = (rest : List ℕ) → Outcome (bytes ++ rest) (found v rest)
 
--- the canonical encoding of the value that the text means is put into the buffer, and is read as
--- that value
+-- the canonical encoding of the value that the text means is put into the buffer, and is read as that value
 abbrev pub IsEncodingPut : List ℕ → List ℕ → List ℕ → ℕ → Type 0
 IsEncodingPut t old new n = (v : Tree) × IsTextOf t v × IsReadAs (text v) v × IsPutAtStart (text v) old new n
 
--- a fault is right, for a text, how deep it may nest and a buffer of that many bytes: the text
--- nests deeper, or means no value; or one whose canonical encoding has more bytes than the buffer, and
--- as many as the fault reports; memory runs out, and an encoding is too large, only if the text is UTF-8
-abbrev pub IsJsonTextFault : ℕ → List ℕ → ℕ → Fault → Type 0
-IsJsonTextFault most t buffer NotJson = (nests_within most t ≡ false) ⊎ MeansNothing t
-IsJsonTextFault most t buffer NoEncoding = IsUtf8 t
-IsJsonTextFault most t buffer (BufferTooSmall n) = (v : Tree) × IsTextOf t v × IsReadAs (text v) v × (n ≡ length (text v)) × (buffer < n)
-IsJsonTextFault most t buffer OutOfMemory = IsUtf8 t
-IsJsonTextFault most t buffer _ = ⊥
+-- the text is UTF-8, nests no deeper than `most`, and means no value
+abbrev pub MeansNothing : ℕ → List ℕ → Type 0
+MeansNothing most t = (nests_within most t ≡ true) × IsUtf8 t × (meant t ≡ None)
 
--- what is reported of a text for which there is no encoding
-abbrev pub text_fault : JsonError → Fault
-text_fault json.OutOfMemory = OutOfMemory
-text_fault json.TooLarge = NoEncoding
-text_fault (json.Syntax at) = NotJson
-text_fault (json.NotAValue at mismatch) = NotJson
+-- what is wrong with a text of which at most `most` arrays and objects may be open at once, by the byte at which it
+-- is. Of several it is the first in this order: it nests deeper, at the bracket that opens one too many; it isn't
+-- UTF-8, from the byte on at which no character begins; it isn't JSON, or is the JSON of no value
+abbrev pub IsTextFault : ℕ → List ℕ → Fault → ℕ → Type 0
+IsTextFault most t TooDeep at = IsTooDeepAt most t at
+IsTextFault most t NotUtf8 at = (nests_within most t ≡ true) × IsValidUpTo t at
+IsTextFault most t NotJson at = MeansNothing most t
+IsTextFault most t NotAValue at = MeansNothing most t
+IsTextFault most t _ at = ⊥
 
--- and what is wrong with it, if it isn't the JSON of a value
-abbrev pub text_problem : JsonError → Option TextProblem
-text_problem (json.Syntax at) = Some (record { offset = at; kind = problem.NotJson })
-text_problem (json.NotAValue at mismatch) = Some (record { offset = at; kind = problem.NoValue })
-text_problem _ = None
+-- why there is no encoding of a text that isn't rejected, for a buffer of that many bytes: the encoding has more,
+-- as many as the fault reports; memory ran out, or an encoding is too large, only if the text is UTF-8
+abbrev pub IsEncodingFault : List ℕ → ℕ → Fault → Type 0
+IsEncodingFault t buffer (NoRoom n) = (v : Tree) × IsTextOf t v × IsReadAs (text v) v × (n ≡ length (text v)) × (buffer < n)
+IsEncodingFault t buffer NoEncoding = IsUtf8 t
+IsEncodingFault t buffer NoMemory = IsUtf8 t
+IsEncodingFault t buffer _ = ⊥
 
--- the canonical encoding of the value that a text means is put into the buffer; or the fault is
--- right, and the buffer as it was; a text that nests too deep is rejected as no JSON
-pub record WritesEncoding (most : ℕ) (t old : List ℕ) (code : ℤ) (new : List ℕ) (count : ℕ) : Type 0 where
+-- the encoding is put, or the text is rejected at a byte, or there is no encoding of it
+abbrev pub IsPutOrRejected : ℕ → List ℕ → List ℕ → List ℕ → Result ℕ Fault → Option ℕ → Type 0
+IsPutOrRejected most t old new (Ok n) None = IsEncodingPut t old new n
+IsPutOrRejected most t old new (Err f) (Some at) = IsTextFault most t f at
+IsPutOrRejected most t old new (Err f) None = IsEncodingFault t (length old) f
+IsPutOrRejected most t old new _ _ = ⊥
+
+-- what is stored: the byte at which a text is rejected, otherwise what was there
+abbrev pub offset_or_old : Problem → Option ℕ → Problem
+offset_or_old old (Some at) = record { offset = at; missing = 0; tag = 0 }
+offset_or_old old None = old
+
+-- the encoding of the value that a text means is put into the buffer, or the fault is right, and the buffer as it
+-- was. A text that nests too deep is always rejected as that
+pub record PutsOrRejects (most : ℕ) (t old : List ℕ) (was : Problem) (code : ℤ) (new : List ℕ) (n : ℕ) (problem : Problem) : Type 0 where
   pub done : Result ℕ Fault
+  pub offset : Option ℕ
   pub returned : code ≡ return_code_of done
-  pub counted : count ≡ count_of done
-  pub written : MatchResult done (IsEncodingPut t old new) (IsJsonTextFault most t (length old))
-  pub deep : nests_within most t ≡ false → done ≡ Err NotJson
+  pub counted : n ≡ length_of done
+  pub stored : problem ≡ offset_or_old was offset
+  pub written : IsPutOrRejected most t old new done offset
+  pub deep : nests_within most t ≡ false → done ≡ Err TooDeep
+  pub inside : IfSome offset (λ at. at ≤ length t)
   pub kept : IfErr done (λ _. new ≡ old)
 
--- what amqpv_from_json writes for a text that may nest so deep; and what is wrong with the text, exactly
--- if it is rejected as no JSON of a value, at one of its bytes or its end; else what was there stays
-pub record WritesOrFinds (most : ℕ) (t old : List ℕ) (was : Problem) (code : ℤ) (new : List ℕ) (count : ℕ) (stored : Problem) : Type 0 where
-  pub encoding : WritesEncoding most t old code new count
-  pub found : Option TextProblem
-  pub problem : stored ≡ numbered_or_old was found
-  pub told : (is_some found ≡ true) ↔ (encoding.done ≡ Err NotJson)
-  pub right : IfSome found (IsTextProblem most t)
-  pub inside : IfSome found (λ p. p.offset ≤ length t)
+-- so many brackets may be open as `nesting` says, and at most as many as in any text
+abbrev pub WritesEncoding : ℕ → List ℕ → List ℕ → Problem → ℤ → List ℕ → ℕ → Problem → Type 0
+WritesEncoding nesting = PutsOrRejects (min nesting most_levels)
 
--- the same, with a `nesting` of at most the levels that any text may have
-abbrev pub WritesEncodingOrProblem : ℕ → List ℕ → List ℕ → Problem → ℤ → List ℕ → ℕ → Problem → Type 0
-WritesEncodingOrProblem nesting = WritesOrFinds (min nesting most_levels)
+-- ---- on the way
+
+-- the fault of a text of which there is no encoding, and the byte
+abbrev pub json_fault : JsonError → Fault
+json_fault (json.Syntax at) = NotJson
+json_fault (json.NotAValue at mismatch) = NotAValue
+json_fault json.OutOfMemory = NoMemory
+json_fault json.TooLarge = NoEncoding
+
+abbrev pub json_offset : JsonError → Option ℕ
+json_offset (json.Syntax at) = Some at
+json_offset (json.NotAValue at mismatch) = Some at
+json_offset _ = None

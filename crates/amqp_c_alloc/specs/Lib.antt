@@ -1,5 +1,4 @@
 pub mod CanonicalCalls
 pub mod Nesting
-pub mod TextProblems
 pub mod JsonCalls
 pub mod WarningCalls

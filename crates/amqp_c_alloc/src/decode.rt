@@ -1,58 +1,35 @@
-//! From an encoding to the JSON text.
+//! From an encoding to JSON text.
 
-// The tactic at the function names the lemmas that its clauses are proved by.
+ghost use Rattle.std.specs.Prelude.{◌≡◌, false, length, Err, OnErr, MatchResult};
+ghost use Rattle.amqp_c.specs.declared.fault.Fault.TheVariants.{Invalid};
+ghost use Rattle.amqp_c.specs.Inputs.{is_strict};
+ghost use Rattle.amqp_c_alloc.specs.JsonCalls.{IsJsonPut, IsJsonFault};
 
-ghost use Rattle.std.specs.Prelude.{◌≡◌, ◌≤◌, List, ℕ, length, Err, OnErr, MatchResult};
-ghost use Rattle.amqp_json.specs.Conversions.{IsOrderedJsonOf};
-ghost use Rattle.amqp_json.specs.Written.{counted};
-ghost use Rattle.amqp_c_common.specs.declared.fault.Fault.TheVariants.{OutOfMemory};
-ghost use Rattle.amqp_c_alloc.specs.JsonCalls.{IsJsonPut, IsJsonFault, HasKeysOutOfOrder};
-
-use amq_protocol_types::parsing::Limits;
-use amqp_c_common::{Fault, put};
-use amqp_json::{DecodeError, WriteError, json_of_encoding, write_json};
+use amqp_c::{Fault, Input, put_at_start};
+use amqp_json::{json_of_view, write_json_of_view};
 use std::alloc::Global;
 
-/// Puts the JSON text of the value that `bytes` begin with to the start of `buffer`, and returns how
-/// many bytes it has. Nothing is allocated unless the keys of a table don't ascend.
-#[tactic(auto, using(crate::proofs::JsonWritten::needs_none, crate::proofs::JsonWritten::text_put))]
-pub fn put_json(
-    alloc: Global,
-    bytes: &[u8],
-    limits: Limits,
-    buffer: &mut [u8],
-) -> Result<usize, Fault>
+/// Puts the JSON text of the value at the start of the input at the start of `buffer`, and returns how many bytes
+/// it has. Nothing is allocated unless the keys of a table don't ascend.
+pub fn put_json(alloc: Global, input: &Input<'_>, buffer: &mut [u8]) -> Result<usize, Fault>
     ensures written { MatchResult result
-        (IsJsonPut limits bytes.now buffer.old buffer.new)
-        (IsJsonFault limits bytes.now (length buffer.old)) }
-    ensures memory { result ≡ Err OutOfMemory → HasKeysOutOfOrder limits bytes.now }
+        (IsJsonPut input.now buffer.old buffer.new)
+        (IsJsonFault input.now (length buffer.old)) }
+    ensures flags { is_strict input.now ≡ false → result ≡ Err Invalid }
     ensures kept { OnErr result (buffer.new ≡ buffer.old) }
 {
-    match write_json(bytes, limits, &mut []) {
-        Ok((count, _)) => Ok(count),
-        Err(WriteError::Refused(refusal)) => Err(Fault::from(refusal)),
-        Err(WriteError::BufferTooSmall(len)) => {
-            if len > buffer.len() {
-                return Err(Fault::BufferTooSmall(len));
-            }
-            Ok(write_measured(bytes, limits, buffer))
-        }
-        Err(WriteError::KeysOutOfOrder) => match json_of_encoding(alloc, bytes, limits) {
-            Ok((text, _)) => put(text.as_bytes(), buffer),
-            Err(DecodeError::Refused(refusal)) => Err(Fault::from(refusal)),
-            Err(DecodeError::OutOfMemory) => Err(Fault::OutOfMemory),
-        },
+    let value = input.view()?;
+    let Some(count) = write_json_of_view(value, &mut []) else {
+        let Ok(text) = json_of_view(alloc, value) else {
+            return Err(Fault::NoMemory);
+        };
+        return put_at_start(text.as_bytes(), buffer);
+    };
+    if count > buffer.len() {
+        return Err(Fault::NoRoom(count));
     }
-}
-
-// Puts a text that fits the buffer.
-fn write_measured(bytes: &[u8], limits: Limits, buffer: &mut [u8]) -> usize
-    requires fits { (t : List ℕ) × (rest : List ℕ) × IsOrderedJsonOf limits bytes.now t rest
-        × (counted t ≤ length buffer.now) }
-    ensures written { IsJsonPut limits bytes.now buffer.old buffer.new result }
-{
-    match write_json(bytes, limits, buffer) {
-        Ok((count, _)) => count,
-        Err(_error) => unreachable!(),
+    match write_json_of_view(value, buffer) {
+        Some(written) => Ok(written),
+        None => unreachable!(),
     }
 }

@@ -1,38 +1,47 @@
-//! What RabbitMQ takes in a value, and others may not.
+//! What RabbitMQ accepts in a value, and a client or a stream queue may not.
 
-ghost use Rattle.std.specs.Prelude.{◌≡◌};
-ghost use Rattle.amqp_c_alloc.specs.WarningCalls.{offset_of, numbered, has_any, warnings_code, numbered_or_old, IsAllOfValue, IsAllOfTable};
+ghost use Rattle.std.specs.Prelude.{◌≡◌, MatchResult};
+ghost use Rattle.amqp_c_alloc.specs.WarningCalls.{offset_of, numbered, has_any, warnings_code, numbered_or_old, IsFoundBy, AreFirst, CanRunOut};
 
-use amq_protocol_types::parsing::Limits;
-use amqp_c_common::Fault;
+use amqp_c::{Fault, Input};
 use amqp_in_place::rabbitmq::{Warned, warnings, warnings_in_table};
 use std::alloc::{AllocError, Global};
 
-/// There is something doubtful.
+/// There are warnings.
 const OK: i32 = 0;
 
-/// There is nothing doubtful.
+/// There are none.
 const NONE: i32 = 1;
 
-/// What is doubtful in a value that RabbitMQ takes: how many bytes are before the first of each, or
-/// the greatest number if there is none.
+/// No offset.
+const NOWHERE: usize = usize::MAX;
+
+/// The offset of the first of each construct: `amqpv_warnings`.
 #[repr(C)]
 #[derive(Clone, Copy)]
 pub struct Warnings {
-    /// Before the first pair whose key an earlier pair of the same table has.
+    /// A pair whose key an earlier pair of the same table has.
     pub repeated_key: usize,
-    /// Before the first pair whose key isn't UTF-8.
+    /// A pair whose key isn't UTF-8.
     pub key_not_utf8: usize,
-    /// Before the first pair whose key is empty.
+    /// A pair whose key is empty.
     pub empty_key: usize,
-    /// Before the first container that nests too deep.
+    /// A container that nests too deep.
     pub too_deep: usize,
-    /// 1 if the value's frame is more than the frame-max, else 0.
+    /// A decimal.
+    pub decimal: usize,
+    /// A container inside the outermost one.
+    pub nested_header: usize,
+    /// `usize::MAX`, until a later version has a meaning for it.
+    pub reserved: [usize; 4],
+    /// 1 if the value doesn't fit a frame, otherwise 0.
     pub exceeds_frame: u8,
+    /// 0, until a later version has a meaning for it.
+    pub reserved_flags: [u8; 7],
 }
 
 impl Warnings {
-    /// What is doubtful in C's struct.
+    /// The warnings in C's struct.
     fn of(warned: Warned) -> Warnings
         ensures { result ≡ numbered warned }
     {
@@ -41,46 +50,50 @@ impl Warnings {
             key_not_utf8: offset_of(warned.key_not_utf8),
             empty_key: offset_of(warned.empty_key),
             too_deep: offset_of(warned.too_deep),
+            decimal: offset_of(warned.decimal),
+            nested_header: offset_of(warned.nested_header),
+            reserved: [NOWHERE, NOWHERE, NOWHERE, NOWHERE],
             exceeds_frame: u8::from(warned.exceeds_frame),
+            reserved_flags: [0, 0, 0, 0, 0, 0, 0],
         }
     }
 }
 
-/// What is doubtful in the value at the start.
-pub fn warnings_of_value(
+/// Looks for such constructs.
+pub fn find_warnings(
     alloc: Global,
-    bytes: &[u8],
-    depth: u32,
+    input: &Input<'_>,
     frame_max: u32,
     levels: u32,
 ) -> Result<Warned, Fault>
-    ensures { IsAllOfValue depth frame_max levels bytes.now result }
+    ensures { IsFoundBy frame_max levels input.now result }
 {
-    let limits = Limits { frame: 0, depth };
-    match warnings(alloc, bytes, limits, frame_max, levels) {
+    if input.has_unknown_flag() {
+        return Err(Fault::Invalid);
+    }
+    match warnings_of(alloc, input, frame_max, levels) {
         Ok(warned) => Ok(warned),
-        Err(AllocError) => Err(Fault::OutOfMemory),
+        Err(AllocError) => Err(Fault::NoMemory),
     }
 }
 
-/// What is doubtful in the table without its type tag at the start.
-pub fn warnings_of_table(
+/// The same, whatever flags are set.
+fn warnings_of(
     alloc: Global,
-    bytes: &[u8],
-    depth: u32,
+    input: &Input<'_>,
     frame_max: u32,
     levels: u32,
-) -> Result<Warned, Fault>
-    ensures { IsAllOfTable depth frame_max levels bytes.now result }
+) -> Result<Warned, AllocError>
+    ensures { MatchResult result (AreFirst frame_max levels input.now) (λ _. CanRunOut input.now) }
 {
-    let limits = Limits { frame: 0, depth };
-    match warnings_in_table(alloc, bytes, limits, frame_max, levels) {
-        Ok(warned) => Ok(warned),
-        Err(AllocError) => Err(Fault::OutOfMemory),
+    if input.is_untagged() {
+        warnings_in_table(alloc, input.bytes, input.limits(), frame_max, levels)
+    } else {
+        warnings(alloc, input.bytes, input.limits(), frame_max, levels)
     }
 }
 
-/// Leaves what is doubtful, if anything is, and returns whether anything is.
+/// Leaves the warnings, if there are any, and returns whether there are any.
 pub fn store_warnings(found: Result<Warned, Fault>, warnings: &mut Warnings) -> i32
     ensures returned { result ≡ warnings_code found }
     ensures warnings { warnings.new ≡ numbered_or_old warnings.old found }
@@ -103,11 +116,11 @@ fn offset_of(offset: Option<usize>) -> usize
 {
     match offset {
         Some(bytes) => bytes,
-        None => usize::MAX,
+        None => NOWHERE,
     }
 }
 
-/// Whether anything is doubtful.
+/// Whether there are warnings.
 fn has_any(warned: Warned) -> bool
     ensures { result ≡ has_any warned }
 {
@@ -115,5 +128,7 @@ fn has_any(warned: Warned) -> bool
         || warned.key_not_utf8.is_some()
         || warned.empty_key.is_some()
         || warned.too_deep.is_some()
+        || warned.decimal.is_some()
+        || warned.nested_header.is_some()
         || warned.exceeds_frame
 }

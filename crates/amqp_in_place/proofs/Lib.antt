@@ -13,7 +13,7 @@ mod RepeatedKeys
 mod Keys
 mod Paths
 mod FirstProblems
-mod ProblemReadings
+pub mod ProblemReadings
 pub mod AnyKeys
 mod KeyFaults
 mod Untagged

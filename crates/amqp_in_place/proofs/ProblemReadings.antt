@@ -438,9 +438,19 @@ none_if_read l s bytes value = by (problem_of ByReading l s) ((reads_if_none ByR
     by None none = refl
     by (Some p) none = absurd cc
 
+none_by_rules : (rules : Rules) (l : Limits) (s : List ℕ) → IsBytes s → (rules ≡ ByReading) ⊎ (rules ≡ ByAnyKeys) → FindsValue l s → problem_of rules l s ≡ None
+none_by_rules rules l s bytes is value =
+    let none = none_if_read l s bytes value in
+    elim is [ inl same ↦ rw same none | inr same ↦ rw same (none_of_any_keys l s none) ]
+
 pub none_if_ok : {A E : Type 0} (P : E → Type 0) (rest : A → List ℕ) (value : A → Tree → Type 0) (rules : Rules) (l : Limits) (s : List ℕ) → IsBytes s → (rules ≡ ByReading) ⊎ (rules ≡ ByAnyKeys) → (r : Result A E)
     → MatchResult r (λ x. (v : Tree) × value x v × Within l s (found v (rest x))) P → is_ok r ≡ true → problem_of rules l s ≡ None
 none_if_ok P rest value rules l s bytes is (Err e) right ok = absurd cc
-none_if_ok P rest value rules l s bytes is (Ok x) right ok =
-    let none = none_if_read l s bytes (right.0, rest x, right.2) in
-    elim is [ inl same ↦ rw same none | inr same ↦ rw same (none_of_any_keys l s none) ]
+none_if_ok P rest value rules l s bytes is (Ok x) right ok = none_by_rules rules l s bytes is (right.0, rest x, right.2)
+
+-- nor has a table that is read without its type tag
+pub table_none_if_ok : {A E : Type 0} (P : E → Type 0) (rest : A → List ℕ) (pairs : A → Entries → Type 0) (rules : Rules) (l : Limits) (t : List ℕ) → IsBytes t → (rules ≡ ByReading) ⊎ (rules ≡ ByAnyKeys) → (r : Result A E)
+    → MatchResult r (λ x. (es : Entries) × pairs x es × Within l (tagged amqp.FieldTable t) (found (table es) (rest x))) P → is_ok r ≡ true → problem_in_table_of rules l t ≡ None
+table_none_if_ok P rest pairs rules l t bytes is (Err e) right ok = absurd cc
+table_none_if_ok P rest pairs rules l t bytes is (Ok x) right ok =
+    ap (option_map without_tag) (none_by_rules rules l (tagged amqp.FieldTable t) (omega arith, bytes) is (table right.0, rest x, right.2))

@@ -9,7 +9,7 @@ ghost use Rattle.amq_protocol_types.specs.parsing.Untagged.{tagged};
 ghost use Rattle.amqp_in_place.specs.Problems.{known, allow_key, want_finite, are_ones, here, further, without_tag, in_payload, value_problem, values_problem, pair_problem, pairs_problem, pair_len, inside, problem_of, problem_in_table_of};
 ghost use Rattle.amqp_in_place.specs.ProblemResults.{GoesOver, FindsValue, FailsAt};
 
-use crate::read::{check_utf8, read_in_place};
+use crate::read::{check_utf8, read_in_place, read_table_in_place};
 use amq_protocol_types::parsing::Limits;
 use amq_protocol_types::parsing::header::value_len;
 use amqp_value_core::input::{SliceInput, SplitInput};
@@ -105,6 +105,15 @@ pub fn first_problem(bytes: &[u8], rules: Rules, limits: Limits) -> Option<Probl
     if is_read(bytes, rules, limits) {
         return None;
     }
+    search(bytes, rules, limits)
+}
+
+// The first problem, which is looked for.
+#[inline(never)]
+fn search(bytes: &[u8], rules: Rules, limits: Limits) -> Option<Problem>
+    ensures first { result ≡ problem_of rules limits bytes.now }
+    ensures inside { IfSome result (λ p. p.offset ≤ length bytes.now) }
+{
     if value_len(SliceInput::new(bytes)) > limits.frame as usize {
         return Some(Problem::here(ProblemKind::TooLarge));
     }
@@ -122,18 +131,42 @@ fn is_read(bytes: &[u8], rules: Rules, limits: Limits) -> bool
     }
 }
 
+// Whether the table without its type tag is read.
+#[inline(always)]
+fn is_table_read(table: &[u8], rules: Rules, limits: Limits) -> bool
+    ensures { result ≡ true → problem_in_table_of rules limits table.now ≡ None }
+{
+    match rules {
+        Rules::Reading | Rules::AnyKeys => read_table_in_place(table, limits).is_ok(),
+        Rules::RabbitMq => false,
+    }
+}
+
 /// The first problem in a table without its type tag, which begins with its length, as in methods
 /// and content headers. It doesn't allocate.
 ///
 /// It is what `first_problem` returns for the table with its type tag, but for the offset, which
 /// counts from the length on, and is 0 for the table itself. The limit `frame` counts the type tag
 /// too.
+#[inline(always)]
 pub fn first_problem_in_table(table: &[u8], rules: Rules, limits: Limits) -> Option<Problem>
     ensures first { result ≡ problem_in_table_of rules limits table.now }
     ensures read { rules ≡ Rules.Reading
         → (IsNone result ↔ FindsValue limits (tagged AMQPType.FieldTable table.now)) }
     ensures fails { rules ≡ Rules.Reading → IfSome result (λ p.
         FailsAt limits (tagged AMQPType.FieldTable table.now) p.offset p.kind) }
+    ensures inside { IfSome result (λ p. p.offset ≤ length table.now) }
+{
+    if is_table_read(table, rules, limits) {
+        return None;
+    }
+    search_table(table, rules, limits)
+}
+
+// The first problem in a table without its type tag, which is looked for.
+#[inline(never)]
+fn search_table(table: &[u8], rules: Rules, limits: Limits) -> Option<Problem>
+    ensures first { result ≡ problem_in_table_of rules limits table.now }
     ensures inside { IfSome result (λ p. p.offset ≤ length table.now) }
 {
     let len = value_len(SplitInput::new(b"F", table));

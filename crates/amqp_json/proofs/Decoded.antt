@@ -9,11 +9,11 @@ use Rattle.amqp_value_core.proofs.Bytes.{bytes_before}
 use Rattle.amqp_value_core.proofs.GrammarLaws.{prefix_within, wire_of}
 use Rattle.amq_protocol_types.specs.declared.parsing.limits.Limits.{Limits}
 use Rattle.amq_protocol_types.specs.parsing.Limits.{Within}
-use Rattle.amqp_json.specs.Conversions.{IsJsonOf, IsOrderedJsonOf, IsJsonWritten, IsNotWritten}
+use Rattle.amqp_json.specs.Conversions.{IsJsonOf, IsOrderedJsonOf}
+use Rattle.amqp_json.specs.Views.{WritesText}
 use Rattle.amqp_json.specs.Meaning.{meant}
 use Rattle.amqp_json.specs.Printing.{Begins}
 use Rattle.amqp_json.specs.Written.{HasJson, json_text}
-use Rattle.amqp_json.specs.declared.error.WriteError.TheVariants as write
 use Rattle.amqp_json.proofs.Encoded.{has_json}
 use Rattle.amqp_json.proofs.ReadBack.{text_is_read}
 
@@ -26,15 +26,16 @@ pub decoded : (l : Limits) (s rest t : List ℕ) (v : Tree) → IsBytes s → Wi
 decoded l s rest t v bytes x is =
     (v, x, is, λ shallow. ap meant is ∙ text_is_read v (within_has_json l s rest v bytes x) shallow)
 
--- a text that fits a buffer is at its start
-pub fits : (l : Limits) (s t rest old new : List ℕ) (count : ℕ) → IsOrderedJsonOf l s t rest → Begins old new count t → count ≤ length new → 1 + length old < 2 ^ 64 → IsJsonWritten l s old new count rest
-fits l s t rest old new count is put less few =
-    let size : count ≡ length t = omega (arith, put.count, put.same, less, few) in
-    (t, is, size, omega (arith, put.same, less), put.text (omega (arith, size, put.same, less)) ∙ ap (λ k. t ++ drop k old) (sym size))
-
--- one that doesn't
-pub too_long : (l : Limits) (s t rest old new : List ℕ) (count : ℕ) → IsOrderedJsonOf l s t rest → Begins old new count t → length new < count → IsNotWritten l s (length old) (write.BufferTooSmall count)
-too_long l s t rest old new count is put more = (t, rest, is, put.count, omega (arith, put.same, more))
+-- a text is counted, and if it fits the buffer, it is at its start
+pub text_written : (l : Limits) (s t rest old new : List ℕ) (count : ℕ) → IsOrderedJsonOf l s t rest → Begins old new count t → 1 + length old < 2 ^ 64 → WritesText l s rest old new count
+text_written l s t rest old new count is put few = (
+  t,
+  is,
+  put.count,
+  λ fits.
+      let size : count ≡ length t = omega (arith, put.count, fits, few) in
+      (size, put.text (omega (arith, size, fits)) ∙ ap (λ k. t ++ drop k old) (sym size)),
+)
 
 -- a text that fits a buffer is its first bytes
 pub at_start : (t old new : List ℕ) (count : ℕ) → Begins old new count t → count ≤ length new → length new < 2 ^ 63 → take count new ≡ t

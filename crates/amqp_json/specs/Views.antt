@@ -1,5 +1,5 @@
--- For private clauses: values that were read in place.
-use Rattle.std.specs.Prelude.{ℕ, List, ◌++◌, length, Result, MatchResult}
+-- Values that were read in place.
+use Rattle.std.specs.Prelude.{ℕ, ◌≡◌, ◌≤◌, List, ◌++◌, length, drop}
 use Rattle.amqp_in_place.specs.declared.refs.ValueRef.{ValueRef}
 use Rattle.amqp_in_place.specs.declared.refs.ValueRef.TheVariants as at
 use Rattle.amqp_in_place.specs.Places.{IsViewIn}
@@ -11,9 +11,8 @@ use Rattle.amqp_value_core.specs.Outcomes.{Outcome, found}
 use Rattle.amqp_value_core.specs.Readings.{read_back}
 use Rattle.amqp_value_core.specs.Texts.{text}
 use Rattle.amqp_value_core.specs.Values.{Tree}
-use Rattle.amqp_json.specs.Conversions.{IsJsonWritten, IsNotWritten}
-use Rattle.amqp_json.specs.Written.{HasJson}
-use Rattle.amqp_json.specs.declared.error.WriteError.{WriteError}
+use Rattle.amqp_json.specs.Conversions.{IsOrderedJsonOf}
+use Rattle.amqp_json.specs.Written.{HasJson, counted}
 
 -- how many bytes are in a container
 abbrev pub body_len : ValueRef → ℕ
@@ -33,7 +32,6 @@ IsReadBack v = (rest : List ℕ) → Outcome (text v ++ rest) (read_back v rest)
 abbrev pub IsViewOfRead : Limits → List ℕ → ValueRef → List ℕ → Type 0
 IsViewOfRead l s view rest = IsBytes s × IsViewIn s view rest × ((v : Tree) × Denotes view v × Within l s (found v rest))
 
--- of whatever bytes the view is, the text of the value is written, or the error is right
-abbrev pub WritesView : ValueRef → List ℕ → List ℕ → Result ℕ WriteError → Type 0
-WritesView view old new r =
-    (l : Limits) (s rest : List ℕ) → IsViewOfRead l s view rest → MatchResult r (λ n. IsJsonWritten l s old new n rest) (IsNotWritten l s (length old))
+-- the text of the value has n bytes, and if these fit the buffer, it is at their start
+abbrev pub WritesText : Limits → List ℕ → List ℕ → List ℕ → List ℕ → ℕ → Type 0
+WritesText l s rest old new n = (t : List ℕ) × IsOrderedJsonOf l s t rest × (n ≡ counted t) × (n ≤ length old → (n ≡ length t) × (new ≡ t ++ drop n old))

@@ -2,16 +2,16 @@
 
 // The tactics at the functions name the lemmas that clauses are proved by.
 
-ghost use Rattle.std.specs.Prelude.{◌≡◌, ◌≤◌, List, ℕ, length, IfOk, IfErr, IfSome, MatchResult, string_bytes};
+ghost use Rattle.std.specs.Prelude.{◌≡◌, ◌≤◌, List, ℕ, length, IfOk, IfErr, IfSome, MatchOption, MatchResult, string_bytes};
 ghost use Rattle.amq_protocol_types.specs.declared.parsing.limits.Limits.{Limits};
 ghost use Rattle.amqp_in_place.specs.Places.{IsViewIn};
 ghost use Rattle.amqp_in_place.specs.Refs.{Denotes};
 ghost use Rattle.amqp_value_core.specs.Values.{Tree};
 ghost use Rattle.amqp_value_core.specs.Texts.{text};
 ghost use Rattle.amqp_value_core.specs.View.{view};
-ghost use Rattle.amqp_json.specs.Ascending.{IfInOrder};
+ghost use Rattle.amqp_json.specs.Ascending.{IfInOrder, OutOfOrder};
 ghost use Rattle.amqp_json.specs.Conversions.{IsJsonOf, IsNotRead, IsJsonWritten, IsNotWritten, HasNoText};
-ghost use Rattle.amqp_json.specs.Views.{HasText, IsReadBack, WritesView};
+ghost use Rattle.amqp_json.specs.Views.{HasText, IsReadBack, IsViewOfRead, WritesText};
 ghost use Rattle.amqp_json.specs.Written.{json_text, MeansIfShallow};
 
 use crate::error::{DecodeError, EncodeError, WriteError};
@@ -50,11 +50,23 @@ pub fn json_of_encoding<'a>(
     ensures refused { IfErr result (IsNotRead limits bytes.entry.now) }
 {
     match read_in_place(bytes, limits) {
-        Ok((value, rest)) => match text_of(alloc, value) {
+        Ok((value, rest)) => match json_of_view(alloc, value) {
             Ok(text) => Ok((text, rest)),
             Err(_) => Err(DecodeError::OutOfMemory),
         },
         Err(refusal) => Err(DecodeError::Refused(refusal)),
+    }
+}
+
+/// Converts a value that was read in place to JSON text, as `json_of_encoding` does.
+pub fn json_of_view(alloc: Global, value: ValueRef<'_>) -> Result<String, AllocError>
+    requires read { (l : Limits) × (s : List ℕ) × (rest : List ℕ) × IsViewOfRead l s value rest }
+    ensures json { IfOk result (λ text. (l : Limits) (s rest : List ℕ) → IsViewOfRead l s value.entry rest
+        → IsJsonOf l s (string_bytes text) rest) }
+{
+    match text_of(alloc, value) {
+        Ok(text) => Ok(text),
+        Err(_) => Err(AllocError),
     }
 }
 
@@ -73,23 +85,31 @@ pub fn write_json<'a>(
         (λ x. IsJsonWritten limits bytes.entry.now buffer.old buffer.new x.0 x.1.now)
         (IsNotWritten limits bytes.entry.now (length buffer.old)) }
 {
-    match read_in_place(bytes, limits) {
-        Ok((value, rest)) => Ok((write_value(buffer, value)?, rest)),
-        Err(refusal) => Err(WriteError::Refused(refusal)),
+    let (value, rest) = match read_in_place(bytes, limits) {
+        Ok(read) => read,
+        Err(refusal) => return Err(WriteError::Refused(refusal)),
+    };
+    let capacity = buffer.len();
+    let Some(count) = write_json_of_view(value, buffer) else {
+        return Err(WriteError::KeysOutOfOrder);
+    };
+    if count > capacity {
+        return Err(WriteError::BufferTooSmall(count));
     }
+    Ok((count, rest))
 }
 
-fn write_value(buffer: &mut [u8], value: ValueRef<'_>) -> Result<usize, WriteError>
-    ensures written { WritesView value.entry buffer.old buffer.new result }
+/// Writes the JSON text of a value that was read in place to the start of the buffer, and returns how many bytes
+/// the text has, which may be more than the buffer has. `None` if the keys of a table don't ascend.
+///
+/// Nothing is allocated. If the text doesn't fit, the buffer may hold some of it.
+pub fn write_json_of_view(value: ValueRef<'_>, buffer: &mut [u8]) -> Option<usize>
+    ensures written { (l : Limits) (s rest : List ℕ) → IsViewOfRead l s value.entry rest
+        → MatchOption result (OutOfOrder s rest) (WritesText l s rest buffer.old buffer.new) }
 {
     match put_value(buffer, Place::START, value) {
-        Some(end) => {
-            if end.count > buffer.len() {
-                return Err(WriteError::BufferTooSmall(end.count));
-            }
-            Ok(end.count)
-        }
-        None => Err(WriteError::KeysOutOfOrder),
+        Some(end) => Some(end.count),
+        None => None,
     }
 }
 

@@ -14,6 +14,6 @@ mod printing;
 mod put;
 mod walk;
 
-pub use decode::{json_of_encoding, to_json, write_json};
+pub use decode::{json_of_encoding, json_of_view, to_json, write_json, write_json_of_view};
 pub use encode::{encoding_of_json, from_json};
 pub use error::{DecodeError, EncodeError, JsonError, Mismatch, WriteError};

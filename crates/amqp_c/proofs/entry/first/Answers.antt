@@ -4,7 +4,7 @@ use Rattle.amqp_value_core.specs.Inputs.{slice_bytes}
 use Rattle.amq_protocol_types.specs.parsing.PayloadResults.{IsType, IsNoType}
 use Rattle.amq_protocol_types.specs.parsing.ParseResults.{IsRefusal}
 use Rattle.amqp_value_core.specs.Grammar.{long_field}
-use Rattle.amqp_c_common.specs.ReturnCodes.{fault_of}
+use Rattle.amqp_c.specs.ReturnCodes.{header_fault}
 use Rattle.amqp_c.specs.declared.entry.Entry.{Entry}
 use Rattle.amqp_c.specs.Heads.{has_content}
 use Rattle.amqp_c.proofs.Prefixes.{is_tagged, never_faulty, no_type_fault, cut_fault, scalar_fault, frame_extent, frame_length, found_extent, content_entry, scalar_entry, found_shorter}
@@ -23,7 +23,7 @@ returns-in_err-rest-clause-faithful c = λ v rest x.
     let s = c.args.bytes.now in
     let mid = slice_bytes c.in_ok-payload.payload in
     let p = subst (λ (t : List ℕ). IsType t c.in_ok-payload.amqp_type mid) c.new.ensures c.in_ok-payload.ensures.id in
-    absurd (never_faulty s rest v (fault_of c.in_err-rest.field-0.0) x (cut_fault s mid c.in_ok-payload.amqp_type p (sym c.has_content.ensures ∙ c.if-has_content.true) c.in_err-rest.field-0.0 c.in_err-rest.ensures))
+    absurd (never_faulty s rest v (header_fault c.in_err-rest.field-0.0) x (cut_fault s mid c.in_ok-payload.amqp_type p (sym c.has_content.ensures ∙ c.if-has_content.true) c.in_err-rest.field-0.0 c.in_err-rest.ensures))
 
 pub returns-then-has_content-clause-faithful : goal.returns-then-has_content-clause-faithful
 returns-then-has_content-clause-faithful c = λ v left x.
@@ -65,7 +65,7 @@ returns-in_err-fixed-clause-faithful c = λ v rest x.
     let mid = slice_bytes c.in_ok-payload.payload in
     let p = subst (λ (t : List ℕ). IsType t c.in_ok-payload.amqp_type mid) c.new.ensures c.in_ok-payload.ensures.id in
     let e = c.in_err-fixed.ensures in
-    absurd (never_faulty s rest v (fault_of e.0) x (scalar_fault s mid c.in_ok-payload.amqp_type p (sym c.has_content.ensures ∙ c.if-has_content.false) c.in_ok-payload.ensures.read_back e.0 e.2))
+    absurd (never_faulty s rest v (header_fault e.0) x (scalar_fault s mid c.in_ok-payload.amqp_type p (sym c.has_content.ensures ∙ c.if-has_content.false) c.in_ok-payload.ensures.read_back e.0 e.2))
 
 pub returns-in_err-fixed-clause-refused : goal.returns-in_err-fixed-clause-refused
 returns-in_err-fixed-clause-refused c =
@@ -120,4 +120,4 @@ pub returns-in_err-payload-clause-faithful : goal.returns-in_err-payload-clause-
 returns-in_err-payload-clause-faithful c = λ v rest x.
     let s = c.args.bytes.now in
     let e = c.in_err-payload.field-0.0 in
-    absurd (never_faulty s rest v (fault_of e) x (no_type_fault s e (subst (λ (t : List ℕ). IsRefusal (IsNoType t) ⊥ e) c.new.ensures c.in_err-payload.ensures.id)))
+    absurd (never_faulty s rest v (header_fault e) x (no_type_fault s e (subst (λ (t : List ℕ). IsRefusal (IsNoType t) ⊥ e) c.new.ensures c.in_err-payload.ensures.id)))

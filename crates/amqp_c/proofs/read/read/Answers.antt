@@ -1,14 +1,24 @@
-use Rattle.std.proofs.Common.{List, ℕ, sym, subst}
-use Rattle.amqp_value_core.specs.Outcomes.{Outcome, found}
-use Rattle.amqp_value_core.proofs.GrammarLaws.{prefix_within, wire_found, wire_of}
-use Rattle.amqp_c.proofs.Prefixes.{value_taken}
+use Rattle.std.proofs.Common.{refl, sym, ◌∙◌, subst}
+use Rattle.std.specs.Option.{IfSome}
+use Rattle.amqp_in_place.specs.declared.problems.Rules.{Rules}
+use Rattle.amqp_in_place.specs.ProblemResults.{FailsAt}
+use Rattle.amqp_c.specs.Inputs.{limits, encoding}
+use Rattle.amqp_c.specs.ReadErrors.{first_problem}
+use Rattle.amqp_c.proofs.Reading.{has_entry, value_read}
 use Rattle.amqp_c.proofs.read.read.Goals as goal
 
-pub returns : goal.returns
-returns c =
-    let x = c.in_ok-read_in_place.ensures.within in
-    let s = c.args.bytes.now in
-    let rest = c.in_ok-read_in_place.field-0.1.now in
-    let f = prefix_within c.args.limits.depth s rest x.0 x.2.1 in
-    value_taken c.args.limits s rest x.0 c.first.result x.2
-    (c.first.ensures.faithful x.0 rest (subst (λ (t : List ℕ). Outcome t (found x.0 rest)) (sym f.2) (wire_found f.0 rest x.0 (wire_of c.args.limits.depth f.0 x.0 f.1)))) c.first.ensures.at_start c.first.ensures.inside
+pub unreachable-requires : goal.unreachable-requires
+unreachable-requires c = has_entry c.args.rules c.args.input.now c.in-Err._fault (sym c.read_error.ensures.first ∙ c.in_default.is) c.in-Err.ensures
+
+pub returns-clause-value : goal.returns-clause-value
+returns-clause-value c = λ is. value_read c.args.input.now c.in-Ok.entry c.in-Ok.ensures ((c.in_default.ensures.read is).0 refl)
+
+pub returns-in-Some-clause-grammar : goal.returns-in-Some-clause-grammar
+returns-in-Some-clause-grammar c = λ is.
+    let input = c.args.input.now in
+    subst (λ (r : Rules). IfSome (first_problem r input) (λ p. FailsAt (limits input) (encoding input) p.offset p.kind)) is (c.read_error.ensures.fails is)
+
+pub returns-clause-grammar : goal.returns-clause-grammar
+returns-clause-grammar c = λ is.
+    let input = c.args.input.now in
+    subst (λ (r : Rules). IfSome (first_problem r input) (λ p. FailsAt (limits input) (encoding input) p.offset p.kind)) is (c.read_error.ensures.fails is)

@@ -1,7 +1,7 @@
 use Rattle.std.proofs.Common.{◌≡◌, ◌-◌, ◌<◌, ◌≤◌, ℕ, Bool, cond, List, [], length, drop, Some, sym, ap, ◌∙◌, subst, arith}
 use Rattle.std.proofs.lemmas.Grind.{common_steps}
-use Rattle.amqp_c_common.specs.declared.span.Span.{Span}
-use Rattle.amqp_c_common.specs.Spans.{part, SpanIsIn}
+use Rattle.amqp_c.specs.declared.span.Span.{Span}
+use Rattle.amqp_c.specs.Spans.{part, SpanIsIn}
 use Rattle.amqp_c.specs.Steps.{ArePairEncodings, StandsKeyed, EndsIn}
 use Rattle.amqp_c.proofs.Parts.{part_length, part_last}
 use Rattle.amqp_c.proofs.Stepping.{one_key}

@@ -1,6 +1,6 @@
 use Rattle.std.proofs.Common.{◌≡◌, ◌-◌, ◌≤◌, ℕ, List, length, drop}
 use Rattle.std.specs.Option.{IfSome}
-use Rattle.amqp_c_common.specs.Spans.{part}
+use Rattle.amqp_c.specs.Spans.{part}
 use Rattle.amqp_c.specs.Steps.{ArePairEncodings}
 use Rattle.amqp_c.proofs.Finding.{IsFoundSoFar}
 use Rattle.amqp_c.proofs.cursor.Cursor.find.Given as goal

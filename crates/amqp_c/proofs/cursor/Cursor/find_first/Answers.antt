@@ -1,8 +1,8 @@
 use Rattle.std.proofs.Common.{◌≡◌, ◌<◌, ◌≤◌, ℕ, List, length, take, Option, Some, None, Ok, sym, ap, ◌∙◌, subst, arith}
 use Rattle.std.proofs.lemmas.Grind.{common_steps}
 use Rattle.amq_protocol_types.specs.parsing.Headers.{extent}
-use Rattle.amqp_c_common.specs.declared.span.Span.{Span}
-use Rattle.amqp_c_common.specs.Spans.{part, SpanIsIn}
+use Rattle.amqp_c.specs.declared.span.Span.{Span}
+use Rattle.amqp_c.specs.Spans.{part, SpanIsIn}
 use Rattle.amqp_c.specs.Steps.{StandsKeyed, EndsIn, GivesLast}
 use Rattle.amqp_c.specs.FirstPairs.{HasFirst}
 use Rattle.amqp_c.proofs.Parts.{part_length, part_last}

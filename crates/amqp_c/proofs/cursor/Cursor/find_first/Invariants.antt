@@ -1,5 +1,5 @@
 use Rattle.std.proofs.Common.{◌≡◌, ◌-◌, ◌≤◌, ℕ, List, Option, length, drop}
-use Rattle.amqp_c_common.specs.Spans.{part}
+use Rattle.amqp_c.specs.Spans.{part}
 use Rattle.amqp_c.specs.FirstPairs.{HasFirst}
 use Rattle.amqp_c.proofs.cursor.Cursor.find_first.Given as goal
 

@@ -1,0 +1,146 @@
+-- What is read if there is no problem.
+use Rattle.std.proofs.Common.{◌≡◌, ◌<◌, ◌≤◌, ◌+◌, ℕ, suc, Bool, true, false, if◌then◌else◌, Option, Some, None, option_map, List, [], ◌∷◌, length, Result, Ok, Err, IfOk, IfErr, MatchResult, refl, sym, ap, ◌∙◌, subst, inl, inr, arith}
+use Rattle.std.proofs.lemmas.Bool.{cases_lt, lt-ltb, le-ltb}
+use Rattle.amqp_value_core.specs.declared.types.amqp_type.AMQPType.{AMQPType}
+use Rattle.amqp_value_core.specs.declared.types.amqp_type.AMQPType.TheVariants as amqp
+use Rattle.amqp_value_core.specs.Ids.{kind}
+use Rattle.amqp_value_core.specs.Values.{Tree, scalar, short, long, octets, array, table, type_of}
+use Rattle.amqp_value_core.specs.Outcomes.{found, Outcome}
+use Rattle.amqp_value_core.proofs.GrammarLaws.{prefix_within, wire_found, wire_of}
+use Rattle.amq_protocol_types.specs.declared.parsing.limits.Limits.{Limits}
+use Rattle.amq_protocol_types.specs.parsing.Bodies.{IsLengthPrefixed}
+use Rattle.amq_protocol_types.specs.parsing.Headers.{extent, extent_at, raw_extent, wanted}
+use Rattle.amq_protocol_types.specs.parsing.Limits.{Within}
+use Rattle.amq_protocol_types.specs.parsing.Untagged.{tagged}
+use Rattle.amqp_in_place.specs.declared.problems.Problem as in_place
+use Rattle.amqp_in_place.specs.declared.problems.Rules.{Rules}
+use Rattle.amqp_in_place.specs.Bodies.{HasEntries}
+use Rattle.amqp_in_place.specs.Problems.{Search, known, without_tag, in_payload, in_value, inside, problem_of, problem_in_table_of}
+use Rattle.amqp_in_place.specs.ProblemResults.{FindsValue}
+use Rattle.amqp_c.specs.declared.entry.Entry.{Entry}
+use Rattle.amqp_c.specs.declared.fault.Fault.{Fault}
+use Rattle.amqp_c.specs.declared.input.Input.{Input}
+use Rattle.amqp_c.specs.Inputs.{limits, is_untagged, encoding}
+use Rattle.amqp_c.specs.ReadErrors.{error_of, first_problem, read_error}
+use Rattle.amqp_c.specs.Spans.{part}
+use Rattle.amqp_c.specs.CallResults.{IsTableTaken, HeaderFaults, GivesFirst, untagged_table}
+use Rattle.amqp_c.specs.Entries.{IsEntryAtStart, EntryIsIn}
+use Rattle.amqp_c.specs.Reads.{IsFirstTable, GivesTable, IsPrefixedTable, IsEntryBy, IsEntryOf, IsReadBy, IsReadEntry}
+use Rattle.amqp_c.specs.Steps.{IsHeaded}
+use Rattle.amqp_c.proofs.ByRules.{known_kind, tag_problem}
+use Rattle.amqp_c.proofs.Parts.{part_content}
+use Rattle.amqp_c.proofs.Prefixes.{ContentIs, content_at_start, payload_at_start, cut_header, frame_extent, frame_length}
+
+-- ---- no problem
+
+-- a value in which there is no problem is all there, by its header
+payload_headed : (within : AMQPType → Search) (c : ℕ) (b : List ℕ) (type : AMQPType) → kind c ≡ Some type → in_payload within type b ≡ None → IsHeaded (c ∷ b)
+payload_headed within c b type is = elim (cases_lt (length b) (raw_extent type b)) [
+  | inl cut ↦ rw (lt-ltb (length b) (raw_extent type b) cut) (λ none. absurd cc)
+  | inr there ↦ λ none. subst (λ (o : Option AMQPType). (0 < extent_at o b) × (extent_at o b ≤ suc (length b))) (sym is) (omega arith, omega (arith, there))
+]
+
+value_headed : (rules : Rules) (within : AMQPType → Search) (s : List ℕ) → in_value rules within s ≡ None → IsHeaded s
+value_headed rules within [] none = absurd cc
+value_headed rules within (c ∷ b) none = by (known rules c) refl none
+  where
+    by : (o : Option AMQPType) → known rules c ≡ o → tag_problem within c b o ≡ None → IsHeaded (c ∷ b)
+    by None is none = absurd cc
+    by (Some type) is none = payload_headed within c b type (known_kind rules c type is) none
+
+headed : (rules : Rules) (l : Limits) (s : List ℕ) → problem_of rules l s ≡ None → IsHeaded s
+headed rules l s = elim (cases_lt l.frame (extent s)) [
+  | inl exceeds ↦ rw (lt-ltb l.frame (extent s) exceeds) (λ none. absurd cc)
+  | inr fits ↦ rw (le-ltb l.frame (extent s) fits) (value_headed rules (inside rules l.depth) s)
+]
+
+-- without its type tag too
+no_untagged : (x : Option in_place.Problem) → option_map without_tag x ≡ None → x ≡ None
+no_untagged None is = refl
+no_untagged (Some p) is = absurd cc
+
+table_headed : (rules : Rules) (l : Limits) (s : List ℕ) → problem_in_table_of rules l s ≡ None → IsHeaded (tagged amqp.FieldTable s)
+table_headed rules l s none = headed rules l (tagged amqp.FieldTable s) (no_untagged (problem_of rules l (tagged amqp.FieldTable s)) none)
+
+-- so a value that isn't refused has an entry
+no_error : (rules : Rules) (input : Input) (x : Option in_place.Problem) → option_map (λ p. error_of p (wanted (encoding input))) x ≡ None → x ≡ None
+no_error rules input None is = refl
+no_error rules input (Some p) is = absurd cc
+
+pub has_entry : (rules : Rules) (input : Input) (f : Fault) → read_error rules input ≡ None → HeaderFaults (Outcome (encoding input)) f → ⊥
+has_entry rules input f none = by (is_untagged input) (no_error rules input (first_problem rules input) none)
+  where
+    by : (b : Bool) → (if b then problem_in_table_of rules (limits input) input.bytes.now else problem_of rules (limits input) input.bytes.now) ≡ None
+        → HeaderFaults (Outcome (if b then tagged amqp.FieldTable input.bytes.now else input.bytes.now)) f → ⊥
+    by true is refused = cut_header (tagged amqp.FieldTable input.bytes.now) f refused (table_headed rules (limits input) input.bytes.now is)
+    by false is refused = cut_header input.bytes.now f refused (headed rules (limits input) input.bytes.now is)
+
+-- ---- the entry of a table without its type tag
+
+-- no byte is left out of what its length counts
+module _ (s body rest : List ℕ) (e : Entry) (f : IsLengthPrefixed s body rest) (is : e ≡ untagged_table (length body)) where
+  sizes : (length (tagged amqp.FieldTable s) ≡ 5 + length body + length rest) × (e.value.length ≡ 4 + length body) × (e.content.length ≡ length body)
+  sizes = (frame_length (tagged amqp.FieldTable s) s body rest amqp.FieldTable (70, refl, refl) f, ap (λ (x : Entry). x.value.length) is, ap (λ (x : Entry). x.content.length) is)
+
+  content_is : part s e.content ≡ body
+  content_is =
+      ap (λ (x : Entry). part s x.content) is ∙ part_content (tagged amqp.FieldTable s) s body rest 70 (record { offset = 5; length = length body }) refl f.framed refl refl
+
+  table_given : (v : Tree) (left : List ℕ) → ContentIs body v → type_of v ≡ amqp.FieldTable → left ≡ rest → GivesTable s v left e
+  table_given (table es) left all type same =
+      (subst (λ (u : List ℕ). HasEntries u es) (sym content_is) all, omega (arith, sizes.0, sizes.1, ap length same))
+  table_given (scalar y) left all type same = absurd all
+  table_given (short b) left all type same = absurd all
+  table_given (long b) left all type same = absurd cc
+  table_given (octets b) left all type same = absurd cc
+  table_given (array vs) left all type same = absurd cc
+
+  first_table_is : IsFirstTable s e
+  first_table_is =
+      let whole = frame_extent (tagged amqp.FieldTable s) s body rest amqp.FieldTable (70, refl, refl) f refl in record {
+        entry = is ∙ ap untagged_table (sym sizes.2);
+        size = omega (arith, sizes.0, sizes.1, whole);
+        inside = omega (arith, sizes.0, sizes.1);
+        faithful = λ v left x.
+            let c = content_at_start amqp.FieldTable s body rest f refl v left (payload_at_start (tagged amqp.FieldTable s) s amqp.FieldTable (70, refl, refl) v left x) in
+            table_given v left c.0 c.1 c.2;
+      }
+
+-- the entry is given, of a table and of a value
+pub table_peeked : (input : Input) (done : Result Entry Fault) → is_untagged input ≡ true
+    → MatchResult done (IsPrefixedTable input.bytes.now) (HeaderFaults (Outcome (tagged amqp.FieldTable input.bytes.now))) → MatchResult done (IsEntryOf input) (HeaderFaults (Outcome (encoding input)))
+table_peeked input (Ok e) is (body, rest, f, same) = rw is (first_table_is input.bytes.now body rest e f same)
+table_peeked input (Err f) is x = rw is x
+
+pub value_peeked : (input : Input) (done : Result Entry Fault) → is_untagged input ≡ false → ((v : Tree) (rest : List ℕ) → Outcome input.bytes.now (found v rest) → GivesFirst input.bytes.now v rest done)
+    → IfOk done (EntryIsIn (length input.bytes.now)) → IfOk done (IsEntryAtStart input.bytes.now) → IfErr done (HeaderFaults (Outcome input.bytes.now))
+    → MatchResult done (IsEntryOf input) (HeaderFaults (Outcome (encoding input)))
+value_peeked input (Ok e) is faithful inside at_start refused = rw is (record { at_start = at_start; inside = inside; faithful = faithful })
+value_peeked input (Err f) is faithful inside at_start refused = rw is refused
+
+-- ---- the value that is read
+
+-- what is found within limits is found
+found_there : (l : Limits) (s rest : List ℕ) (v : Tree) → Within l s (found v rest) → Outcome s (found v rest)
+found_there l s rest v x =
+    let f = prefix_within l.depth s rest v x.1 in
+    subst (λ (t : List ℕ). Outcome t (found v rest)) (sym f.2) (wire_found f.0 rest v (wire_of l.depth f.0 v f.1))
+
+table_taken : (l : Limits) (s rest : List ℕ) (e : Entry) (v : Tree) → IsFirstTable s e → Within l (tagged amqp.FieldTable s) (found v rest) → GivesTable s v rest e → IsTableTaken l s e
+table_taken l s rest e (table es) is x g = record { entries = es; rest = rest; read = x; taken = g.1; pairs = g.0; entry = is.entry }
+table_taken l s rest e (scalar y) is x g = absurd g
+table_taken l s rest e (short b) is x g = absurd g
+table_taken l s rest e (long b) is x g = absurd g
+table_taken l s rest e (octets b) is x g = absurd g
+table_taken l s rest e (array vs) is x g = absurd g
+
+pub value_read : (input : Input) (e : Entry) → IsEntryOf input e → FindsValue (limits input) (encoding input) → IsReadEntry input e
+value_read input e = by (is_untagged input)
+  where
+    by : (b : Bool) → IsEntryBy b input.bytes.now e → FindsValue (limits input) (if b then tagged amqp.FieldTable input.bytes.now else input.bytes.now) → IsReadBy b (limits input) input.bytes.now e
+    by true is (v, rest, x) =
+        let s = input.bytes.now in
+        table_taken (limits input) s rest e v is x (is.faithful v rest (found_there (limits input) (tagged amqp.FieldTable s) rest v x))
+    by false is (v, rest, x) =
+        let g = is.faithful v rest (found_there (limits input) input.bytes.now rest v x) in
+        record { meaning = v; rest = rest; read = x; taken = g.2; entry = g.0; at_start = is.at_start; inside = is.inside }

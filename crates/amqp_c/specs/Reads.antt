@@ -1,0 +1,78 @@
+-- Reading the value at the start of an input.
+use Rattle.std.specs.Prelude.{ℕ, ◌≡◌, ◌+◌, ◌≤◌, ℤ, pos, Bool, true, false, List, length, Option, IfSome, MatchOption, Ok}
+use Rattle.amqp_value_core.specs.declared.types.amqp_type.AMQPType.TheVariants.{FieldTable}
+use Rattle.amqp_value_core.specs.Values.{Tree, table}
+use Rattle.amqp_value_core.specs.Outcomes.{Outcome, found}
+use Rattle.amq_protocol_types.specs.declared.parsing.limits.Limits.{Limits}
+use Rattle.amq_protocol_types.specs.parsing.Bodies.{IsLengthPrefixed}
+use Rattle.amq_protocol_types.specs.parsing.Headers.{extent}
+use Rattle.amq_protocol_types.specs.parsing.Untagged.{tagged}
+use Rattle.amqp_in_place.specs.declared.problems.Rules.{Rules}
+use Rattle.amqp_in_place.specs.declared.problems.Rules.TheVariants.{Reading}
+use Rattle.amqp_in_place.specs.Bodies.{HasEntries}
+use Rattle.amqp_in_place.specs.ProblemResults.{FailsAt}
+use Rattle.amqp_c.specs.declared.entry.Entry.{Entry}
+use Rattle.amqp_c.specs.declared.input.Input.{Input}
+use Rattle.amqp_c.specs.declared.problem.Problem.{Problem}
+use Rattle.amqp_c.specs.declared.problem.ReadError.{ReadError}
+use Rattle.amqp_c.specs.Inputs.{limits, is_untagged, encoding}
+use Rattle.amqp_c.specs.ReadErrors.{first_problem}
+use Rattle.amqp_c.specs.ReturnCodes.{code_of}
+use Rattle.amqp_c.specs.Spans.{part}
+use Rattle.amqp_c.specs.CallResults.{IsValueTaken, IsTableTaken, GivesFirst, untagged_table}
+use Rattle.amqp_c.specs.Entries.{IsEntryAtStart, EntryIsIn}
+
+-- e is the entry of the value at the start of s, by its type tag and its length
+pub record IsFirstEntry (s : List ℕ) (e : Entry) : Type 0 where
+  pub at_start : IsEntryAtStart s e
+  pub inside : EntryIsIn (length s) e
+  pub faithful : (v : Tree) (rest : List ℕ) → Outcome s (found v rest) → GivesFirst s v rest (Ok e)
+
+-- the content of e is the pairs of the table, and its value all but the rest of s
+abbrev pub GivesTable : List ℕ → Tree → List ℕ → Entry → Type 0
+GivesTable s (table es) rest e = HasEntries (part s e.content) es × (e.value.length + length rest ≡ length s)
+GivesTable s _ rest e = ⊥
+
+-- e is the entry of a table without its type tag, which has all the bytes that its length counts
+pub record IsFirstTable (s : List ℕ) (e : Entry) : Type 0 where
+  pub entry : e ≡ untagged_table e.content.length
+  pub size : 1 + e.value.length ≡ extent (tagged FieldTable s)
+  pub inside : e.value.length ≤ length s
+  pub faithful : (v : Tree) (rest : List ℕ) → Outcome (tagged FieldTable s) (found v rest) → GivesTable s v rest e
+
+-- e is the entry of the value at the start of the input, by its type tag and its length
+abbrev pub IsEntryBy : Bool → List ℕ → Entry → Type 0
+IsEntryBy true = IsFirstTable
+IsEntryBy false = IsFirstEntry
+
+abbrev pub IsEntryOf : Input → Entry → Type 0
+IsEntryOf input = IsEntryBy (is_untagged input) input.bytes.now
+
+-- and of the value that the grammar has there, which is read within the limits
+abbrev pub IsReadBy : Bool → Limits → List ℕ → Entry → Type 0
+IsReadBy true = IsTableTaken
+IsReadBy false = IsValueTaken
+
+abbrev pub IsReadEntry : Input → Entry → Type 0
+IsReadEntry input = IsReadBy (is_untagged input) (limits input) input.bytes.now
+
+-- the first problem by the rules of reading says how reading by the grammar fails
+abbrev pub FailsByGrammar : Input → Type 0
+FailsByGrammar input = IfSome (first_problem Reading input) (λ p. FailsAt (limits input) (encoding input) p.offset p.kind)
+
+-- a problem is inside the bytes
+abbrev pub HasProblemInside : Rules → Input → Type 0
+HasProblemInside rules input = IfSome (first_problem rules input) (λ p. p.offset ≤ length input.bytes.now)
+
+-- what reading returns. Without an error it is 0, and what `Is` states is given; otherwise it is the code of the
+-- error, whose place is given. What isn't given is unchanged
+pub record ReadsAs {T : Type 0} (Is : T → Type 0) (error : Option ReadError) (old : T) (was : Problem) (code : ℤ) (new : T) (stored : Problem) : Type 0 where
+  pub returned : MatchOption error (code ≡ pos 0) (λ e. code ≡ code_of e.fault)
+  pub given : MatchOption error (Is new) (λ e. new ≡ old)
+  pub problem : MatchOption error (stored ≡ was) (λ e. stored ≡ e.problem)
+
+-- ---- on the way
+
+-- e is the entry of a table without its type tag, whose body is after its length
+abbrev pub IsPrefixedTable : List ℕ → Entry → Type 0
+IsPrefixedTable s e = (body : List ℕ) × (rest : List ℕ) × IsLengthPrefixed s body rest × (e ≡ untagged_table (length body))

@@ -1,0 +1,156 @@
+//! Bytes to read, and how.
+
+ghost use Rattle.std.specs.Prelude.{◌≡◌, ◌≤◌, ◌↔◌, IsNone, IfSome, length};
+ghost use Rattle.amqp_value_core.specs.Inputs.{IsBytes};
+ghost use Rattle.amq_protocol_types.specs.parsing.Limits.{IsHeader};
+ghost use Rattle.amqp_in_place.specs.declared.problems.Rules.TheVariants.{Reading};
+ghost use Rattle.amqp_in_place.specs.ProblemResults.{FindsValue, FailsAt};
+ghost use Rattle.amqp_c.specs.Inputs.{limits, is_untagged, is_first_key, has_unknown_flag, rules, is_strict, encoding};
+ghost use Rattle.amqp_c.specs.ReadErrors.{first_problem, read_error};
+
+use crate::problem::ReadError;
+use amq_protocol_types::parsing::Limits;
+use amq_protocol_types::parsing::header::{Header, header_of};
+use amqp_in_place::{Problem, Rules, first_problem, first_problem_in_table};
+use amqp_value_core::input::{SliceInput, SplitInput};
+
+/// Bytes to read, and how: `amqpv_input`.
+#[repr(C)]
+#[derive(Clone, Copy)]
+pub struct Input<'a> {
+    /// They begin with an encoded value.
+    pub bytes: &'a [u8],
+    /// The most bytes that the value may have, its type tag included.
+    pub max_bytes: u32,
+    /// How deep containers may nest.
+    pub max_depth: u32,
+    /// The sum of `AMQPV_UNTAGGED` (1), `AMQPV_ANY_KEYS` (2), `AMQPV_RABBITMQ` (4) and `AMQPV_FIRST_KEY` (8).
+    pub flags: u32,
+}
+
+impl<'a> Input<'a> {
+    /// The bytes.
+    #[inline(always)]
+    pub(crate) fn bytes(&self) -> &'a [u8]
+        ensures same { result.now ≡ self.now.bytes.now }
+        ensures bytes { IsBytes self.now.bytes.now }
+    {
+        as_bytes(self.bytes)
+    }
+
+    /// The limits.
+    #[inline(always)]
+    pub fn limits(&self) -> Limits
+        ensures { result ≡ limits self.now }
+    {
+        Limits {
+            frame: self.max_bytes,
+            depth: self.max_depth,
+        }
+    }
+
+    /// Whether the bytes begin with a table without its type tag.
+    #[inline(always)]
+    pub fn is_untagged(&self) -> bool
+        ensures { result ≡ is_untagged self.now }
+    {
+        self.flags & 1 == 1
+    }
+
+    /// Whether the first of equal keys counts, rather than the last.
+    #[inline(always)]
+    pub(crate) fn is_first_key(&self) -> bool
+        ensures { result ≡ is_first_key self.now }
+    {
+        self.flags >> 3 & 1 == 1
+    }
+
+    /// Whether a flag is unknown.
+    #[inline(always)]
+    pub fn has_unknown_flag(&self) -> bool
+        ensures { result ≡ has_unknown_flag self.now }
+    {
+        self.flags > 15
+    }
+
+    /// The rules that the value has to keep, or `None` if a flag is unknown.
+    #[inline(always)]
+    pub(crate) fn rules(&self) -> Option<Rules>
+        ensures { result ≡ rules self.now }
+    {
+        if self.has_unknown_flag() {
+            return None;
+        }
+        if self.flags >> 2 & 1 == 1 {
+            return Some(Rules::RabbitMq);
+        }
+        if self.flags >> 1 & 1 == 1 {
+            return Some(Rules::AnyKeys);
+        }
+        Some(Rules::Reading)
+    }
+
+    /// Whether the flags are those of a call that reads by `Rules::Reading` only: none is unknown, and neither
+    /// `AMQPV_ANY_KEYS` nor `AMQPV_RABBITMQ` is set.
+    #[inline(always)]
+    pub fn is_strict(&self) -> bool
+        ensures { result ≡ is_strict self.now }
+    {
+        matches!(self.rules(), Some(Rules::Reading))
+    }
+
+    /// Why the value at the start isn't read by the rules, or `None` if it is.
+    #[inline(always)]
+    #[tactic(auto, using(crate::proofs::ReadErrors::reported))]
+    pub(crate) fn read_error(&self, rules: Rules) -> Option<ReadError>
+        ensures first { result ≡ read_error rules self.now }
+        ensures read { rules ≡ Reading
+            → (IsNone result ↔ FindsValue (limits self.now) (encoding self.now)) }
+        ensures fails { rules ≡ Reading → IfSome (first_problem rules self.now)
+            (λ p. FailsAt (limits self.now) (encoding self.now) p.offset p.kind) }
+        ensures inside { IfSome (first_problem rules self.now)
+            (λ p. p.offset ≤ length self.now.bytes.now) }
+    {
+        let problem = self.first_problem(rules)?;
+        Some(ReadError::of(problem, self.header()))
+    }
+
+    /// What the type tag and the length determine.
+    #[cold]
+    #[inline(never)]
+    fn header(self) -> Header
+        ensures { IsHeader (limits self.entry).frame (encoding self.entry) result }
+    {
+        if self.is_untagged() {
+            header_of(SplitInput::new(b"F", self.bytes), self.max_bytes)
+        } else {
+            header_of(SliceInput::new(self.bytes), self.max_bytes)
+        }
+    }
+
+    /// The first problem of the value, by its offset in the bytes.
+    #[inline(always)]
+    fn first_problem(&self, rules: Rules) -> Option<Problem>
+        ensures first { result ≡ first_problem rules self.now }
+        ensures read { rules ≡ Reading
+            → (IsNone result ↔ FindsValue (limits self.now) (encoding self.now)) }
+        ensures fails { rules ≡ Reading → IfSome result
+            (λ p. FailsAt (limits self.now) (encoding self.now) p.offset p.kind) }
+        ensures inside { IfSome result (λ problem. problem.offset ≤ length self.now.bytes.now) }
+    {
+        if self.is_untagged() {
+            first_problem_in_table(self.bytes, rules, self.limits())
+        } else {
+            first_problem(self.bytes, rules, self.limits())
+        }
+    }
+}
+
+/// The same bytes.
+#[inline(always)]
+fn as_bytes(bytes: &[u8]) -> &[u8]
+    ensures same { result.now ≡ bytes.now }
+    ensures bytes { IsBytes bytes.now }
+{
+    bytes
+}

@@ -1,0 +1,178 @@
+/*
+ * Calls the inline functions of amqp_values.h as the lines of standard input say, and prints what they return; the model is in
+ * test_inline.py. Keys and bytes are hexadecimal digits after a `.`, and a key that is NULL is `-`. All that is passed is in
+ * blocks of its size, so that sanitizers see each access outside.
+ */
+#include "amqp_values.h"
+
+#include <inttypes.h>
+#include <stdio.h>
+#include <stdlib.h>
+
+/* The next word of the line, and as a number. */
+static char *word(void) {
+    char *found = strtok(NULL, " \n");
+    return found != NULL ? found : (char *)"-";
+}
+
+static uint64_t number(void) {
+    return strtoull(word(), NULL, 0);
+}
+
+/* The bytes of the next word, with a NUL after them if they are a key; NULL for `-`. */
+static uint8_t *bytes(size_t *length, size_t after) {
+    const char *digits = word();
+    *length = strlen(digits) / 2;
+    if (digits[0] == '-') {
+        return NULL;
+    }
+    uint8_t *found = (uint8_t *)calloc(*length + after, 1);
+    for (size_t i = 0; i < *length; i++) {
+        unsigned byte = 0;
+        sscanf(digits + 1 + 2 * i, "%2x", &byte);
+        found[i] = (uint8_t)byte;
+    }
+    return found;
+}
+
+static void add(amqpv_writer *w, const char *what) {
+    size_t length;
+    char *key = (char *)bytes(&length, 1);
+    if (strcmp(what, "int") == 0 || strcmp(what, "uint") == 0) {
+        uint8_t tag = (uint8_t)number();
+        uint64_t n = number();
+        what[0] == 'i' ? amqpv_add_int(w, key, tag, (int64_t)n) : amqpv_add_uint(w, key, tag, n);
+    } else if (strcmp(what, "bool") == 0) {
+        amqpv_add_bool(w, key, (int)(int64_t)number());
+    } else if (strcmp(what, "timestamp") == 0) {
+        amqpv_add_timestamp(w, key, number());
+    } else if (strcmp(what, "decimal") == 0) {
+        uint32_t n = (uint32_t)number();
+        amqpv_add_decimal(w, key, n, (uint8_t)number());
+    } else if (strcmp(what, "void") == 0) {
+        amqpv_add_void(w, key);
+    } else if (strcmp(what, "float") == 0) {
+        uint32_t bits = (uint32_t)number();
+        float real;
+        memcpy(&real, &bits, sizeof real);
+        amqpv_add_float(w, key, real);
+    } else if (strcmp(what, "double") == 0) {
+        uint64_t bits = number();
+        double real;
+        memcpy(&real, &bits, sizeof real);
+        amqpv_add_double(w, key, real);
+    } else if (strcmp(what, "array") == 0) {
+        amqpv_add_array(w, key);
+    } else if (strcmp(what, "table") == 0) {
+        amqpv_add_table(w, key);
+    } else {
+        uint8_t *content = bytes(&length, 0);
+        if (strcmp(what, "string") == 0) {
+            amqpv_add_string(w, key, (const char *)content, length);
+        } else if (strcmp(what, "bytes") == 0) {
+            amqpv_add_bytes(w, key, content, length);
+        } else {
+            amqpv_input in = amqpv_value(content, length);
+            in.flags = (uint32_t)number();
+            amqpv_add_value(w, key, &in);
+        }
+        free(content);
+    }
+    free(key);
+}
+
+/* Ends the table, and prints the result, and its length and bytes or what capacity is needed. */
+static void finish(amqpv_writer *w) {
+    size_t length = 77;
+    amqpv_result result = amqpv_finish(w, &length);
+    printf("%d %zu %zu ", result, length, result == AMQPV_NO_ROOM ? w->needed : 0);
+    for (size_t i = 0; result == AMQPV_OK && i < length; i++) {
+        printf("%02x", w->buffer[i]);
+    }
+    printf("\n");
+}
+
+/* What an entry is in C: each result, and the number or what was there before. */
+static void convert(void) {
+    amqpv_entry entry = {{0, 0}, {0, 0}, {0, 0}, 0, 0, 0};
+    int truth = 77;
+    uint64_t seconds = 77, bits;
+    uint32_t digits = 77;
+    uint8_t scale = 77;
+    double real = 77;
+    entry.tag = (uint8_t)number();
+    entry.bits = number();
+    entry.scale = (uint8_t)number();
+    amqpv_result results[] = {amqpv_as_bool(&entry, &truth), amqpv_as_timestamp(&entry, &seconds),
+                              amqpv_as_decimal(&entry, &digits, &scale), amqpv_as_double(&entry, &real)};
+    memcpy(&bits, &real, sizeof bits);
+    printf("%d %d %d %" PRIu64 " %d %" PRIu32 " %d %d %" PRIu64 "\n", results[0], truth, results[1], seconds, results[2],
+           digits, scale, results[3], bits);
+}
+
+/* The places of an entry's key and content, of which any numbers are given, in so many bytes. */
+static void place(void) {
+    size_t length = number();
+    uint8_t *all = (uint8_t *)malloc(length);
+    amqpv_input in = amqpv_value(length > 0 ? all : NULL, length);
+    amqpv_entry entry = {{0, 0}, {0, 0}, {0, 0}, 0, 0, 0};
+    entry.key.offset = entry.content.length = number();
+    entry.key.length = entry.content.offset = number();
+    const char *key = amqpv_key(&in, &entry), *text = amqpv_text(&in, &entry), *start = (const char *)in.bytes;
+    printf("%td %td\n", key != NULL ? key - start : -1, text != NULL ? text - start : -1);
+    free(all);
+}
+
+/* The entries of a container, at that many places, and what is found at the key of each. */
+static void list(void) {
+    size_t length, places, count = 77;
+    uint8_t *given = bytes(&length, 0);
+    amqpv_input in = amqpv_value(given, length);
+    amqpv_entry outer, found;
+    in.flags = (uint32_t)number();
+    places = number();
+    amqpv_entry *entries = (amqpv_entry *)malloc(places * sizeof *entries);
+    amqpv_result result = amqpv_peek(&in, &outer);
+    result = result == AMQPV_OK ? amqpv_entries(&in, &outer, entries, places, &count) : result;
+    printf("%d %zu", result, count);
+    for (size_t i = 0; (result == AMQPV_OK || result == AMQPV_NO_ROOM) && i < places && i < count; i++) {
+        amqpv_result of_key = amqpv_get(&in, &outer, amqpv_key(&in, &entries[i]), entries[i].key.length, &found);
+        printf(" %zu:%d:%zu", entries[i].value.offset, of_key, of_key == AMQPV_OK ? found.value.offset : 0);
+    }
+    printf("\n");
+    free(entries);
+    free(given);
+}
+
+int main(void) {
+    static char line[1 << 16];
+    static amqpv_writer w;
+    uint8_t *buffer = NULL;
+    while (fgets(line, sizeof line, stdin) != NULL) {
+        const char *what = strtok(line, " \n");
+        if (strcmp(what, "begin") == 0) {
+            size_t capacity = number();
+            free(buffer);
+            buffer = (uint8_t *)malloc(capacity);
+            amqpv_begin(&w, buffer, capacity);
+            w.open[0].any_keys |= (uint8_t)number();
+        } else if (strcmp(what, "end") == 0) {
+            amqpv_end(&w);
+        } else if (strcmp(what, "finish") == 0) {
+            finish(&w);
+        } else if (strcmp(what, "convert") == 0) {
+            convert();
+        } else if (strcmp(what, "place") == 0) {
+            place();
+        } else if (strcmp(what, "list") == 0) {
+            list();
+        } else if (strcmp(what, "words") == 0) {
+            int n = (int)(int64_t)number();
+            printf("%s; %s\n", amqpv_strerror((amqpv_result)n), amqpv_tag_name((uint8_t)n));
+        } else {
+            add(&w, what);
+        }
+    }
+    free(buffer);
+    return 0;
+}

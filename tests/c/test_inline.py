@@ -1,0 +1,226 @@
+"""The inline functions of the header, by inline.c under the sanitizers, next to the model."""
+
+from pathlib import Path
+from random import Random
+
+import pytest
+
+from tests import calls_for_c as calls
+from tests.c.compiling import HERE, compiled, printed
+from tests.c.test_by_model import KEYS, NUMBERS, VALUES, encoding, is_inside, looked_up, stepped, wanted_problem
+from tests.calls_for_c import INVALID, OK
+from tests.model.printed import TYPES, extent, field, is_utf8, lack, value_of
+from tests.model.tables import odd_table
+
+LEVELS = 16
+ADDED = {
+    "bool": "t", "timestamp": "T", "void": "V", "float": "f", "double": "d", "string": "S", "bytes": "x", "array": "A",
+    "table": "F", "decimal": "D",
+}  # fmt: skip
+WORDS = (
+    "done", "none", "more bytes are needed", "unknown type tag", "a value is missing or truncated", "a key is truncated",
+    "a key is not UTF-8", "a float is infinite or NaN", "nested too deep", "too large", "not UTF-8", "not JSON",
+    "not the JSON of a value", "the value has no encoding", "invalid argument", "invalid key", "wrong type",
+    "number out of range", "buffer too small", "out of memory",
+)  # fmt: skip
+Program = Path
+
+
+@pytest.fixture(scope="module")
+def inline(libraries: None, sanitizers: list[str], folder: Path) -> Program:
+    return compiled(HERE / "inline.c", folder / "inline", options=sanitizers)
+
+
+def lines_of(program: Program, lines: list[str]) -> list[str]:
+    return printed([program], input="".join(f"{it}\n" for it in lines)).splitlines()
+
+
+def word(data: bytes | None) -> str:
+    return "-" if data is None else f".{data.hex()}"
+
+
+class Writer:
+    """A writer as the model has it."""
+
+    def __init__(self, capacity: int, any_keys: int) -> None:
+        self.capacity, self.any_keys, self.bytes, self.open = capacity, any_keys, bytearray(4), [("F", 4)]
+        self.result, self.needed = (OK, 0) if capacity >= 4 else (calls.NO_ROOM, 4)
+
+    def append(self, key: bytes | None, it: bytes, wrong: int = OK) -> bool:
+        """Appends an entry, unless something is wrong or was; whether it does."""
+        name, in_table = key or b"", self.open[-1][0] == "F"
+        named = bytes([len(name) % 256]) + name if in_table else b""
+        is_key = len(name) < 256 and (self.any_keys or is_utf8(name)) if in_table else not name
+        if self.result == OK and in_table and key is None:
+            self.result = calls.BAD_KEY
+        if self.result == OK and (wrong or not is_key):
+            self.result = wrong if is_key or wrong == INVALID else calls.BAD_KEY
+        if self.result == OK and len(self.bytes + named + it) > self.capacity:
+            self.result, self.needed = calls.NO_ROOM, len(self.bytes + named + it)
+        self.bytes += named + it if self.result == OK else b""
+        return self.result == OK
+
+    def begin(self, key: bytes | None, tag: str) -> None:
+        if self.result == OK and len(self.open) == LEVELS:
+            self.result = calls.TOO_DEEP
+        if self.append(key, tag.encode() + b"\0" * 4):
+            self.open.append((tag, len(self.bytes)))
+
+    def end(self) -> None:
+        if self.result == OK and len(self.open) == 1:
+            self.result = INVALID
+        if self.result == OK:
+            self.close(self.open.pop()[1])
+
+    def close(self, at: int) -> None:
+        self.bytes[at - 4 : at] = (len(self.bytes) - at).to_bytes(4, "big")
+
+    def finish(self) -> str:
+        if self.result == OK and len(self.open) > 1:
+            self.result = INVALID
+        if self.result != OK:
+            return f"{self.result} 77 {self.needed} "
+        self.close(4)
+        return f"0 {len(self.bytes)} 0 {self.bytes.hex()}"
+
+
+def some_line(make: Random, writer: Writer) -> str:
+    """A call of a writer at random, which the model makes too."""
+    in_array = writer.open[-1][0] == "A"
+    key = None if make.random() < (0.9 if in_array else 0.02) else make.choice(KEYS)
+    what = make.choice(["int", "int", "uint", "value", "end", *ADDED])
+    if what == "end":
+        writer.end()
+        return what
+    line, bits = f"{what} {word(key)}", make.choice(NUMBERS)
+    if what in ("int", "uint"):
+        tag = make.choice("bsIlbsIlB" if what == "int" else "BuiBuil")
+        is_type, it = tag in ("bsIl" if what == "int" else "Bui"), encoding(tag, bits, 0)
+        writer.append(key, it or b"", calls.BAD_TAG if not is_type else OK if it else calls.OUT_OF_RANGE)
+        return f"{line} {ord(tag)} {bits}"
+    if what in ("array", "table"):
+        writer.begin(key, ADDED[what])
+        return line
+    if what in ("string", "bytes"):
+        data = make.choice([None, b"", b"\0\xff", make.randbytes(9)])
+        writer.append(key, field(ADDED[what].encode(), data or b""))
+        return f"{line} {word(data)}"
+    if what == "value":
+        data, flags = make.choice(VALUES), make.choice([0, 0, 1, 2, 4, 16])
+        whole, wrong = b"F" * (flags & 1) + data, INVALID if flags > 15 else wanted_problem(data, flags, 2**20, 64)[0]
+        writer.append(key, whole[: extent(whole)], wrong)
+        return f"{line} {word(data)} {flags}"
+    scale = make.randrange(256) * (what == "decimal")
+    kept = {"bool": int(bits % 2**32 != 0), "void": 0, "float": bits % 2**32, "decimal": bits % 2**32}.get(
+        what, bits
+    )
+    writer.append(key, encoding(ADDED[what], kept, scale) or b"")
+    return f"{line} {bits % 2**32 if what in ('bool', 'float', 'decimal') else bits} {scale}"
+
+
+def test_writer(inline: Program, seed: int) -> None:
+    """Calls in any order, in buffers of any size."""
+    make, lines, wanted, results = Random(seed), list[str](), list[str](), set[int]()
+    for _ in range(20_000):
+        capacity, any_keys = make.choice([0, 3, 4, 5, make.randrange(100), 400, 400]), make.choice([0, 0, 1])
+        writer = Writer(capacity, any_keys)
+        lines.append(f"begin {capacity} {any_keys}")
+        lines += [some_line(make, writer) for _ in range(make.randrange(9))]
+        for _ in writer.open[1 + (make.random() < 0.1) :]:
+            lines.append("end")
+            writer.end()
+        wanted.append(writer.finish())
+        lines.append("finish")
+        results.add(writer.result)
+        if writer.result == OK and make.random() < 0.2:
+            lines += [some_line(make, writer), "finish"]
+            wanted.append(writer.finish())
+    assert lines_of(inline, lines) == wanted
+    assert {OK, INVALID, calls.BAD_KEY, calls.BAD_TAG, calls.OUT_OF_RANGE, calls.NO_ROOM, calls.KEY_NOT_UTF8} <= results
+
+
+def test_levels_of_writer(inline: Program) -> None:
+    for levels, result in ((LEVELS - 1, 0), (LEVELS, calls.TOO_DEEP)):
+        lines = ["begin 400 0", *["table .6b"] * levels, *["end"] * levels, "finish"]
+        assert lines_of(inline, lines)[0].split()[0] == str(result)
+
+
+def converted(tag: str, bits: int, scale: int) -> str:
+    """What is printed of an entry's conversions."""
+    is_small, narrow = bits < 2**32, OK
+    truth = (OK, bits) if tag == "t" and bits < 2 else (calls.OUT_OF_RANGE if tag == "t" else calls.BAD_TAG, 77)
+    seconds = (OK, bits) if tag == "T" else (calls.BAD_TAG, 77)
+    result = (OK if is_small else calls.OUT_OF_RANGE) if tag == "D" else calls.BAD_TAG
+    decimal = (result, bits, scale) if result == OK else (result, 77, 77)
+    narrow = OK if tag == "d" or tag == "f" and is_small else calls.OUT_OF_RANGE if tag == "f" else calls.BAD_TAG
+    return " ".join(map(str, (*truth, *seconds, *decimal, narrow)))
+
+
+def test_conversions(inline: Program) -> None:
+    asked = [(chr(tag), bits, tag % 5 * 60) for tag in range(256) for bits in NUMBERS]
+    found = lines_of(inline, [f"convert {ord(tag)} {bits} {scale}" for tag, bits, scale in asked])
+    assert [it.rpartition(" ")[0] for it in found] == [converted(*it) for it in asked]
+    # (what a Float is as a Double is stated here)
+    doubles = {
+        ("f", 0x3FC00000): 0x3FF8000000000000,
+        ("f", 0x80000000): 2**63,
+        ("d", 2**64 - 1): 2**64 - 1,
+        ("f", 2**32): 0x4053400000000000,
+    }
+    lines = [f"convert {ord(tag)} {bits} 0" for tag, bits in doubles]
+    assert [int(it.split()[-1]) for it in lines_of(inline, lines)] == [*doubles.values()]
+
+
+def test_places(inline: Program) -> None:
+    """The bytes of corrupted spans."""
+    numbers = [0, 1, 2, 7, 8, 9, 2**32, 2**63 - 1, 2**63, 2**64 - 8, 2**64 - 1]
+    asked = [(length, one, other) for length in (0, 1, 8) for one in numbers for other in numbers]
+
+    def at(length: int, offset: int, count: int) -> int:
+        return offset if length and is_inside((offset, count), length) else -1
+
+    wanted = [f"{at(length, one, other)} {at(length, other, one)}" for length, one, other in asked]
+    assert lines_of(inline, [f"place {length} {one} {other}" for length, one, other in asked]) == wanted
+
+
+def listed(data: bytes, flags: int, places: int) -> str:
+    """What is printed of the entries of a container."""
+    whole = b"F" * (flags & 1) + data
+    if whole and chr(whole[0]) not in TYPES:
+        return f"{calls.UNKNOWN_TAG} 77"
+    if lack(whole):
+        return f"{calls.MORE} 77"
+    if whole[:1] not in (b"A", b"F"):
+        return f"{calls.BAD_TAG} 77"
+    body = 5 - (flags & 1), extent(whole) - 5
+    outer, left, found = ((0, 0), (0, 0), body, 0, whole[0], 0), body, []
+    while True:
+        result, entry, left = stepped(data, left, whole[0])
+        if result != OK:
+            break
+        found.append(entry)
+    if result != calls.NONE:
+        return f"{result} 77"
+    line = f"{OK if len(found) <= places else calls.NO_ROOM} {len(found)}"
+    for it in found[:places]:
+        of_key, there = looked_up(data, outer, [data[it[0][0] : sum(it[0])]], flags & 8 != 0)
+        line += f" {it[1][0]}:{of_key}:{there[1][0] if of_key == OK else 0}"
+    return line
+
+
+def test_lists(inline: Program, seed: int) -> None:
+    make, lines, wanted = Random(seed), list[str](), list[str]()
+    for _ in range(5000):
+        data, flags, places = make.choice([odd_table(make), value_of(make, 2)]), make.choice([0, 8]), make.randrange(4)
+        if data[:1] == b"F" and make.random() < 0.5:
+            data, flags = data[1:], flags | 1
+        lines.append(f"list {word(data)} {flags} {places}")
+        wanted.append(listed(data, flags, places))
+    assert lines_of(inline, lines) == wanted
+
+
+def test_words(inline: Program) -> None:
+    numbers = [*range(-300, 300)]
+    results = {1 - n if n > 1 else n: it for n, it in enumerate(WORDS)}
+    wanted = [f"{results.get(n, 'unknown result')}; {TYPES.get(chr(n % 256), ('unknown',))[0]}" for n in numbers]
+    assert lines_of(inline, [f"words {n}" for n in numbers]) == wanted
