@@ -117,6 +117,11 @@ def test_values_and_their_encodings() -> None:
         assert own.dumps(value).hex() == own.dumps([value])[5:].hex() == digits, value
 
 
+def test_encodings_are_not_limited_in_bytes() -> None:
+    large = own.dumps(b"a" * 2**20)
+    assert own.dumps(own.Encoded(large)) == large
+
+
 @given(VALUES)
 def test_each_value_comes_back(value: Value) -> None:
     found = own.loads(raw(value), text="bytes")

@@ -8,12 +8,10 @@ brokers and the clients.
 - What the broker and its clients write is read as meant: the server's properties, x-death, a quorum queue, a trace, a
   shovel, a federation link, pika, py-amqp, amqp-publish. What the package writes the broker sees as meant: client-properties,
   and the arguments of queues, bindings and consumers.
-- The broker closes the connection for the tables in which `rabbitmq::first_problem` and the model find something, and for no
-  others. What it does with the others is as docs/INTEROP.md states for each version, predicted by VERSIONS of the model's
-  tables.py.
+- The broker closes the connection for the tables in which the calls for C and the model find something, and for no others.
+  What it does with the others is as docs/INTEROP.md states for each version, predicted by VERSIONS of the model's tables.py.
 """
 
-import ctypes
 import json
 import subprocess
 import time
@@ -28,7 +26,8 @@ import amqp_values as own
 import pytest
 from crates import TOP
 
-from tests.model.printed import DEPTH, FRAME, Unread, Value, extent, field, nested, read, write
+from tests import calls_for_c as calls
+from tests.model.printed import Unread, Value, extent, field, nested, read, write
 from tests.model.tables import CHANGES, EVERY_TYPE, INFINITY, INTEGERS, NAN, NO_TAG, PLAIN, ROWS, VERSIONS
 from tests.model.tables import Problem, Version
 from tests.model.tables import container_of, decimal, delivered, erlang, first_problem, float_of, integer_of, is_read
@@ -404,30 +403,6 @@ class StreamPublisher(Publisher):
         return without(message.headers, b"x-stream-offset")
 
 
-class Found(ctypes.Structure):
-    """An amqpv_problem."""
-
-    _fields_ = [("offset", ctypes.c_size_t), ("kind", ctypes.c_uint8), ("tag", ctypes.c_uint8)]
-
-
-# AMQPV_RULES_RABBITMQ
-RULES = 2
-Judge = Callable[..., Problem | None]
-
-
-@pytest.fixture
-def judge(library: str) -> Judge:
-    """`rabbitmq::first_problem`, by the call for C."""
-    calls = ctypes.CDLL(library)
-
-    def problem(data: bytes, is_table: bool = False) -> Problem | None:
-        call, found = calls.amqpv_first_problem_in_table if is_table else calls.amqpv_first_problem, Found()
-        call(data, ctypes.c_size_t(len(data)), RULES, ctypes.c_uint32(2**32 - 1), DEPTH, ctypes.byref(found))
-        return (found.offset, found.kind, found.tag) if found.kind else None
-
-    return problem
-
-
 def row_in(data: bytes, problem: Problem | None) -> str:
     """What kind of table it is, by its first problem, and the container of that."""
     if problem:
@@ -464,11 +439,12 @@ MADE = {
 }
 
 
+@pytest.mark.usefixtures("library")
 @pytest.mark.parametrize("name", MADE)
 def test_odd_tables_as_headers(
-    name: str, broker: Broker, connection: Connection, judge: Judge, make: Random, notes: list[str]
+    name: str, broker: Broker, connection: Connection, make: Random, notes: list[str]
 ) -> None:
-    """What `rabbitmq::first_problem` and the model call a problem closes the connection. What they pass is delivered as the model
+    """What the calls for C and the model call a problem closes the connection. What they pass is delivered as the model
     predicts. The connection is also closed for a table that bytes follow, which is no problem of the table's.
     """
     connection.exchange(name, "fanout")
@@ -484,7 +460,7 @@ def test_odd_tables_as_headers(
         if (found := publisher.outcome(data)) != wanted:
             of_broker.append(f"{data.hex()}: {found!r}, not {wanted!r}")
         without_tag = problem and (max(0, problem[0] - 1), *problem[1:])
-        if (judged := (judge(data), judge(data[1:], True))) != (problem, without_tag):
+        if (judged := (calls.first_problem(data), calls.first_problem(data[1:], table=True))) != (problem, without_tag):
             of_calls.append(f"{data.hex()}: {judged}, not {problem}")
         if wrong_reading(data, problem):
             of_package.append(data.hex())

@@ -34,7 +34,7 @@ static PyObject *build_kept(const Codec *codec, const Reader *reader, const amqp
     }
     Py_ssize_t length = (Py_ssize_t)entry->value.length;
     int is_all = PyBytes_CheckExact(content) && PyBytes_Size(content) == length;
-    PyObject *raw = is_all ? content : PyBytes_FromStringAndSize((const char *)reader->bytes, length);
+    PyObject *raw = is_all ? content : PyBytes_FromStringAndSize((const char *)reader->in.bytes, length);
     if (raw == NULL || PyObject_SetAttr(table, codec->state->raw, raw) < 0) {
         Py_CLEAR(table);
     }
@@ -47,29 +47,22 @@ static PyObject *build_kept(const Codec *codec, const Reader *reader, const amqp
 static PyObject *read_table(PyObject *self, PyObject *const *arguments, Py_ssize_t count) {
     const Codec *codec = (const Codec *)self;
     const State *state = codec->state;
-    Reader reader = {.state = state, .how = &codec->reading};
-    PyObject *content = NULL, *made = NULL;
-    unsigned long long before = 0;
-    size_t length = 0;
+    Reader reader;
+    PyObject *made = NULL;
     amqpv_entry entry;
     if (count != 2) {
         PyErr_Format(PyExc_TypeError, "read() takes 2 positional arguments, not %zd", count);
         return NULL;
     }
-    content = content_of(state, arguments[0], &reader.bytes, &reader.length);
+    PyObject *content = begin_reading(&reader, state, &codec->reading, arguments[0]);
     if (content == NULL) {
         return documented(state, NULL);
     }
-    if (limit_of(state, "offset", arguments[1], reader.length, &before)) {
-        reader.base = (size_t)before;
-        reader.bytes += reader.base;
-        reader.length -= reader.base;
-        if (read_entry(&reader, &entry, &length)) {
-            made = codec->made != NULL ? build_kept(codec, &reader, &entry, content) : build(&reader, &entry);
-        }
+    if (move_to(&reader, arguments[1]) && read_entry(&reader, &entry)) {
+        made = codec->made != NULL ? build_kept(codec, &reader, &entry, content) : build(&reader, &entry);
     }
     if (made != NULL) {
-        made = with_end(made, reader.base + length);
+        made = with_end(made, reader.base + entry.value.length);
     } else if (documented(state, NULL) == NULL && PyErr_ExceptionMatches(state->error)) {
         made = by_owner(codec, state->refused, content, arguments[1]);
     }

@@ -89,32 +89,21 @@ void raise_type(const State *state, const char *what, PyObject *object) {
     Py_XDECREF(name);
 }
 
-void raise_problem(const State *state, const uint8_t *bytes, size_t length, const Options *how, size_t base, amqpv_result result,
-                   size_t count) {
-    amqpv_problem problem = {0};
-    uint32_t rules = how->keys == STRICT ? AMQPV_RULES_READ : AMQPV_RULES_ANY_KEYS;
-    if (result == AMQPV_MORE) {
-        raise_error(state, "cut", base, count, "%zu more byte%s", count, count == 1 ? "" : "s");
-        return;
-    }
-    result = how->is_table ? amqpv_first_problem_in_table(bytes, length, rules, how->frame, how->depth, &problem)
-                           : amqpv_first_problem(bytes, length, rules, how->frame, how->depth, &problem);
-    size_t offset = base + problem.offset;
-    switch (result == AMQPV_OK ? problem.kind : 0) {
-    case AMQPV_PROBLEM_UNKNOWN_TAG:
-        raise_error(state, "unknown tag", offset, 0, "one of the type tags tbBsUuIilLfdDSxAFTV, not byte %d", problem.tag);
+void raise_problem(const State *state, const amqpv_input *in, size_t base, amqpv_result result, const amqpv_problem *problem) {
+    size_t offset = base + problem->offset, missing = problem->missing;
+    switch (result) {
+    case AMQPV_MORE: raise_error(state, "cut", offset, missing, "%zu more byte%s", missing, missing == 1 ? "" : "s"); break;
+    case AMQPV_UNKNOWN_TAG:
+        raise_error(state, "unknown tag", offset, 0, "one of the type tags tbBsUuIilLfdDSxAFTV, not byte %d", problem->tag);
         break;
-    case AMQPV_PROBLEM_CUT: raise_error(state, "cut", offset, 0, "a whole value inside its container"); break;
-    case AMQPV_PROBLEM_KEY_CUT: raise_error(state, "key cut", offset, 0, "a whole key inside its table"); break;
-    case AMQPV_PROBLEM_TOO_DEEP:
-        raise_error(state, "too deep", offset, 0, "containers nested at most %u deep", (unsigned)how->depth);
+    case AMQPV_KEY_CUT: raise_error(state, "key cut", offset, 0, "a whole key inside its table"); break;
+    case AMQPV_KEY_NOT_UTF8: raise_error(state, "key not UTF-8", offset, 0, "bytes in UTF-8"); break;
+    case AMQPV_TOO_DEEP:
+        raise_error(state, "too deep", offset, 0, "containers nested at most %u deep", (unsigned)in->max_depth);
         break;
-    case AMQPV_PROBLEM_TOO_LARGE:
-        raise_error(state, "too large", offset, 0, "at most %u bytes, the type tag counted", (unsigned)how->frame);
+    case AMQPV_TOO_LARGE:
+        raise_error(state, "too large", offset, 0, "at most %u bytes, the type tag counted", (unsigned)in->max_bytes);
         break;
-    case AMQPV_PROBLEM_KEY_NOT_UTF8: raise_error(state, "key not UTF-8", offset, 0, "bytes in UTF-8"); break;
-    default:
-        /* (bytes that changed meanwhile: they don't) */
-        raise_error(state, "cut", base, 0, "a whole value");
+    default: raise_error(state, "cut", offset, 0, "a whole value inside its container");
     }
 }

@@ -44,7 +44,8 @@ static State *state_of(PyObject *module) {
     return PyModule_GetState(module);
 }
 
-int limit_of(const State *state, const char *name, PyObject *value, unsigned long long most, unsigned long long *limit) {
+/* An integer from 0 to another, whose option has a name. */
+static int limit_of(const State *state, const char *name, PyObject *value, unsigned long long most, unsigned long long *limit) {
     int overflows;
     PyObject *number = PyNumber_Index(value);
     if (number == NULL) {
@@ -139,7 +140,7 @@ static int take(const State *state, const char *name, Py_ssize_t most, int of, P
     return 1;
 }
 
-PyObject *content_of(const State *state, PyObject *data, const uint8_t **bytes, size_t *length) {
+PyObject *begin_reading(Reader *reader, const State *state, const Options *how, PyObject *data) {
     char *content;
     Py_ssize_t count;
     PyObject *kept = NULL;
@@ -155,10 +156,27 @@ PyObject *content_of(const State *state, PyObject *data, const uint8_t **bytes, 
         Py_CLEAR(kept);
     }
     if (kept != NULL) {
-        *bytes = (const uint8_t *)content;
-        *length = (size_t)count;
+        reader->state = state;
+        reader->how = how;
+        reader->base = 0;
+        reader->in = how->is_table ? amqpv_table(content, (size_t)count) : amqpv_value(content, (size_t)count);
+        reader->in.max_bytes = how->frame;
+        reader->in.max_depth = how->depth;
+        reader->in.flags |= how->keys != STRICT ? AMQPV_ANY_KEYS : 0;
+        reader->in.flags |= how->equal_keys == FIRST_OF_EQUAL_KEYS ? AMQPV_FIRST_KEY : 0;
     }
     return kept;
+}
+
+int move_to(Reader *reader, PyObject *offset) {
+    unsigned long long before = 0;
+    if (offset != NULL && !limit_of(reader->state, "offset", offset, reader->in.length, &before)) {
+        return 0;
+    }
+    reader->base = (size_t)before;
+    reader->in.bytes += reader->base;
+    reader->in.length -= reader->base;
+    return 1;
 }
 
 PyObject *documented(const State *state, PyObject *made) {
@@ -170,12 +188,11 @@ PyObject *documented(const State *state, PyObject *made) {
 
 /* The value that all of the bytes are. */
 static int read_whole(const Reader *reader, amqpv_entry *entry) {
-    size_t count = 0;
-    if (!read_entry(reader, entry, &count)) {
+    if (!read_entry(reader, entry)) {
         return 0;
     }
-    if (count != reader->length) {
-        raise_error(reader->state, "trailing bytes", count, 0, "the end of the bytes");
+    if (entry->value.length != reader->in.length) {
+        raise_error(reader->state, "trailing bytes", entry->value.length, 0, "the end of the bytes");
         return 0;
     }
     return 1;
@@ -184,11 +201,11 @@ static int read_whole(const Reader *reader, amqpv_entry *entry) {
 static PyObject *loads_by(PyObject *module, PyObject *const *arguments, Py_ssize_t count, PyObject *names, int is_table) {
     const State *state = state_of(module);
     Options how = {.is_table = (uint32_t)is_table};
-    Reader reader = {.state = state, .how = &how};
+    Reader reader;
     PyObject *content = NULL, *made = NULL;
     amqpv_entry entry;
     if (take(state, is_table ? "loads_table" : "loads", 1, READING, arguments, count, names, &how)) {
-        content = content_of(state, arguments[0], &reader.bytes, &reader.length);
+        content = begin_reading(&reader, state, &how, arguments[0]);
     }
     if (content != NULL && read_whole(&reader, &entry)) {
         made = build(&reader, &entry);
@@ -208,38 +225,30 @@ static PyObject *loads_table(PyObject *module, PyObject *const *arguments, Py_ss
 static PyObject *decode_table(PyObject *module, PyObject *const *arguments, Py_ssize_t count, PyObject *names) {
     const State *state = state_of(module);
     Options how = {.is_table = 1};
-    Reader reader = {.state = state, .how = &how};
+    Reader reader;
     PyObject *content = NULL, *made = NULL;
     amqpv_entry entry;
-    unsigned long long before = 0;
-    size_t length = 0;
     if (take(state, "decode_table", 2, READING | DECODE, arguments, count, names, &how)) {
-        content = content_of(state, arguments[0], &reader.bytes, &reader.length);
+        content = begin_reading(&reader, state, &how, arguments[0]);
     }
-    if (content != NULL && (how.offset == NULL || limit_of(state, "offset", how.offset, reader.length, &before))) {
-        reader.base = (size_t)before;
-        reader.bytes += reader.base;
-        reader.length -= reader.base;
-        if (read_entry(&reader, &entry, &length)) {
-            made = build(&reader, &entry);
-        }
+    if (content != NULL && move_to(&reader, how.offset) && read_entry(&reader, &entry)) {
+        made = build(&reader, &entry);
     }
     Py_XDECREF(content);
-    return documented(state, made != NULL ? with_end(made, reader.base + length) : NULL);
+    return documented(state, made != NULL ? with_end(made, reader.base + entry.value.length) : NULL);
 }
 
 /* A step of a path; `kept` keeps its key. */
 static int step_of(const State *state, const Options *how, PyObject *it, amqpv_step *step, PyObject **kept) {
     unsigned long long index = 0;
-    int is_utf8;
     memset(step, 0, sizeof *step);
     step->key = "";
     if (PyUnicode_Check(it) || PyBytes_Check(it)) {
-        step->tag = AMQPV_TABLE;
-        *kept = key_bytes(state, how->keys, it, 0, &step->key, &step->key_length, &is_utf8);
+        step->into = AMQPV_TABLE;
+        *kept = key_bytes(state, how->keys, it, 0, &step->key, &step->key_length);
         return *kept != NULL;
     }
-    step->tag = AMQPV_ARRAY;
+    step->into = AMQPV_ARRAY;
     if (!PyLong_Check(it)) {
         raise_type(state, "a step of a path is a str, bytes or an int", it);
         return 0;
@@ -260,9 +269,7 @@ static PyObject *found_at(const Reader *reader, amqpv_entry *entry, PyObject *co
         if (!step_of(reader->state, reader->how, path[it], &step, &kept)) {
             return NULL;
         }
-        /* (if equal keys are refused there are none here, and the last is the only one) */
-        uint32_t which = reader->how->equal_keys == AMQPV_FIRST_KEY ? AMQPV_FIRST_KEY : AMQPV_LAST_KEY;
-        amqpv_result result = amqpv_find_path(reader->bytes, reader->length, entry, &step, 1, which, &next);
+        amqpv_result result = amqpv_find(&reader->in, entry, &step, 1, &next);
         Py_XDECREF(kept);
         if (result != AMQPV_OK) {
             /* (the other steps are looked at too) */
@@ -285,11 +292,11 @@ static PyObject *found_at(const Reader *reader, amqpv_entry *entry, PyObject *co
 static PyObject *find(PyObject *module, PyObject *const *arguments, Py_ssize_t count, PyObject *names) {
     const State *state = state_of(module);
     Options how = {.otherwise = NULL};
-    Reader reader = {.state = state, .how = &how};
+    Reader reader;
     PyObject *content = NULL, *made = NULL;
     amqpv_entry entry;
     if (take(state, "find", PY_SSIZE_T_MAX, READING | FIND, arguments, count, names, &how)) {
-        content = content_of(state, arguments[0], &reader.bytes, &reader.length);
+        content = begin_reading(&reader, state, &how, arguments[0]);
     }
     if (content != NULL && read_whole(&reader, &entry)) {
         made = found_at(&reader, &entry, arguments + 1, count - 1);

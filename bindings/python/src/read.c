@@ -7,15 +7,6 @@
 /* The last second of the year 9999. */
 #define LAST_SECOND 253402300799ULL
 
-/* Whether nothing is wrong with the bytes but that keys aren't UTF-8. */
-static int is_well_but_for_keys(const Reader *reader) {
-    const Options *how = reader->how;
-    amqpv_problem problem;
-    return (how->is_table ? amqpv_first_problem_in_table : amqpv_first_problem)(
-               reader->bytes, reader->length, AMQPV_RULES_ANY_KEYS, how->frame, how->depth, &problem)
-           == AMQPV_NONE;
-}
-
 PyObject *with_end(PyObject *made, size_t end) {
     PyObject *number = PyLong_FromSize_t(end);
     PyObject *both = number != NULL ? PyTuple_Pack(2, made, number) : NULL;
@@ -26,7 +17,7 @@ PyObject *with_end(PyObject *made, size_t end) {
 
 /* Adds a key to those of its table, unless that has it already: then an Error. */
 static int add_key(const Reader *reader, amqpv_span span, PyObject *keys) {
-    PyObject *key = PyBytes_FromStringAndSize((const char *)reader->bytes + span.offset, (Py_ssize_t)span.length);
+    PyObject *key = PyBytes_FromStringAndSize((const char *)reader->in.bytes + span.offset, (Py_ssize_t)span.length);
     int has_it = key != NULL ? PySet_Contains(keys, key) : -1;
     if (has_it == 1) {
         raise_error(reader->state, "equal keys", reader->base + span.offset - 1, 0, "each key once");
@@ -45,53 +36,28 @@ static int has_each_key_once(const Reader *reader, const amqpv_entry *entry) {
     }
     PyObject *keys = entry->tag == AMQPV_TABLE ? PySet_New(NULL) : NULL;
     int is_well = keys != NULL || entry->tag == AMQPV_ARRAY;
-    amqpv_result result = is_well ? amqpv_enter(reader->bytes, reader->length, entry, &cursor) : AMQPV_NONE;
-    while (is_well && result == AMQPV_OK && (result = amqpv_next(reader->bytes, reader->length, &cursor, &it)) == AMQPV_OK) {
+    amqpv_result result = is_well ? amqpv_enter(entry, &cursor) : AMQPV_NONE;
+    while (is_well && result == AMQPV_OK && (result = amqpv_next(&reader->in, &cursor, &it)) == AMQPV_OK) {
         is_well = (keys == NULL || add_key(reader, it.key, keys)) && has_each_key_once(reader, &it);
     }
     Py_XDECREF(keys);
     return is_well;
 }
 
-/* Whether a value, which was read, is taken by the option for equal keys. */
-static int is_taken(const Reader *reader, const amqpv_entry *entry) {
+int read_entry(const Reader *reader, amqpv_entry *entry) {
+    amqpv_problem problem;
+    amqpv_result result = amqpv_read(&reader->in, entry, &problem);
+    if (result != AMQPV_OK) {
+        raise_problem(reader->state, &reader->in, reader->base, result, &problem);
+        return 0;
+    }
     return reader->how->equal_keys != REFUSE_EQUAL_KEYS || has_each_key_once(reader, entry);
-}
-
-int read_entry(const Reader *reader, amqpv_entry *entry, size_t *count) {
-    const Options *how = reader->how;
-    const uint8_t *bytes = reader->bytes;
-    size_t length = reader->length;
-    amqpv_result result = how->is_table ? amqpv_read_table(bytes, length, how->frame, how->depth, entry, count)
-                                        : amqpv_read(bytes, length, how->frame, how->depth, entry, count);
-    if (result == AMQPV_OK) {
-        return is_taken(reader, entry);
-    }
-    if (result == AMQPV_MALFORMED && how->keys != STRICT && is_well_but_for_keys(reader)) {
-        /* by its own length, since amqpv_read checks keys too */
-        if (!how->is_table) {
-            result = amqpv_first(bytes, length, entry);
-        } else {
-            memset(entry, 0, sizeof *entry);
-            entry->tag = AMQPV_TABLE;
-            entry->content.offset = 4;
-            entry->content.length = (size_t)bytes[0] << 24 | (size_t)bytes[1] << 16 | (size_t)bytes[2] << 8 | bytes[3];
-            entry->value.length = 4 + entry->content.length;
-            result = AMQPV_OK;
-        }
-        *count = entry->value.length;
-        if (result == AMQPV_OK) {
-            return is_taken(reader, entry);
-        }
-    }
-    raise_problem(reader->state, bytes, length, how, reader->base, result, *count);
-    return 0;
 }
 
 /* Text, or what the option says of bytes that aren't UTF-8. */
 static PyObject *build_text(const Reader *reader, amqpv_span span, uint32_t how, PyObject *of_bytes, const char *what,
                             size_t offset) {
-    const char *text = (const char *)reader->bytes + span.offset;
+    const char *text = (const char *)reader->in.bytes + span.offset;
     Py_ssize_t length = (Py_ssize_t)span.length;
     PyObject *made = PyUnicode_DecodeUTF8(text, length, how == ESCAPED ? "surrogateescape" : "strict");
     if (made != NULL || !PyErr_ExceptionMatches(PyExc_UnicodeDecodeError)) {
@@ -157,7 +123,7 @@ static PyObject *build_timestamp(const Reader *reader, const amqpv_entry *entry)
 }
 
 static PyObject *build_bytes(const Reader *reader, const amqpv_entry *entry) {
-    const char *bytes = (const char *)reader->bytes + entry->content.offset;
+    const char *bytes = (const char *)reader->in.bytes + entry->content.offset;
     Py_ssize_t length = (Py_ssize_t)entry->content.length;
     return reader->how->has_bytearrays ? PyByteArray_FromStringAndSize(bytes, length) : PyBytes_FromStringAndSize(bytes, length);
 }
@@ -185,7 +151,7 @@ static PyObject *build_float(const Reader *reader, const amqpv_entry *entry) {
 static PyObject *whole(const Reader *reader, PyObject *container, amqpv_result result) {
     if (container != NULL && result != AMQPV_NONE) {
         Py_CLEAR(container);
-        raise_problem(reader->state, reader->bytes, reader->length, reader->how, reader->base, result, 0);
+        raise_error(reader->state, "cut", reader->base, 0, "a whole value");
     }
     return container;
 }
@@ -194,8 +160,8 @@ static PyObject *build_array(const Reader *reader, const amqpv_entry *entry) {
     amqpv_cursor cursor;
     amqpv_entry it;
     PyObject *list = PyList_New(0);
-    amqpv_result result = list == NULL ? AMQPV_NONE : amqpv_enter(reader->bytes, reader->length, entry, &cursor);
-    while (result == AMQPV_OK && (result = amqpv_next(reader->bytes, reader->length, &cursor, &it)) == AMQPV_OK) {
+    amqpv_result result = list == NULL ? AMQPV_NONE : amqpv_enter(entry, &cursor);
+    while (result == AMQPV_OK && (result = amqpv_next(&reader->in, &cursor, &it)) == AMQPV_OK) {
         PyObject *value = build(reader, &it);
         int is_put = value != NULL && PyList_Append(list, value) == 0;
         Py_XDECREF(value);
@@ -212,7 +178,7 @@ static int build_pair(const Reader *reader, const amqpv_entry *entry, PyObject *
     PyObject *key = build_text(reader, entry->key, how->keys, NULL, "key not UTF-8", entry->value.offset);
     PyObject *value = key != NULL ? build(reader, entry) : NULL;
     int is_put = value != NULL;
-    if (is_put && how->equal_keys == AMQPV_FIRST_KEY) {
+    if (is_put && how->equal_keys == FIRST_OF_EQUAL_KEYS) {
         int has_it = PyDict_Contains(table, key);
         is_put = has_it == 1 || (has_it == 0 && PyDict_SetItem(table, key, value) == 0);
     } else if (is_put) {
@@ -226,9 +192,9 @@ static int build_pair(const Reader *reader, const amqpv_entry *entry, PyObject *
 /* Whether the only key of a table is empty, and its entry. */
 static int is_of_empty_key(const Reader *reader, const amqpv_entry *entry, amqpv_entry *it) {
     amqpv_cursor cursor;
-    return entry->content.length > 1 && reader->bytes[entry->content.offset] == 0
-           && amqpv_enter(reader->bytes, reader->length, entry, &cursor) == AMQPV_OK
-           && amqpv_next(reader->bytes, reader->length, &cursor, it) == AMQPV_OK && cursor.left.length == 0;
+    return entry->content.length > 1 && reader->in.bytes[entry->content.offset] == 0
+           && amqpv_enter(entry, &cursor) == AMQPV_OK
+           && amqpv_next(&reader->in, &cursor, it) == AMQPV_OK && cursor.left.length == 0;
 }
 
 /* A table whose only key is empty: in itself it has a level in six bytes, of which a dict with keys of its own has 184. */
@@ -250,8 +216,8 @@ static PyObject *build_table(const Reader *reader, const amqpv_entry *entry) {
 PyObject *filled(const Reader *reader, const amqpv_entry *entry, PyObject *table) {
     amqpv_cursor cursor;
     amqpv_entry it;
-    amqpv_result result = table == NULL ? AMQPV_NONE : amqpv_enter(reader->bytes, reader->length, entry, &cursor);
-    while (result == AMQPV_OK && (result = amqpv_next(reader->bytes, reader->length, &cursor, &it)) == AMQPV_OK) {
+    amqpv_result result = table == NULL ? AMQPV_NONE : amqpv_enter(entry, &cursor);
+    while (result == AMQPV_OK && (result = amqpv_next(&reader->in, &cursor, &it)) == AMQPV_OK) {
         if (!build_pair(reader, &it, table)) {
             Py_CLEAR(table);
             result = AMQPV_NONE;

@@ -33,8 +33,8 @@ typedef struct {
 /* What becomes of keys and text that aren't UTF-8. */
 enum { STRICT = 0, AS_BYTES = 1, ESCAPED = 2 };
 
-/* Of a table with equal keys: AMQPV_LAST_KEY, AMQPV_FIRST_KEY, or an Error. */
-enum { REFUSE_EQUAL_KEYS = 2 };
+/* Of a table with equal keys the last counts, or the first, or there is an Error. */
+enum { LAST_OF_EQUAL_KEYS = 0, FIRST_OF_EQUAL_KEYS = 1, REFUSE_EQUAL_KEYS = 2 };
 
 /* The type of an int that has no class of this package: l; or, as a client writes it, I where that has the number, and otherwise
    l (AS_PIKA), L (AS_PY_AMQP), or l above it and L below it (AS_PIKA_1_3); or the smallest of bsuIil that has the number. */
@@ -60,12 +60,6 @@ void take_defaults(Options *how);
 /* Takes an option of a function by its name, if it is one of these. */
 int take_named(const State *state, const char *function, int of, PyObject *name, PyObject *value, Options *how);
 
-/* An integer from 0 to another, whose option has a name. */
-int limit_of(const State *state, const char *name, PyObject *value, unsigned long long most, unsigned long long *limit);
-
-/* The bytes of an object, which is returned or copied: of a copy nothing changes while it is read. */
-PyObject *content_of(const State *state, PyObject *data, const uint8_t **bytes, size_t *length);
-
 /* Makes an exception that isn't documented an Error: a RecursionError, what a method of an option raised, or a ValueError since
    a memoryview was released. */
 PyObject *documented(const State *state, PyObject *made);
@@ -83,20 +77,25 @@ void add_step(const State *state, PyObject *step);
 /* Raises the TypeError that `what` isn't an object of this type. */
 void raise_type(const State *state, const char *what, PyObject *object);
 
-/* Raises what is wrong with bytes that aren't read, by the result of a call and what that counted. */
-void raise_problem(const State *state, const uint8_t *bytes, size_t length, const Options *how, size_t base, amqpv_result result,
-                   size_t count);
+/* Raises what is wrong with an input that isn't read, before which there are `base` bytes. */
+void raise_problem(const State *state, const amqpv_input *in, size_t base, amqpv_result result, const amqpv_problem *problem);
 
 /* Bytes that are read, how many are before them, and by which options. */
 typedef struct {
     const State *state;
     const Options *how;
-    const uint8_t *bytes;
-    size_t length, base;
+    amqpv_input in;
+    size_t base;
 } Reader;
 
-/* Reads the value, or the table without its type tag, at the start of the bytes: its entry, and how many bytes it has. */
-int read_entry(const Reader *reader, amqpv_entry *entry, size_t *count);
+/* Sets up a reader of the bytes of an object, which is returned or copied: of a copy nothing changes while it is read. */
+PyObject *begin_reading(Reader *reader, const State *state, const Options *how, PyObject *data);
+
+/* Goes on to an offset in the bytes, unless that is NULL. */
+int move_to(Reader *reader, PyObject *offset);
+
+/* Reads the value, or the table without its type tag, at the start of the bytes. */
+int read_entry(const Reader *reader, amqpv_entry *entry);
 
 /* The object for a value that was read. */
 PyObject *build(const Reader *reader, const amqpv_entry *entry);
@@ -113,8 +112,7 @@ PyObject *written(const State *state, const Options *how, PyObject *value);
 /* The type that adapters read and write by. */
 PyObject *codec_type(PyObject *module);
 
-/* The bytes of a key that a str or bytes is, as an object to be kept, or NULL; whether they are known to be UTF-8. */
-PyObject *key_bytes(const State *state, uint32_t how, PyObject *key, size_t offset, const char **bytes, size_t *length,
-                    int *is_utf8);
+/* The bytes of a key that a str or bytes is, as an object to be kept, or NULL. */
+PyObject *key_bytes(const State *state, uint32_t how, PyObject *key, size_t offset, const char **bytes, size_t *length);
 
 #endif

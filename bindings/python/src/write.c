@@ -12,19 +12,13 @@ typedef struct {
     uint8_t small[512];
 } Writer;
 
-/* A key, the container that an entry is put into, and how many bytes the key has there. Another key of this length is put if it
-   isn't known to be UTF-8, and its bytes then written over that. */
+/* A key, the container that an entry is put into, and how many bytes the key has there. */
 typedef struct {
     amqpv_container *into;
-    const char *key, *bytes;
+    const char *key;
     size_t length, head;
     uint32_t levels;
 } Place;
-
-static const char ANY_KEY[] = "................................................................"
-                              "................................................................"
-                              "................................................................"
-                              "...............................................................";
 
 static const char LESS_THAN_4_GIB[] = "less than 4 GiB";
 
@@ -67,28 +61,23 @@ static int reserve(Writer *writer, const Place *place, size_t content) {
 /* What a call takes of a writer and a place. */
 #define INTO writer->buffer, writer->capacity, place->into, place->key, place->length
 
-/* Whether an entry was put; after that its key is the one that was meant. */
-static int is_put(const Writer *writer, const Place *place, size_t before, amqpv_result result, const char *expected) {
+/* Whether an entry was put. */
+static int is_put(const Writer *writer, const Place *place, amqpv_result result, const char *expected) {
     if (result != AMQPV_OK) {
         const char *kind = result == AMQPV_OUT_OF_RANGE ? "out of range" : "too large";
         raise_error(writer->state, kind, offset_in(writer, place), 0, expected);
         return 0;
     }
-    if (place->bytes != NULL) {
-        memcpy(writer->buffer + before + 1, place->bytes, place->length);
-    }
     return 1;
 }
 
 static int put(Writer *writer, const Place *place, uint8_t tag, uint64_t bits, uint8_t scale, const char *expected) {
-    size_t before = end_of(place->into);
-    return reserve(writer, place, 0) && is_put(writer, place, before, amqpv_put(INTO, tag, bits, scale), expected);
+    return reserve(writer, place, 0) && is_put(writer, place, amqpv_put(INTO, tag, bits, scale), expected);
 }
 
 static int put_bytes(Writer *writer, const Place *place, uint8_t tag, const char *bytes, Py_ssize_t length) {
-    size_t before = end_of(place->into), count = (size_t)length;
-    return reserve(writer, place, count)
-           && is_put(writer, place, before, amqpv_put_bytes(INTO, tag, bytes, count), LESS_THAN_4_GIB);
+    size_t count = (size_t)length;
+    return reserve(writer, place, count) && is_put(writer, place, amqpv_put_bytes(INTO, tag, bytes, count), LESS_THAN_4_GIB);
 }
 
 /* Text */
@@ -144,37 +133,30 @@ static int put_text(Writer *writer, const Place *place, PyObject *text) {
     return is_done;
 }
 
-PyObject *key_bytes(const State *state, uint32_t how, PyObject *key, size_t offset, const char **bytes, size_t *length,
-                    int *is_utf8) {
+PyObject *key_bytes(const State *state, uint32_t how, PyObject *key, size_t offset, const char **bytes, size_t *length) {
     PyObject *kept = NULL;
     Py_ssize_t count = 0;
     char *content;
-    *is_utf8 = 1;
     if (PyUnicode_Check(key)) {
         *bytes = text_of(state, how, key, offset, &count, &kept);
         if (*bytes == NULL) {
             Py_XDECREF(kept);
             return NULL;
         }
-        *is_utf8 = kept == NULL;
     } else if (PyBytes_Check(key)) {
         if (PyBytes_AsStringAndSize(key, &content, &count) < 0) {
             return NULL;
         }
         *bytes = content;
-        PyObject *text = PyUnicode_DecodeUTF8(content, count, "strict");
-        *is_utf8 = text != NULL;
-        Py_XDECREF(text);
-        if (text == NULL) {
-            if (!PyErr_ExceptionMatches(PyExc_UnicodeError)) {
-                return NULL;
-            }
-            PyErr_Clear();
-            if (how != AS_BYTES) {
+        PyObject *text = how != AS_BYTES ? PyUnicode_DecodeUTF8(content, count, "strict") : NULL;
+        if (text == NULL && how != AS_BYTES) {
+            if (PyErr_ExceptionMatches(PyExc_UnicodeError)) {
+                PyErr_Clear();
                 raise_error(state, "key not UTF-8", offset, 0, "bytes in UTF-8");
-                return NULL;
             }
+            return NULL;
         }
+        Py_XDECREF(text);
     } else {
         raise_type(state, "a key is a str or bytes", key);
         return NULL;
@@ -260,23 +242,28 @@ static int put_any_integer(Writer *writer, const Place *place, PyObject *value) 
 static int put_float(Writer *writer, const Place *place, PyObject *value) {
     double wide = PyFloat_AsDouble(value);
     int is_nan = wide != wide, is_finite = wide - wide == 0;
+    uint64_t bits;
+    memcpy(&bits, &wide, sizeof bits);
     if (writer->how->is_finite && !is_finite) {
         raise_error(writer->state, "not finite", offset_in(writer, place), 0, "a finite number");
         return 0;
     }
     if (!PyType_IsSubtype(Py_TYPE(value), (PyTypeObject *)writer->state->of_float)) {
-        return put(writer, place, AMQPV_DOUBLE, amqpv_double_bits(wide), 0, "");
+        return put(writer, place, AMQPV_DOUBLE, bits, 0, "");
     }
     if (is_nan) {
         /* its bits, which a conversion may change; a NaN of 64 bits may have none of them */
-        uint64_t bits = amqpv_double_bits(wide), payload = bits >> 29 & 0x7fffff;
+        uint64_t payload = bits >> 29 & 0x7fffff;
         return put(writer, place, AMQPV_FLOAT, bits >> 63 << 31 | 0x7f800000 | (payload ? payload : 0x400000), 0, "");
     }
     /* (from the middle between the largest number of 32 bits and 2^128 on a conversion would be undefined, or infinite) */
     if (is_finite && (wide >= 0x1.ffffffp+127 || wide <= -0x1.ffffffp+127)) {
         return out_of_range(writer, place, "a number of 32 bits");
     }
-    return put(writer, place, AMQPV_FLOAT, amqpv_float_bits((float)wide), 0, "");
+    float narrow = (float)wide;
+    uint32_t narrow_bits;
+    memcpy(&narrow_bits, &narrow, sizeof narrow_bits);
+    return put(writer, place, AMQPV_FLOAT, narrow_bits, 0, "");
 }
 
 /* A number of some digits and an exponent, by which it is multiplied with a power of ten; -1 from `most` + 1 on. */
@@ -359,27 +346,21 @@ static int put_datetime(Writer *writer, const Place *place, PyObject *value) {
 /* Bytes */
 
 static int put_encoded(Writer *writer, const Place *place, const char *bytes, size_t length) {
-    Options how = *writer->how;
-    how.frame = UINT32_MAX;
-    how.depth = place->levels;
-    how.is_table = 0;
-    size_t before = end_of(place->into), count = 0;
+    amqpv_input in = amqpv_value(bytes, length);
+    amqpv_problem problem;
     amqpv_entry entry;
-    const uint8_t *data = (const uint8_t *)bytes;
-    how.keys = STRICT;
-    amqpv_result result = amqpv_read(data, length, how.frame, how.depth, &entry, &count);
+    in.max_bytes = UINT32_MAX;
+    in.max_depth = place->levels;
+    amqpv_result result = amqpv_read(&in, &entry, &problem);
     if (result != AMQPV_OK) {
-        raise_problem(writer->state, data, length, &how, offset_in(writer, place), result, count);
+        raise_problem(writer->state, &in, offset_in(writer, place), result, &problem);
         return 0;
     }
-    if (count != length) {
-        raise_error(writer->state, "trailing bytes", offset_in(writer, place) + count, 0, "the end of an encoded value");
+    if (entry.value.length != length) {
+        raise_error(writer->state, "trailing bytes", offset_in(writer, place) + entry.value.length, 0, "the end of an encoded value");
         return 0;
     }
-    if (!reserve(writer, place, length)) {
-        return 0;
-    }
-    return is_put(writer, place, before, amqpv_put_value(INTO, data, length, how.frame, how.depth), LESS_THAN_4_GIB);
+    return reserve(writer, place, length) && is_put(writer, place, amqpv_put_value(INTO, &in), LESS_THAN_4_GIB);
 }
 
 static int put_any_bytes(Writer *writer, const Place *place, PyObject *value) {
@@ -435,11 +416,10 @@ static int put_item(Writer *writer, const Place *place, PyObject *value, Py_ssiz
 /* Puts a pair into a table, unless `keys`, if there is a set, has its key. */
 static int put_pair(Writer *writer, const Place *body, PyObject *key, PyObject *value, PyObject *keys) {
     Place place = *body;
-    int is_utf8, is_done = 0;
+    int is_done = 0;
     Py_INCREF(key);
     Py_INCREF(value);
-    PyObject *kept =
-        key_bytes(writer->state, writer->how->keys, key, offset_in(writer, body), &place.key, &place.length, &is_utf8);
+    PyObject *kept = key_bytes(writer->state, writer->how->keys, key, offset_in(writer, body), &place.key, &place.length);
     if (kept != NULL && place.length > 255) {
         raise_error(writer->state, "key too long", offset_in(writer, body), 0, "at most 255 bytes");
     } else if (kept != NULL) {
@@ -452,10 +432,6 @@ static int put_pair(Writer *writer, const Place *body, PyObject *key, PyObject *
             }
             is_new = has_it == 0 && PySet_Add(keys, bytes) == 0;
             Py_XDECREF(bytes);
-        }
-        if (!is_utf8) {
-            place.bytes = place.key;
-            place.key = ANY_KEY;
         }
         place.head = place.length + 1;
         is_done = is_new && put_value(writer, &place, value);
@@ -590,8 +566,7 @@ static int put_contents(Writer *writer, const Place *body, PyObject *value, int 
 }
 
 static int put_container(Writer *writer, const Place *place, PyObject *value, int is_table) {
-    amqpv_container body = {0};
-    size_t before = end_of(place->into);
+    amqpv_container body;
     if (place->levels == 0) {
         raise_error(writer->state, "too deep", offset_in(writer, place), 0, "containers nested at most %u deep, none in itself",
                     (unsigned)writer->how->depth);
@@ -602,13 +577,13 @@ static int put_container(Writer *writer, const Place *place, PyObject *value, in
     }
     amqpv_result result = amqpv_open(INTO, is_table ? AMQPV_TABLE : AMQPV_ARRAY, &body);
     if (result == AMQPV_OK) {
-        Place inside = {&body, "", NULL, 0, 0, place->levels - 1};
+        Place inside = {&body, "", 0, 0, place->levels - 1};
         if (!put_contents(writer, &inside, value, is_table)) {
             return 0;
         }
         result = amqpv_close(writer->buffer, writer->capacity, place->into, &body);
     }
-    return is_put(writer, place, before, result, LESS_THAN_4_GIB);
+    return is_put(writer, place, result, LESS_THAN_4_GIB);
 }
 
 /* Whether an object is of a class of abc; 0 with an exception too. */
@@ -692,9 +667,10 @@ static int put_value(Writer *writer, const Place *place, PyObject *value) {
 PyObject *written(const State *state, const Options *how, PyObject *value) {
     Writer writer;
     amqpv_container top = {0};
-    Place place = {&top, "", NULL, 0, 0, how->depth};
+    Place place = {&top, "", 0, 0, how->depth};
     PyObject *made = NULL;
     top.tag = AMQPV_ARRAY;
+    top.any_keys = how->keys != STRICT;
     writer.state = state;
     writer.how = how;
     writer.buffer = writer.small;
