@@ -56,9 +56,9 @@ def count_of_tests(done: Done) -> int:
 
 
 def copied(crate: Path, to: Path) -> Path:
-    """A fresh copy of a crate's folder, since cargo writes next to what it builds."""
+    """A fresh copy of a crate's folder, without what was built there, since cargo writes next to what it builds."""
     shutil.rmtree(to, ignore_errors=True)
-    shutil.copytree(crate, to, ignore=shutil.ignore_patterns("target", "Cargo.lock"))
+    shutil.copytree(crate, to, ignore=shutil.ignore_patterns("lib", "target", "Cargo.lock"))
     return to
 
 

@@ -1,6 +1,5 @@
 """What the tests of the Rust side are given, and which of them are left out for want of something."""
 
-import os
 import shutil
 import time
 from pathlib import Path
@@ -10,13 +9,12 @@ from crates import TOP
 
 from tests.left_out import leave_out, needs_of
 from tests.notes import NOTES
+from tests.oracle.crate import named, packages_for
 from tests.rust.cargo import COPIES, CRATES, OF_DEBIAN, OLDEST, OUT, RUST, TRIPLE, Given
 from tests.rust.cargo import assert_well, copied, given, package, run
 from tests.rust.manifests import BOTH, VALUES
 from tests.rust.relay import SERVER
 
-# Where Debian has Rust packages.
-DEBIAN = Path("/usr/share/cargo/registry")
 # How long building what is proved may take: it is proved first, and may wait for another step that builds it.
 PROVING_SECONDS = 3_600
 ARCHIVE = "libamqp_values.a"
@@ -25,10 +23,9 @@ NAMES = {"--crate": "crate", SERVER: "broker", OLDEST: "rustc"}
 
 
 def pytest_addoption(parser: pytest.Parser) -> None:
-    named, group = os.environ.get("AMQ_PROTOCOL_TYPES"), parser.getgroup("this repository")
-    crate, packages = Path(named) if named else None, DEBIAN if DEBIAN.is_dir() else None
-    group.addoption("--crate", type=Path, metavar="FOLDER", default=crate, help="the Rust crate, over nom 7")
-    group.addoption("--packages", type=Path, metavar="FOLDER", default=packages, help="from where cargo takes them all")
+    group = parser.getgroup("this repository")
+    group.addoption("--crate", type=Path, metavar="FOLDER", default=named(), help="the Rust crate")
+    group.addoption("--packages", type=Path, metavar="FOLDER", help="from where cargo takes all packages")
     group.addoption("--count", type=int, default=100_000, help="how many random inputs are tried (100,000)")
     group.addoption("--times", action="store_true", help="measure times, too")
 
@@ -36,6 +33,8 @@ def pytest_addoption(parser: pytest.Parser) -> None:
 def pytest_configure(config: pytest.Config) -> None:
     """What is random is another in each run. (pytest calls this before that of tests/conftest.py, which it has read earlier.)"""
     config.addinivalue_line("markers", "needs(name, ..): options or programs that a test needs")
+    if config.option.crate and not config.option.packages:
+        config.option.packages = packages_for(config.option.crate)
     if config.option.seed is None:
         config.option.seed = int(time.time())
 

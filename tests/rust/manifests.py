@@ -39,7 +39,7 @@ verbose-errors = ["original/verbose-errors", "drop-in/verbose-errors"]
 original = {{ package = "amq-protocol-types", path = "{crate}" }}
 drop-in = {{ package = "amq-protocol-types", path = "{drop_in}" }}
 cookie-factory = "0.3"
-nom = "7"
+nom = "8"
 serde_json = "1"
 [workspace]
 """
@@ -56,10 +56,9 @@ name = "values_times"
 path = "{here}/values_times.rs"
 [dependencies]
 amqp-values = {{ path = "{crates}/amqp-values" }}
-amqp-values-sys = {{ path = "{crates}/amqp-values-sys" }}
 original = {{ package = "amq-protocol-types", path = "{crate}" }}
 cookie-factory = "0.3"
-nom = "7"
+nom = "8"
 [workspace]
 """
 # The programs of docs/UPSTREAM.md.

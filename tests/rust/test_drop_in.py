@@ -71,7 +71,7 @@ def test_clippy(rust: Given, drop_in: Path) -> None:
     """What clippy says of the drop-in, it says of the crate's own sources only."""
     done = rust.cargo(drop_in, "clippy")
     assert_well(done)
-    assert re.findall(r"--> (src/(?:calls|checked|limits)\.rs|build\.rs):\d+", done.stderr) == []
+    assert re.findall(r"--> (src/(?:checked|limits)\.rs):\d+", done.stderr) == []
 
 
 @pytest.mark.parametrize(

@@ -12,29 +12,6 @@ from tests.rust.cargo import CRATES, DROP_IN, HERE, RUST, assert_well, run
 HEADER = TOP / "include/amqp_values.h"
 DECLARES = RUST / "declarations"
 LAYOUT = "max_width=120,use_small_heuristics=Max"
-# The constants of the drop-in, by their names in the header.
-CONSTANTS = {"OK": "AMQPV_OK", "RULES_READ": "AMQPV_RULES_READ", "TOO_DEEP": "AMQPV_PROBLEM_TOO_DEEP"}
-CALLS = (DROP_IN / "calls.rs").read_text()
-
-
-def parameters(text: str) -> dict[str, list[str]]:
-    """The calls that a text declares, each with the names of its parameters."""
-    found = re.findall(r"\b(amqpv_\w+)\(([^()]*)\)(?:;| -> c_int;)", text)
-    return {
-        name: [re.findall(r"\w+", it.split(":")[0])[-1] for it in said.split(",") if it.strip()] for name, said in found
-    }
-
-
-@pytest.mark.parametrize("call", parameters(CALLS))
-def test_call_of_drop_in(call: str) -> None:
-    """The drop-in declares a call as the header does."""
-    assert parameters(CALLS)[call] == parameters(HEADER.read_text()).get(call)
-
-
-@pytest.mark.parametrize("name", CONSTANTS)
-def test_constant_of_drop_in(name: str) -> None:
-    value = re.search(rf"const {name}: \w+ = (\d+);", CALLS)
-    assert value and re.search(rf"\b{CONSTANTS[name]} = {value[1]}\b", HEADER.read_text())
 
 
 def sources(edition: str) -> Iterator[Path]:

@@ -12,17 +12,13 @@ from tests.rust.cargo import OUT, Given, assert_well
 
 # How long the drop-in may take over one slice and over two, as ratios. What is one large string is copied from two slices, which
 # takes longer.
-MOST_OF_ONE, MOST_OF_TWO = 1.35, 1.0
+MOST_OF_ONE, MOST_OF_TWO = 1.35, 1.1
 LARGE = ("16 MiB string", "1 MiB byte array")
-# How long amqp-values may take to read, to check, and to check before the crate parses, next to the crate; and amqpv_next next to
-# such a function in Rust.
-MOST_TO_READ, MOST_TO_CHECK, MOST_OF_BOTH, MOST_TO_RUST = 0.10, 0.20, 1.25, 1.1
+# How long amqp-values may take to read, to check, and to check before the crate parses, next to the crate.
+MOST_TO_READ, MOST_TO_CHECK, MOST_OF_BOTH = 0.10, 0.20, 1.25
 INPUTS = [*ten()]
 OF_DROP_IN = "| Input | The crate, us | One slice | The crate, us | Two slices |\n|---|---:|---:|---:|---:|"
-OF_VALUES = (
-    "| Input | The crate, us | `read` | `check` | `check`, then the crate | An entry in C, ns | to Rust | by iterators, ns |\n|---|"
-    + "---:|" * 7
-)
+OF_VALUES = "| Input | The crate, us | `read` | `check` | `check`, then the crate | An entry, ns |\n|---|" + "---:|" * 5
 # The numbers that a program prints for each input, by its row.
 Times = dict[str, list[float]]
 
@@ -61,9 +57,8 @@ def of_values(rust: Given, values: Path, notes: list[str]) -> Times:
     found = timed(rust, values, "values_times")
     notes.append(OF_VALUES)
     for row, numbers in found.items():
-        parse, read, check, both, in_c, to_rust, safe = numbers
-        ratios = f"{read:.2f} | {check:.2f} | {both:.2f} | {in_c:.1f} | {to_rust:.2f}"
-        notes.append(f"| {row} | {parse:.1f} | {ratios} | {safe:.1f} |")
+        parse, read, check, both, entry = numbers
+        notes.append(f"| {row} | {parse:.1f} | {read:.2f} | {check:.2f} | {both:.2f} | {entry:.1f} |")
     return found
 
 
@@ -74,9 +69,7 @@ def test_drop_in(of_drop_in: Times, given: Input) -> None:
 
 
 def test_values(of_values: Times, given: Input) -> None:
-    _, read, check, both, _, to_rust, _ = of_values[given.row]
+    _, read, check, both, _ = of_values[given.row]
     assert read <= MOST_TO_READ
     assert check <= MOST_TO_CHECK
     assert both <= MOST_OF_BOTH
-    # of a table with one entry there is little to measure
-    assert to_rust <= MOST_TO_RUST or given.label in LARGE

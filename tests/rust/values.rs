@@ -180,8 +180,8 @@ fn built<'b>(buffer: &'b mut [u8], pairs: &FieldTable) -> Result<&'b [u8], Write
     table.finish()
 }
 
-/// Builds a table with the value, which has to be what the crate writes, and one with a copy of what was read.
-fn check_built(value: ValueRef<'_>, theirs: &AMQPValue) -> Checked<()> {
+/// Builds a table with the value, which has to be what the crate writes, and one with a copy of what was read, of so many bytes.
+fn check_built(value: ValueRef<'_>, bytes: usize, theirs: &AMQPValue) -> Checked<()> {
     let mut pairs = FieldTable::default();
     pairs.insert(ShortString::from("key"), theirs.clone());
     let wanted = cookie_factory::r#gen(gen_field_table(&pairs), Vec::new()).expect("a vector takes all").0;
@@ -190,23 +190,13 @@ fn check_built(value: ValueRef<'_>, theirs: &AMQPValue) -> Checked<()> {
     let short = built(&mut buffer[1..], &pairs);
     ensure(matches!(short, Err(WriteError::BufferTooSmall { .. })), "a table is built in too small a buffer")?;
 
-    let mut buffer = vec![0; 64 + 4 * wanted.len() + encoded(value)];
+    let mut buffer = vec![0; 16 + bytes];
     let mut table = TableBuilder::new(&mut buffer).map_err(|it| it.to_string())?;
     table.put("key", value).map_err(|it| it.to_string())?;
     let copied = table.finish().map_err(|it| it.to_string())?;
     let (copy, rest) = read_table(copied, LIMITS).map_err(|it| it.to_string())?;
     let is_copied = copy.get("key").is_some_and(|it| written(&tree(it)) == written(theirs));
     ensure(rest.is_empty() && is_copied, "another value is copied")
-}
-
-/// How many bytes a value has at most, of its equal keys all.
-fn encoded(value: ValueRef<'_>) -> usize {
-    match value {
-        ValueRef::LongString(bytes) | ValueRef::ByteArray(bytes) => 5 + bytes.len(),
-        ValueRef::FieldArray(array) => 5 + array.iter().map(encoded).sum::<usize>(),
-        ValueRef::FieldTable(table) => 5 + table.iter().map(|(key, it)| 1 + key.len() + encoded(it)).sum::<usize>(),
-        _ => 9,
-    }
 }
 
 /// Checks a value that both read.
@@ -222,7 +212,7 @@ fn check_value(
     ensure(measure == Measure { bytes: length - rest.len(), values, levels }, "it is measured otherwise")?;
     check_tables(value)?;
     check_path(dice, value, &theirs)?;
-    check_built(value, &theirs)
+    check_built(value, measure.bytes, &theirs)
 }
 
 /// Whether more is claimed, by a length after the type tag, than the limit.

@@ -2,10 +2,10 @@
 
 use crate::{
     FieldArray, FieldTable, ShortShortUInt,
-    calls::{self, Measure, Problem},
     limits::{self, Limits, Refusal, Refused},
     parsing::{ParserError, ParserErrors, ParserResult, parse_long_uint, traits::ParsableInput, within_limits},
 };
+use amqp_values::{Error, Measure, Problem, ProblemKind};
 use cookie_factory::GenError;
 use nom::{
     Parser,
@@ -20,8 +20,8 @@ const TAG: usize = 1;
 
 /// What is checked and then parsed: an array or a table without its type tag.
 pub(crate) trait Container: Sized {
-    /// Measures all of it, within limits.
-    fn measure(bytes: &[u8], limits: &Limits) -> Result<Measure, Refusal>;
+    /// Checks all of it, within limits.
+    fn check(bytes: &[u8], limits: amqp_values::Limits) -> Result<Measure, Error>;
 
     /// Parses what was checked.
     fn parse(bytes: &[u8]) -> ParserResult<&[u8], Self>;
@@ -31,8 +31,8 @@ pub(crate) trait Container: Sized {
 }
 
 impl Container for FieldTable {
-    fn measure(bytes: &[u8], limits: &Limits) -> Result<Measure, Refusal> {
-        Ok(calls::measure_table(bytes, limits.depth)?)
+    fn check(bytes: &[u8], limits: amqp_values::Limits) -> Result<Measure, Error> {
+        amqp_values::check_table(bytes, limits)
     }
 
     fn parse(bytes: &[u8]) -> ParserResult<&[u8], Self> {
@@ -50,17 +50,8 @@ impl Container for FieldTable {
 }
 
 impl Container for FieldArray {
-    fn measure(bytes: &[u8], limits: &Limits) -> Result<Measure, Refusal> {
-        let depth = limits.depth.checked_sub(1).ok_or(Refusal::TooDeep)?;
-        let mut all = Measure { length: LENGTH, values: 1, levels: 1 };
-        while let Some(left) = bytes.get(all.length..).filter(|it| !it.is_empty()) {
-            let value = calls::measure_value(left, depth)?;
-            all.length += value.length;
-            all.values += value.values;
-            all.levels = all.levels.max(1 + value.levels);
-            within_values(&all, limits)?;
-        }
-        Ok(all)
+    fn check(bytes: &[u8], limits: amqp_values::Limits) -> Result<Measure, Error> {
+        amqp_values::check(&[b"A", bytes].concat(), limits)
     }
 
     fn parse(bytes: &[u8]) -> ParserResult<&[u8], Self> {
@@ -72,18 +63,14 @@ impl Container for FieldArray {
     }
 }
 
-impl From<Problem> for Refusal {
-    fn from(problem: Problem) -> Self {
-        match problem {
-            Problem::TooDeep => Self::TooDeep,
-            Problem::Malformed => Self::Malformed,
+impl From<Error> for Refusal {
+    fn from(error: Error) -> Self {
+        match error {
+            Error::Problem(Problem { kind: ProblemKind::TooDeep, .. }) => Self::TooDeep,
+            Error::Problem(Problem { kind: ProblemKind::TooManyValues, .. }) => Self::TooManyValues,
+            _ => Self::Malformed,
         }
     }
-}
-
-fn within_values(measure: &Measure, limits: &Limits) -> Result<(), Refusal> {
-    let is_within = u32::try_from(measure.values).is_ok_and(|it| it <= limits.values);
-    is_within.then_some(()).ok_or(Refusal::TooManyValues)
 }
 
 /// Parses an array or a table without its type tag, if it is within the limits of the process.
@@ -98,7 +85,7 @@ pub(crate) fn parse_container<I: ParsableInput, T: Container>(input: I) -> Parse
     let (rest, _) = take::<_, _, ParserErrors>(length).parse(after)?;
     let field = input.take(LENGTH + length);
     let parsed =
-        if is_within { with_bytes(&field, |bytes| parse_within(bytes, &limits)) } else { Err(Refusal::TooLarge) };
+        if is_within { with_bytes(&field, |bytes| parse_within(bytes, limits)) } else { Err(Refusal::TooLarge) };
     match parsed {
         Ok(value) => Ok((rest, value?)),
         Err(refusal) => match T::refused(refusal, limits.refused) {
@@ -108,8 +95,9 @@ pub(crate) fn parse_container<I: ParsableInput, T: Container>(input: I) -> Parse
     }
 }
 
-fn parse_within<T: Container>(bytes: &[u8], limits: &Limits) -> Result<Result<T, ParserError>, Refusal> {
-    within_values(&T::measure(bytes, limits)?, limits)?;
+fn parse_within<T: Container>(bytes: &[u8], limits: Limits) -> Result<Result<T, ParserError>, Refusal> {
+    let Limits { bytes: most, depth, values, .. } = limits;
+    T::check(bytes, amqp_values::Limits { bytes: most, depth, values })?;
     Ok(T::parse(bytes).map(|(_, value)| value))
 }
 

@@ -15,7 +15,7 @@ static LIMITS: RwLock<Limits> = RwLock::new(Limits::DEFAULT);
 pub struct Limits {
     /// How many bytes it may have, its type tag included.
     pub bytes: u32,
-    /// How deep arrays and tables may nest, itself included.
+    /// How deep arrays and tables may nest, itself included. More than 4096 is as much as that.
     ///
     /// A thread's stack has to suffice for that: a level takes about 1 KiB, in a debug build 8 KiB.
     pub depth: u32,

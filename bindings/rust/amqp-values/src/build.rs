@@ -1,10 +1,6 @@
-use crate::calls::Body;
-use crate::value::Payload;
+use crate::calls::{Body, LENGTH};
 use crate::{ValueRef, WriteError};
 use amqp_values_sys::{amqpv_container, amqpv_span, AMQPV_ARRAY, AMQPV_TABLE};
-
-/// How many bytes the length of a table has.
-const LENGTH: usize = 4;
 
 /// Builds a table in a buffer, pair by pair.
 ///
@@ -36,7 +32,7 @@ impl<'b> TableBuilder<'b> {
     ///
     /// Each [`WriteError`].
     pub fn put<'v>(&mut self, key: &str, value: impl Into<ValueRef<'v>>) -> Result<(), WriteError> {
-        self.0.put_value(key, value.into())
+        self.0.put(key, value.into())
     }
 
     /// Appends a key with a table, which a function fills.
@@ -85,7 +81,7 @@ impl ArrayBuilder<'_> {
     ///
     /// [`WriteError::BufferTooSmall`] or [`WriteError::TooLarge`].
     pub fn push<'v>(&mut self, value: impl Into<ValueRef<'v>>) -> Result<(), WriteError> {
-        self.0.put_value("", value.into())
+        self.0.put("", value.into())
     }
 
     /// Appends a table, which a function fills.
@@ -114,41 +110,15 @@ impl ArrayBuilder<'_> {
 }
 
 impl Body<'_> {
-    fn put_value(&mut self, key: &str, value: ValueRef<'_>) -> Result<(), WriteError> {
-        match value.parts() {
-            (tag, Payload::Fixed { bits, scale }) => self.put(key, tag, bits, scale),
-            (tag, Payload::Bytes(bytes)) => self.put_bytes(key, tag, bytes),
-            (tag, Payload::Body(bytes)) => self.put_body(key, tag, bytes),
-        }
-    }
-
-    /// Appends an array or a table with the body of one that was read.
-    fn put_body(&mut self, key: &str, tag: u8, bytes: &[u8]) -> Result<(), WriteError> {
-        let outer = self.into;
-        let mut body = self.open(key, tag, bytes.len())?;
-        let free = match self.buffer[body.written.offset..].get_mut(..bytes.len()) {
-            Some(free) => free,
-            None => {
-                self.into = outer;
-                return Err(self.too_small(key, tag, bytes.len()));
-            }
-        };
-        free.copy_from_slice(bytes);
-        body.written.length = bytes.len();
-        self.close_filled(outer, &body, Ok(()))
-    }
-
     fn put_table(
         &mut self,
         key: &str,
         fill: impl FnOnce(&mut TableBuilder<'_>) -> Result<(), WriteError>,
     ) -> Result<(), WriteError> {
-        let outer = self.into;
-        let into = self.open(key, AMQPV_TABLE, 0)?;
-        let mut table = TableBuilder(Body { buffer: self.buffer, into });
-        let filled = fill(&mut table);
-        let body = table.0.into;
-        self.close_filled(outer, &body, filled)
+        self.put_filled(key, AMQPV_TABLE, |body| {
+            let mut table = TableBuilder(body);
+            fill(&mut table).map(|()| table.0.into)
+        })
     }
 
     fn put_array(
@@ -156,11 +126,9 @@ impl Body<'_> {
         key: &str,
         fill: impl FnOnce(&mut ArrayBuilder<'_>) -> Result<(), WriteError>,
     ) -> Result<(), WriteError> {
-        let outer = self.into;
-        let into = self.open(key, AMQPV_ARRAY, 0)?;
-        let mut array = ArrayBuilder(Body { buffer: self.buffer, into });
-        let filled = fill(&mut array);
-        let body = array.0.into;
-        self.close_filled(outer, &body, filled)
+        self.put_filled(key, AMQPV_ARRAY, |body| {
+            let mut array = ArrayBuilder(body);
+            fill(&mut array).map(|()| array.0.into)
+        })
     }
 }

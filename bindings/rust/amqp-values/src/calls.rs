@@ -1,120 +1,114 @@
 //! The calls for C as safe functions. No other module has `unsafe`.
 //!
-//! Most of what the header asks of callers holds for references: that bytes can be read or written, as many as a slice has, at
-//! most `isize::MAX`; that structs are aligned; that what is written overlaps nothing, and that no other thread sees it.
-//! `Limits` states the stack.
+//! What the header asks of callers holds for references: structs are aligned, what is written overlaps nothing else, and no slice
+//! has more than `isize::MAX` bytes. [`Limits`] says how much stack is needed.
 #![allow(unsafe_code)]
 
-use crate::{Error, Limits, Measure, Problem, ProblemKind, WriteError};
+use crate::value::Payload;
+use crate::{EqualKeys, Error, Limits, Measure, PathStep, Problem, ProblemKind, ValueRef, WriteError};
 use amqp_values_sys::*;
 use core::str;
 
-type ReadCall = unsafe extern "C" fn(*const u8, usize, u32, u32, *mut amqpv_entry, *mut usize) -> amqpv_result;
-type MeasureCall = unsafe extern "C" fn(*const u8, usize, u32, u32, *mut amqpv_measure, *mut usize) -> amqpv_result;
-type ProblemCall = unsafe extern "C" fn(*const u8, usize, u32, u32, u32, *mut amqpv_problem) -> amqpv_result;
-type FindCall =
-    unsafe extern "C" fn(*const u8, usize, *const amqpv_cursor, *const u8, usize, *mut amqpv_entry) -> amqpv_result;
+/// How many bytes the length of a table has.
+pub(crate) const LENGTH: usize = 4;
 
-/// The calls that read and check a value, or a table without its type tag.
-pub(crate) struct Reading {
-    read: ReadCall,
-    measure: MeasureCall,
-    first_problem: ProblemCall,
+/// A call that checks all of a value.
+type Check<T> = unsafe extern "C" fn(*const amqpv_input, *mut T, *mut amqpv_problem) -> amqpv_result;
+
+fn input(bytes: &[u8], flags: u32, limits: Limits) -> amqpv_input {
+    amqpv_input {
+        bytes: bytes.as_ptr(),
+        length: bytes.len(),
+        max_bytes: limits.bytes,
+        max_depth: limits.depth.min(Limits::MOST_DEPTH),
+        flags,
+    }
 }
 
-pub(crate) const VALUE: Reading =
-    Reading { read: amqpv_read, measure: amqpv_measure_value, first_problem: amqpv_first_problem };
-pub(crate) const TABLE: Reading =
-    Reading { read: amqpv_read_table, measure: amqpv_measure_table, first_problem: amqpv_first_problem_in_table };
+#[inline]
+fn checked<T: Default>(call: Check<T>, bytes: &[u8], flags: u32, limits: Limits) -> Result<T, Error> {
+    let (mut found, mut problem) = (T::default(), amqpv_problem::default());
+    // SAFETY: `bytes` can be read, `found` and `problem` are borrowed alone, and the stack suffices for the depth
+    match unsafe { call(&input(bytes, flags, limits), &mut found, &mut problem) } {
+        AMQPV_OK => Ok(found),
+        AMQPV_MORE => Err(Error::Incomplete { missing: problem.missing }),
+        result => Err(Error::Problem(Problem { offset: problem.offset, kind: kind_of(result, problem.tag) })),
+    }
+}
 
-fn depth(limits: Limits) -> u32 {
-    limits.depth.min(Limits::MOST_DEPTH)
+fn kind_of(result: amqpv_result, tag: u8) -> ProblemKind {
+    match result {
+        AMQPV_UNKNOWN_TAG => ProblemKind::UnknownTag(tag),
+        AMQPV_KEY_CUT => ProblemKind::KeyCut,
+        AMQPV_KEY_NOT_UTF8 => ProblemKind::KeyNotUtf8,
+        AMQPV_NOT_FINITE => ProblemKind::NotFinite,
+        AMQPV_TOO_DEEP => ProblemKind::TooDeep,
+        AMQPV_TOO_LARGE => ProblemKind::TooLarge,
+        // AMQPV_CUT: the flags are known
+        _ => ProblemKind::Cut,
+    }
 }
 
 fn within_values(values: usize, limits: Limits) -> bool {
     u32::try_from(values).map_or(false, |it| it <= limits.values)
 }
 
-impl Reading {
-    /// The entry at the start of the bytes, and how many of these it has.
-    #[inline]
-    pub(crate) fn read(&self, bytes: &[u8], limits: Limits) -> Result<(amqpv_entry, usize), Error> {
-        let (mut entry, mut count) = (amqpv_entry::default(), 0);
-        // SAFETY: `bytes` can be read, `entry` and `count` are borrowed alone, and the stack suffices for `depth`
-        let result =
-            unsafe { (self.read)(bytes.as_ptr(), bytes.len(), limits.bytes, depth(limits), &mut entry, &mut count) };
-        if result != AMQPV_OK {
-            return Err(self.error(result, count, bytes, limits));
-        }
-        // a value has at least a byte
-        if !within_values(count, limits) {
-            self.measure(bytes, limits)?;
-        }
-        Ok((entry, count))
+/// Reads the value at the start of the bytes.
+#[inline]
+pub(crate) fn read(bytes: &[u8], flags: u32, limits: Limits) -> Result<amqpv_entry, Error> {
+    let entry = checked(amqpv_read, bytes, flags, limits)?;
+    // each value has at least a byte
+    if !within_values(entry.value.length, limits) {
+        measure(bytes, flags, limits)?;
     }
+    Ok(entry)
+}
 
-    pub(crate) fn measure(&self, bytes: &[u8], limits: Limits) -> Result<Measure, Error> {
-        let (mut measure, mut count) = (amqpv_measure::default(), 0);
-        // SAFETY: `bytes` can be read, `measure` and `count` are borrowed alone, and the stack suffices for `depth`
-        let result = unsafe {
-            (self.measure)(bytes.as_ptr(), bytes.len(), limits.bytes, depth(limits), &mut measure, &mut count)
-        };
-        if result != AMQPV_OK {
-            return Err(self.error(result, count, bytes, limits));
-        }
-        if !within_values(measure.values, limits) {
-            return Err(Error::Problem(Problem { offset: 0, kind: ProblemKind::TooManyValues }));
-        }
-        Ok(Measure { bytes: measure.length, values: measure.values, levels: measure.levels })
+pub(crate) fn measure(bytes: &[u8], flags: u32, limits: Limits) -> Result<Measure, Error> {
+    let size = checked(amqpv_measure, bytes, flags, limits)?;
+    if !within_values(size.values, limits) {
+        return Err(Error::Problem(Problem { offset: 0, kind: ProblemKind::TooManyValues }));
     }
+    Ok(Measure { bytes: size.bytes, values: size.values, levels: size.levels })
+}
 
-    pub(crate) fn first_problem(&self, bytes: &[u8], rules: u32, limits: Limits) -> Option<Problem> {
-        let mut problem = amqpv_problem::default();
-        // SAFETY: `bytes` can be read, `problem` is borrowed alone, and the stack suffices for `depth`
-        let result = unsafe {
-            (self.first_problem)(bytes.as_ptr(), bytes.len(), rules, limits.bytes, depth(limits), &mut problem)
-        };
-        (result == AMQPV_OK).then(|| Problem { offset: problem.offset, kind: kind_of(&problem) })
-    }
-
-    /// Why bytes aren't read, by what reading them returned.
-    #[cold]
-    fn error(&self, result: amqpv_result, count: usize, bytes: &[u8], limits: Limits) -> Error {
-        if result == AMQPV_MORE {
-            return Error::Incomplete { missing: count };
-        }
-        // that there is a problem is a promise of amqpv_read
-        let problem = self.first_problem(bytes, AMQPV_RULES_READ, limits);
-        Error::Problem(problem.unwrap_or(Problem { offset: 0, kind: ProblemKind::Cut }))
+/// The first problem by RabbitMQ's rules.
+pub(crate) fn problem_for_rabbitmq(bytes: &[u8], flags: u32, limits: Limits) -> Option<Problem> {
+    match checked(amqpv_read, bytes, flags | AMQPV_RABBITMQ, limits).err()? {
+        Error::Incomplete { .. } => Some(Problem { offset: 0, kind: ProblemKind::Cut }),
+        Error::Problem(problem) => Some(problem),
     }
 }
 
-fn kind_of(problem: &amqpv_problem) -> ProblemKind {
-    match problem.kind {
-        AMQPV_PROBLEM_UNKNOWN_TAG => ProblemKind::UnknownTag(problem.tag),
-        AMQPV_PROBLEM_NOT_FINITE => ProblemKind::NotFinite,
-        AMQPV_PROBLEM_KEY_CUT => ProblemKind::KeyCut,
-        AMQPV_PROBLEM_TOO_DEEP => ProblemKind::TooDeep,
-        AMQPV_PROBLEM_TOO_LARGE => ProblemKind::TooLarge,
-        AMQPV_PROBLEM_KEY_NOT_UTF8 => ProblemKind::KeyNotUtf8,
-        // AMQPV_PROBLEM_CUT, as there are no other kinds
-        _ => ProblemKind::Cut,
+/// What others than RabbitMQ may not accept, if there is anything.
+#[cfg(feature = "std")]
+pub(crate) fn warn(
+    bytes: &[u8],
+    flags: u32,
+    limits: Limits,
+    frame_max: u32,
+    levels: u32,
+) -> Result<Option<amqpv_warnings>, crate::OutOfMemory> {
+    // a level takes more stack than one of reading
+    let limits = Limits { depth: limits.depth.min(Limits::MOST_DEPTH / 4), ..limits };
+    let mut warnings = amqpv_warnings::default();
+    // SAFETY: `bytes` can be read, `warnings` is borrowed alone, and the stack suffices for the depth
+    match unsafe { amqpv_warn(&input(bytes, flags, limits), frame_max, levels, &mut warnings) } {
+        AMQPV_OK => Ok(Some(warnings)),
+        AMQPV_NONE => Ok(None),
+        // AMQPV_NO_MEMORY: the flags are known
+        _ => Err(crate::OutOfMemory),
     }
 }
 
-/// The bytes of a span, which is inside of these bytes.
-fn bytes_of(bytes: &[u8], span: amqpv_span) -> &[u8] {
+/// The bytes of a span of an entry, which is inside these bytes.
+pub(crate) fn bytes_of(bytes: &[u8], span: amqpv_span) -> &[u8] {
     &bytes[span.offset..][..span.length]
-}
-
-/// The content of an entry of these bytes.
-pub(crate) fn content_of<'a>(bytes: &'a [u8], entry: &amqpv_entry) -> &'a [u8] {
-    bytes_of(bytes, entry.content)
 }
 
 /// The key of an entry in the body of a table that was read.
 pub(crate) fn key_of<'a>(body: &'a [u8], entry: &amqpv_entry) -> &'a str {
-    // SAFETY: amqpv_read and amqpv_read_table check the UTF-8 of all keys
+    // SAFETY: amqpv_read checks that all keys are UTF-8
     unsafe { str::from_utf8_unchecked(bytes_of(body, entry.key)) }
 }
 
@@ -128,28 +122,27 @@ pub(crate) fn cursor(body: &[u8], tag: u8) -> amqpv_cursor {
 pub(crate) fn next(body: &[u8], cursor: &mut amqpv_cursor) -> Option<amqpv_entry> {
     let mut entry = amqpv_entry::default();
     // SAFETY: `body` can be read, `cursor` and `entry` are borrowed alone
-    let result = unsafe { amqpv_next(body.as_ptr(), body.len(), cursor, &mut entry) };
+    let result = unsafe { amqpv_next(&input(body, 0, Limits::DEFAULT), cursor, &mut entry) };
     (result == AMQPV_OK).then_some(entry)
 }
 
-/// The last entry with a key, in the body of a table that was read.
-pub(crate) fn find(body: &[u8], key: &str) -> Option<amqpv_entry> {
-    find_by(amqpv_find, body, key)
-}
-
-/// The first entry with a key, in the body of a table that was read.
-pub(crate) fn find_first(body: &[u8], key: &str) -> Option<amqpv_entry> {
-    find_by(amqpv_find_first, body, key)
-}
-
-fn find_by(call: FindCall, body: &[u8], key: &str) -> Option<amqpv_entry> {
-    let (cursor, mut entry) = (cursor(body, AMQPV_TABLE), amqpv_entry::default());
+/// The entry that a step leads to, from a container with this body that was read.
+pub(crate) fn find(body: &[u8], tag: u8, step: PathStep<'_>, of_equal: EqualKeys) -> Option<amqpv_entry> {
+    let (key, index, into) = match step {
+        PathStep::Key(key) => (key, 0, AMQPV_TABLE),
+        PathStep::Index(index) => ("", index, AMQPV_ARRAY),
+    };
+    let step = amqpv_step { key: key.as_ptr(), key_length: key.len(), index, into };
+    let content = amqpv_span { offset: 0, length: body.len() };
+    let from = amqpv_entry { content, tag, ..amqpv_entry::default() };
+    let flags = if of_equal == EqualKeys::First { AMQPV_FIRST_KEY } else { 0 };
+    let mut entry = amqpv_entry::default();
     // SAFETY: `body` and `key` can be read, and `entry` is borrowed alone
-    let result = unsafe { call(body.as_ptr(), body.len(), &cursor, key.as_ptr(), key.len(), &mut entry) };
+    let result = unsafe { amqpv_find(&input(body, flags, Limits::DEFAULT), &from, &step, 1, &mut entry) };
     (result == AMQPV_OK).then_some(entry)
 }
 
-/// A body that is being built in a buffer.
+/// A container that is being built in a buffer.
 #[derive(Debug)]
 pub(crate) struct Body<'b> {
     pub(crate) buffer: &'b mut [u8],
@@ -157,74 +150,60 @@ pub(crate) struct Body<'b> {
 }
 
 impl Body<'_> {
-    /// Appends a value of fixed width.
-    pub(crate) fn put(&mut self, key: &str, tag: u8, bits: u64, scale: u8) -> Result<(), WriteError> {
-        let (buffer, capacity) = (self.buffer.as_mut_ptr(), self.buffer.len());
-        // SAFETY: the buffer can be written, `key` can be read, and `into` is borrowed alone
-        let result = unsafe { amqpv_put(buffer, capacity, &mut self.into, key.as_ptr(), key.len(), tag, bits, scale) };
-        self.put_if(result, key, tag, 0)
+    pub(crate) fn put(&mut self, key: &str, value: ValueRef<'_>) -> Result<(), WriteError> {
+        let (buffer, capacity, into) = (self.buffer.as_mut_ptr(), self.buffer.len(), &mut self.into);
+        let (key, key_length) = (key.as_ptr(), key.len());
+        // a value that was read is within the most that limits can be
+        let most = Limits { bytes: u32::MAX, depth: Limits::MOST_DEPTH, values: u32::MAX };
+        // SAFETY: the buffer can be written, the key and what is put can be read, and `into` is borrowed alone
+        let result = unsafe {
+            match value.payload() {
+                Payload::Fixed { tag, bits, scale } => {
+                    amqpv_put(buffer, capacity, into, key, key_length, tag, bits, scale)
+                }
+                Payload::Bytes { tag, bytes } => {
+                    let (at, length) = (bytes.as_ptr().cast(), bytes.len());
+                    amqpv_put_bytes(buffer, capacity, into, key, key_length, tag, at, length)
+                }
+                Payload::Container { encoding, flags } => {
+                    amqpv_put_value(buffer, capacity, into, key, key_length, &input(encoding, flags, most))
+                }
+            }
+        };
+        self.done(result)
     }
 
-    /// Appends a string or a byte array.
-    pub(crate) fn put_bytes(&mut self, key: &str, tag: u8, bytes: &[u8]) -> Result<(), WriteError> {
-        let (buffer, capacity, length) = (self.buffer.as_mut_ptr(), self.buffer.len(), bytes.len());
-        let at = bytes.as_ptr().cast();
-        // SAFETY: the buffer can be written, `key` and `bytes` can be read, and `into` is borrowed alone
-        let result =
-            unsafe { amqpv_put_bytes(buffer, capacity, &mut self.into, key.as_ptr(), key.len(), tag, at, length) };
-        self.put_if(result, key, tag, length)
-    }
-
-    /// Begins an array or a table, of which so many bytes are to be written.
-    pub(crate) fn open(&mut self, key: &str, tag: u8, length: usize) -> Result<amqpv_container, WriteError> {
-        let (buffer, capacity, mut body) = (self.buffer.as_mut_ptr(), self.buffer.len(), amqpv_container::default());
-        // SAFETY: the buffer can be written, `key` can be read, and `into` and `body` are borrowed alone
-        let result = unsafe { amqpv_open(buffer, capacity, &mut self.into, key.as_ptr(), key.len(), tag, &mut body) };
-        self.put_if(result, key, tag, length)?;
-        Ok(body)
-    }
-
-    /// Ends an array or a table that was begun.
-    fn close(&mut self, body: &amqpv_container) -> Result<(), WriteError> {
-        // SAFETY: the buffer can be written, and `into` is borrowed alone
-        let result = unsafe { amqpv_close(self.buffer.as_mut_ptr(), self.buffer.len(), &mut self.into, body) };
-        self.put_if(result, "", body.tag, 0)
-    }
-
-    /// Ends an array or a table that was begun after `outer`, if it is filled; after an error nothing of it is there.
-    pub(crate) fn close_filled(
+    /// Appends an array or a table, which a function fills; it returns what is then written. After an error nothing of it is there.
+    pub(crate) fn put_filled(
         &mut self,
-        outer: amqpv_container,
-        body: &amqpv_container,
-        filled: Result<(), WriteError>,
+        key: &str,
+        tag: u8,
+        fill: impl FnOnce(Body<'_>) -> Result<amqpv_container, WriteError>,
     ) -> Result<(), WriteError> {
-        let closed = filled.and_then(|()| self.close(body));
+        let outer = self.into;
+        let (buffer, capacity, mut into) = (self.buffer.as_mut_ptr(), self.buffer.len(), amqpv_container::default());
+        // SAFETY: the buffer can be written, `key` can be read, and both containers are borrowed alone
+        let result = unsafe { amqpv_open(buffer, capacity, &mut self.into, key.as_ptr(), key.len(), tag, &mut into) };
+        self.done(result)?;
+        let closed = fill(Body { buffer: self.buffer, into }).and_then(|body| {
+            // SAFETY: the buffer can be written, and `into` is borrowed alone
+            let result = unsafe { amqpv_close(self.buffer.as_mut_ptr(), capacity, &mut self.into, &body) };
+            self.done(result)
+        });
         if closed.is_err() {
             self.into = outer;
         }
         closed
     }
 
-    /// What became of an entry, by what putting it returned.
-    fn put_if(&self, result: amqpv_result, key: &str, tag: u8, length: usize) -> Result<(), WriteError> {
+    /// What a call returned that puts something.
+    fn done(&self, result: amqpv_result) -> Result<(), WriteError> {
         match result {
             AMQPV_OK => Ok(()),
             AMQPV_BAD_KEY => Err(WriteError::KeyTooLong),
-            AMQPV_NO_ROOM => Err(self.too_small(key, tag, length)),
+            AMQPV_NO_ROOM => Err(WriteError::BufferTooSmall { needed: self.into.needed }),
             // AMQPV_TOO_LARGE: the structs are right, and so are tags, bits and scales
             _ => Err(WriteError::TooLarge),
-        }
-    }
-
-    #[cold]
-    pub(crate) fn too_small(&self, key: &str, tag: u8, length: usize) -> WriteError {
-        let mut needed = 0;
-        // SAFETY: `into` can be read, and `needed` is borrowed alone
-        let result = unsafe { amqpv_needed(&self.into, key.len(), tag, length, &mut needed) };
-        if result == AMQPV_OK {
-            WriteError::BufferTooSmall { needed }
-        } else {
-            WriteError::TooLarge
         }
     }
 }

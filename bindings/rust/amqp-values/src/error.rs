@@ -58,6 +58,11 @@ pub enum WriteError {
     TooLarge,
 }
 
+/// There isn't enough memory.
+#[cfg(feature = "std")]
+#[derive(Clone, Copy, Debug, PartialEq, Eq)]
+pub struct OutOfMemory;
+
 impl fmt::Display for Error {
     fn fmt(&self, f: &mut fmt::Formatter<'_>) -> fmt::Result {
         match self {
@@ -99,7 +104,16 @@ impl fmt::Display for WriteError {
 }
 
 #[cfg(feature = "std")]
+impl fmt::Display for OutOfMemory {
+    fn fmt(&self, f: &mut fmt::Formatter<'_>) -> fmt::Result {
+        f.write_str("out of memory")
+    }
+}
+
+#[cfg(feature = "std")]
 impl std::error::Error for Error {}
+#[cfg(feature = "std")]
+impl std::error::Error for OutOfMemory {}
 #[cfg(feature = "std")]
 impl std::error::Error for Problem {}
 #[cfg(feature = "std")]

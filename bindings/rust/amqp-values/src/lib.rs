@@ -1,7 +1,7 @@
 //! AMQP 0-9-1 field tables: checked within limits, read in place, and built in a buffer.
 //!
-//! All work is done by the calls for C of `libamqp_values.a`, which are proved. Nothing is copied or allocated in reading, and
-//! no input makes a function panic, or recurse deeper than [`Limits::depth`].
+//! All work is done by the calls of `libamqp_values.a`, which are proved. Reading copies and allocates nothing, and no input makes
+//! a function panic, or recurse deeper than [`Limits::depth`].
 //!
 //! ```
 //! use amqp_values::{read_table, EqualKeys, Error, Limits, PathStep::*, TableBuilder, ValueRef, WriteError};
@@ -39,6 +39,8 @@ mod read;
 mod value;
 
 pub use build::{ArrayBuilder, TableBuilder};
+#[cfg(feature = "std")]
+pub use error::OutOfMemory;
 pub use error::{Error, Problem, ProblemKind, WriteError};
 pub use iter::{ArrayValues, TablePairs};
 pub use limits::{Limits, Measure};

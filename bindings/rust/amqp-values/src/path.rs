@@ -1,5 +1,6 @@
-use crate::calls::{find, find_first};
+use crate::calls::find;
 use crate::{ArrayRef, TableRef, ValueRef};
+use amqp_values_sys::{AMQPV_ARRAY, AMQPV_TABLE};
 
 /// A step from a container to a value in it.
 #[derive(Clone, Copy, Debug, PartialEq, Eq)]
@@ -23,7 +24,7 @@ impl<'a> ArrayRef<'a> {
     /// Returns the value at a position, counted from 0.
     #[must_use]
     pub fn get(self, index: usize) -> Option<ValueRef<'a>> {
-        self.iter().nth(index)
+        ValueRef::FieldArray(self).step(PathStep::Index(index), EqualKeys::Last)
     }
 }
 
@@ -31,14 +32,14 @@ impl<'a> TableRef<'a> {
     /// Returns the value at a key, of equal keys the last one's.
     #[must_use]
     pub fn get(self, key: &str) -> Option<ValueRef<'a>> {
-        find(self.body(), key).map(|entry| ValueRef::of(self.body(), &entry))
+        ValueRef::FieldTable(self).step(PathStep::Key(key), EqualKeys::Last)
     }
 
     /// Returns the value at a key, of equal keys the first one's: what RabbitMQ 3.10.8, 4.0.5 and 4.3.6 use of arguments.
     /// Of a message's headers 3.10.8 routes by it; 4.0.5 and 4.3.6 deliver it, and route by the last.
     #[must_use]
     pub fn get_first(self, key: &str) -> Option<ValueRef<'a>> {
-        find_first(self.body(), key).map(|entry| ValueRef::of(self.body(), &entry))
+        ValueRef::FieldTable(self).step(PathStep::Key(key), EqualKeys::First)
     }
 
     /// Returns the value that the steps lead to, as [`ValueRef::get_path`].
@@ -58,11 +59,11 @@ impl<'a> ValueRef<'a> {
     }
 
     fn step(self, step: PathStep<'_>, of_equal: EqualKeys) -> Option<Self> {
-        match (self, step, of_equal) {
-            (Self::FieldTable(table), PathStep::Key(key), EqualKeys::First) => table.get_first(key),
-            (Self::FieldTable(table), PathStep::Key(key), EqualKeys::Last) => table.get(key),
-            (Self::FieldArray(array), PathStep::Index(index), _) => array.get(index),
-            _ => None,
-        }
+        let (body, tag) = match self {
+            Self::FieldArray(array) => (array.body(), AMQPV_ARRAY),
+            Self::FieldTable(table) => (table.body(), AMQPV_TABLE),
+            _ => return None,
+        };
+        find(body, tag, step, of_equal).map(|entry| Self::of(body, &entry))
     }
 }

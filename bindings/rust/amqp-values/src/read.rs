@@ -1,5 +1,5 @@
-use crate::calls::{content_of, TABLE, VALUE};
-use crate::{Error, Limits, Measure, TableRef, ValueRef};
+use crate::{calls, Error, Limits, Measure, TableRef, ValueRef};
+use amqp_values_sys::AMQPV_UNTAGGED;
 
 /// Reads the value at the start of the bytes, its type tag included: checks all of it, the UTF-8 of keys too, and returns it
 /// with the bytes after it.
@@ -11,8 +11,8 @@ use crate::{Error, Limits, Measure, TableRef, ValueRef};
 ///
 /// [`Error::Incomplete`] if more bytes are needed, else the first [`Problem`](crate::Problem).
 pub fn read(bytes: &[u8], limits: Limits) -> Result<(ValueRef<'_>, &[u8]), Error> {
-    let (entry, length) = VALUE.read(bytes, limits)?;
-    Ok((ValueRef::of(bytes, &entry), &bytes[length..]))
+    let entry = calls::read(bytes, 0, limits)?;
+    Ok((ValueRef::of(bytes, &entry), &bytes[entry.value.length..]))
 }
 
 /// Reads the table without its type tag at the start of the bytes, as methods and content headers have it: its length, then
@@ -22,8 +22,8 @@ pub fn read(bytes: &[u8], limits: Limits) -> Result<(ValueRef<'_>, &[u8]), Error
 ///
 /// Those of [`read`].
 pub fn read_table(bytes: &[u8], limits: Limits) -> Result<(TableRef<'_>, &[u8]), Error> {
-    let (entry, length) = TABLE.read(bytes, limits)?;
-    Ok((TableRef::of(content_of(bytes, &entry)), &bytes[length..]))
+    let entry = calls::read(bytes, AMQPV_UNTAGGED, limits)?;
+    Ok((TableRef::of(bytes, &entry), &bytes[entry.value.length..]))
 }
 
 /// Checks what [`read`] would read, and returns how large it is: to reject a value before something is made of it.
@@ -32,7 +32,7 @@ pub fn read_table(bytes: &[u8], limits: Limits) -> Result<(TableRef<'_>, &[u8]),
 ///
 /// Those of [`read`].
 pub fn check(bytes: &[u8], limits: Limits) -> Result<Measure, Error> {
-    VALUE.measure(bytes, limits)
+    calls::measure(bytes, 0, limits)
 }
 
 /// Checks what [`read_table`] would read, and returns how large it is.
@@ -41,5 +41,5 @@ pub fn check(bytes: &[u8], limits: Limits) -> Result<Measure, Error> {
 ///
 /// Those of [`read`].
 pub fn check_table(bytes: &[u8], limits: Limits) -> Result<Measure, Error> {
-    TABLE.measure(bytes, limits)
+    calls::measure(bytes, AMQPV_UNTAGGED, limits)
 }

@@ -1,4 +1,4 @@
-use crate::calls::content_of;
+use crate::calls::{bytes_of, LENGTH};
 use amqp_values_sys as sys;
 use core::str;
 
@@ -14,13 +14,15 @@ pub struct DecimalValue {
 /// An array in some bytes that were read. Two are equal if their bytes are.
 #[derive(Clone, Copy, Debug, PartialEq, Eq)]
 pub struct ArrayRef<'a> {
-    body: &'a [u8],
+    /// A type tag, a length and values.
+    encoding: &'a [u8],
 }
 
 /// A table in some bytes that were read. Two are equal if their bytes are.
 #[derive(Clone, Copy, Debug, PartialEq, Eq)]
 pub struct TableRef<'a> {
-    body: &'a [u8],
+    /// A length and pairs.
+    encoding: &'a [u8],
 }
 
 /// A value in some bytes that were read.
@@ -62,40 +64,42 @@ pub enum ValueRef<'a> {
     Void,
 }
 
-/// What follows a type tag.
+/// What a call puts.
 pub(crate) enum Payload<'a> {
-    /// Of a value of fixed width.
-    Fixed { bits: u64, scale: u8 },
-    /// Of a string or a byte array.
-    Bytes(&'a [u8]),
-    /// Of an array or a table.
-    Body(&'a [u8]),
+    /// A value of fixed width.
+    Fixed { tag: u8, bits: u64, scale: u8 },
+    /// A string or a byte array.
+    Bytes { tag: u8, bytes: &'a [u8] },
+    /// An array or a table, with the flags by which it is read.
+    Container { encoding: &'a [u8], flags: u32 },
 }
 
 impl<'a> ArrayRef<'a> {
-    pub(crate) const fn of(body: &'a [u8]) -> Self {
-        Self { body }
+    fn of(bytes: &'a [u8], entry: &sys::amqpv_entry) -> Self {
+        Self { encoding: bytes_of(bytes, entry.value) }
     }
 
-    pub(crate) const fn body(self) -> &'a [u8] {
-        self.body
+    pub(crate) fn body(self) -> &'a [u8] {
+        &self.encoding[1 + LENGTH..]
     }
 }
 
 impl<'a> TableRef<'a> {
-    pub(crate) const fn of(body: &'a [u8]) -> Self {
-        Self { body }
+    /// The table of an entry of these bytes, which may have a type tag or not.
+    pub(crate) fn of(bytes: &'a [u8], entry: &sys::amqpv_entry) -> Self {
+        let sys::amqpv_span { offset, length } = entry.content;
+        Self { encoding: &bytes[offset - LENGTH..offset + length] }
     }
 
-    pub(crate) const fn body(self) -> &'a [u8] {
-        self.body
+    pub(crate) fn body(self) -> &'a [u8] {
+        &self.encoding[LENGTH..]
     }
 }
 
 impl<'a> ValueRef<'a> {
     /// The value of an entry of these bytes.
     pub(crate) fn of(bytes: &'a [u8], entry: &sys::amqpv_entry) -> Self {
-        let (bits, content) = (entry.bits, || content_of(bytes, entry));
+        let (bits, content) = (entry.bits, || bytes_of(bytes, entry.content));
         match entry.tag {
             sys::AMQPV_BOOLEAN => Self::Boolean(bits != 0),
             sys::AMQPV_SHORT_SHORT_INT => Self::ShortShortInt(bits as i8),
@@ -109,39 +113,39 @@ impl<'a> ValueRef<'a> {
             sys::AMQPV_DOUBLE => Self::Double(f64::from_bits(bits)),
             sys::AMQPV_DECIMAL => Self::DecimalValue(DecimalValue { scale: entry.scale, value: bits as u32 }),
             sys::AMQPV_LONG_STRING => Self::LongString(content()),
-            sys::AMQPV_ARRAY => Self::FieldArray(ArrayRef::of(content())),
+            sys::AMQPV_ARRAY => Self::FieldArray(ArrayRef::of(bytes, entry)),
             sys::AMQPV_TIMESTAMP => Self::Timestamp(bits),
-            sys::AMQPV_TABLE => Self::FieldTable(TableRef::of(content())),
+            sys::AMQPV_TABLE => Self::FieldTable(TableRef::of(bytes, entry)),
             sys::AMQPV_BYTE_ARRAY => Self::ByteArray(content()),
             // an entry has no other tag than AMQPV_VOID
             _ => Self::Void,
         }
     }
 
-    /// The value's type tag, and its payload as the calls take it.
-    pub(crate) fn parts(self) -> (u8, Payload<'a>) {
-        let signed = |number: i64| Payload::Fixed { bits: number as u64, scale: 0 };
-        let fixed = |bits: u64| Payload::Fixed { bits, scale: 0 };
+    /// The value as the calls take it.
+    pub(crate) fn payload(self) -> Payload<'a> {
+        let fixed = |tag, bits| Payload::Fixed { tag, bits, scale: 0 };
+        let signed = |tag, number: i64| fixed(tag, number as u64);
         match self {
-            Self::Boolean(truth) => (sys::AMQPV_BOOLEAN, fixed(truth.into())),
-            Self::ShortShortInt(number) => (sys::AMQPV_SHORT_SHORT_INT, signed(number.into())),
-            Self::ShortShortUInt(number) => (sys::AMQPV_SHORT_SHORT_UINT, fixed(number.into())),
-            Self::ShortInt(number) => (sys::AMQPV_SHORT_INT, signed(number.into())),
-            Self::ShortUInt(number) => (sys::AMQPV_SHORT_UINT, fixed(number.into())),
-            Self::LongInt(number) => (sys::AMQPV_LONG_INT, signed(number.into())),
-            Self::LongUInt(number) => (sys::AMQPV_LONG_UINT, fixed(number.into())),
-            Self::LongLongInt(number) => (sys::AMQPV_LONG_LONG_INT, signed(number)),
-            Self::Float(number) => (sys::AMQPV_FLOAT, fixed(number.to_bits().into())),
-            Self::Double(number) => (sys::AMQPV_DOUBLE, fixed(number.to_bits())),
+            Self::Boolean(truth) => fixed(sys::AMQPV_BOOLEAN, truth.into()),
+            Self::ShortShortInt(number) => signed(sys::AMQPV_SHORT_SHORT_INT, number.into()),
+            Self::ShortShortUInt(number) => fixed(sys::AMQPV_SHORT_SHORT_UINT, number.into()),
+            Self::ShortInt(number) => signed(sys::AMQPV_SHORT_INT, number.into()),
+            Self::ShortUInt(number) => fixed(sys::AMQPV_SHORT_UINT, number.into()),
+            Self::LongInt(number) => signed(sys::AMQPV_LONG_INT, number.into()),
+            Self::LongUInt(number) => fixed(sys::AMQPV_LONG_UINT, number.into()),
+            Self::LongLongInt(number) => signed(sys::AMQPV_LONG_LONG_INT, number),
+            Self::Float(number) => fixed(sys::AMQPV_FLOAT, number.to_bits().into()),
+            Self::Double(number) => fixed(sys::AMQPV_DOUBLE, number.to_bits()),
             Self::DecimalValue(DecimalValue { scale, value }) => {
-                (sys::AMQPV_DECIMAL, Payload::Fixed { bits: value.into(), scale })
+                Payload::Fixed { tag: sys::AMQPV_DECIMAL, bits: value.into(), scale }
             }
-            Self::LongString(bytes) => (sys::AMQPV_LONG_STRING, Payload::Bytes(bytes)),
-            Self::FieldArray(array) => (sys::AMQPV_ARRAY, Payload::Body(array.body)),
-            Self::Timestamp(seconds) => (sys::AMQPV_TIMESTAMP, fixed(seconds)),
-            Self::FieldTable(table) => (sys::AMQPV_TABLE, Payload::Body(table.body)),
-            Self::ByteArray(bytes) => (sys::AMQPV_BYTE_ARRAY, Payload::Bytes(bytes)),
-            Self::Void => (sys::AMQPV_VOID, fixed(0)),
+            Self::LongString(bytes) => Payload::Bytes { tag: sys::AMQPV_LONG_STRING, bytes },
+            Self::FieldArray(ArrayRef { encoding }) => Payload::Container { encoding, flags: 0 },
+            Self::Timestamp(seconds) => fixed(sys::AMQPV_TIMESTAMP, seconds),
+            Self::FieldTable(TableRef { encoding }) => Payload::Container { encoding, flags: sys::AMQPV_UNTAGGED },
+            Self::ByteArray(bytes) => Payload::Bytes { tag: sys::AMQPV_BYTE_ARRAY, bytes },
+            Self::Void => fixed(sys::AMQPV_VOID, 0),
         }
     }
 

@@ -1,6 +1,6 @@
 //! What is built is read again.
 
-use amqp_values::{read_table, DecimalValue, Limits, TableBuilder, TableRef, ValueRef, WriteError};
+use amqp_values::{read, read_table, DecimalValue, Limits, TableBuilder, TableRef, ValueRef, WriteError};
 
 fn table(bytes: &[u8]) -> TableRef<'_> {
     let (table, rest) = read_table(bytes, Limits::DEFAULT).expect("a table");
@@ -105,6 +105,19 @@ fn an_entry_that_fails_leaves_nothing() {
     );
     built.put("k", 2).unwrap();
     assert_eq!(built.finish().unwrap(), b"\0\0\0\x07\x01kI\0\0\0\x02");
+}
+
+#[test]
+fn what_was_read_within_larger_limits_is_put() {
+    let mut bytes = [&b"S\0\x10\0\0"[..], &[0; 1 << 20]].concat();
+    for _ in 0..100 {
+        bytes = [&b"A"[..], &(bytes.len() as u32).to_be_bytes(), &bytes].concat();
+    }
+    let (value, _) = read(&bytes, Limits { bytes: u32::MAX, depth: 100, values: u32::MAX }).unwrap();
+    let mut buffer = vec![0; bytes.len() + 6];
+    let mut built = TableBuilder::new(&mut buffer).unwrap();
+    built.put("k", value).unwrap();
+    assert_eq!(built.finish().unwrap()[6..], bytes);
 }
 
 #[test]

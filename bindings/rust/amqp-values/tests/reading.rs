@@ -155,6 +155,7 @@ fn no_nesting_ends_a_thread() {
             assert_eq!(problem(check_table(&bytes[1..], limits)).map(|it| it.0), Some(ProblemKind::TooDeep));
             assert_eq!(problem(read(&bytes, limits)).map(|it| it.0), Some(ProblemKind::TooDeep));
             assert_eq!(rabbitmq::first_problem(&bytes, limits).map(|it| it.kind), Some(ProblemKind::TooDeep));
+            assert_eq!(rabbitmq::warnings(&bytes, limits, 0, u32::MAX).unwrap().too_deep, Some(1024 * 6));
         }
     });
     worker.unwrap().join().expect("the thread ends well");
@@ -173,6 +174,23 @@ fn rabbitmq_has_other_rules() {
     assert_eq!(found(b"\x01kU\0\0"), Some((ProblemKind::UnknownTag(b'U'), 7)));
     assert_eq!(found(b"\x01kf\x7f\x80\0\0"), Some((ProblemKind::NotFinite, 7)));
     assert_eq!(found(b"\x01kd\xff\xf8\0\0\0\0\0\0"), Some((ProblemKind::NotFinite, 7)));
+}
+
+#[test]
+fn warnings_are_of_what_rabbitmq_accepts() {
+    let warned = |body: &[u8], frame_max, levels| {
+        let bytes = counted(b'F', body);
+        assert_eq!(rabbitmq::first_problem(&bytes, LIMITS), None);
+        let found = rabbitmq::warnings(&bytes, LIMITS, frame_max, levels).unwrap();
+        let in_table = rabbitmq::warnings_in_table(&bytes[1..], LIMITS, frame_max, levels).unwrap();
+        assert_eq!(found.repeated_key.map(|it| it - 1), in_table.repeated_key);
+        found
+    };
+    assert_eq!(warned(b"\x01kV", 0, rabbitmq::CLIENT_LEVELS), rabbitmq::Warnings::default());
+    let found = warned(b"\x01kV\x01\xffV\0V\x01kF\0\0\0\0\x01dD\0\0\0\0\0", 16, 1);
+    assert_eq!((found.repeated_key, found.key_not_utf8, found.empty_key), (Some(13), Some(8), Some(11)));
+    assert_eq!((found.too_deep, found.decimal, found.nested_header), (Some(15), Some(22), Some(15)));
+    assert!(found.exceeds_frame);
 }
 
 #[test]
