@@ -4,7 +4,7 @@ import { AMQPV } from "./header.js";
 // Of a row: it isn't decoded; only its type tag is, or its key; its table has the key already; its payload is cut.
 export const REST = 1, BARE = 2, AGAIN = 4, CUT = 8;
 // Whether the input ends inside the value.
-export const isTruncated = ({ kind, offset }) => kind === AMQPV.PROBLEM_CUT && offset === 0;
+export const isTruncated = ({ kind }) => kind === AMQPV.MORE;
 // Whether entries are the payload, and whether a length is before it.
 export const isContainer = (tag) => tag === AMQPV.ARRAY || tag === AMQPV.TABLE;
 export const isCounted = (tag) => isContainer(tag) || tag === AMQPV.LONG_STRING || tag === AMQPV.BYTE_ARRAY;
@@ -132,13 +132,12 @@ function markRepeated({ data, rows }) {
 
 // Reads the value at the start of some bytes, or the table without its type tag, within limits. Offsets count from
 // `data`, which has that type tag, `shift` bytes before the others.
-export function read(module, bytes, { isTable = false, frame = AMQPV.FRAME, depth = AMQPV.DEPTH } = {}) {
+export function read(module, bytes, { isTable = false, frame = AMQPV.MAX_BYTES, depth = AMQPV.MAX_DEPTH } = {}) {
     const shift = isTable ? 1 : 0, data = new Uint8Array(bytes.length + shift).fill(AMQPV.TABLE, 0, shift);
     data.set(bytes, shift);
     module.load(data);
-    const [code, count] = module.read(0, data.length, frame, depth), isOk = code === AMQPV.OK;
-    const failed = isOk ? null : module.problem(AMQPV.RULES_READ, frame, depth);
-    const rabbitmq = code === AMQPV.MORE ? null : module.problem(AMQPV.RULES_RABBITMQ, frame, depth);
+    const { code, count, problem: failed } = module.read(frame, depth), isOk = code === AMQPV.OK;
+    const rabbitmq = code === AMQPV.MORE ? null : module.read(frame, depth, AMQPV.RABBITMQ).problem;
     const rows = code === AMQPV.TOO_LARGE ? new Rows(0) : walk(module, data, depth);
     for (const problem of [failed, rabbitmq].filter(Boolean)) {
         const { kind, offset } = problem, isCut = isTruncated(problem);
@@ -149,7 +148,7 @@ export function read(module, bytes, { isTable = false, frame = AMQPV.FRAME, dept
         const isRead = row && (isCut || rows.value[row] === offset) && rows.tag[row];
         // (a header that its container cuts isn't read on after that)
         const there = data.subarray(0, isRead ? rows.end[rows.parent[row]] : data.length);
-        problem.size = kind === AMQPV.PROBLEM_CUT && isRead || kind === AMQPV.PROBLEM_TOO_LARGE
+        problem.size = kind === AMQPV.CUT && isRead || kind === AMQPV.TOO_LARGE
             ? extent(module, there, offset) : 0;
         problem.type = isRead ? rows.tag[row] : 0;
     }

@@ -119,21 +119,22 @@ function problemText({ data, shift, limits: { frame, depth } }, problem) {
     const past = name ? `the ${name} of ${size} bytes goes past the end of its container`
         : "a value is expected; its table ends here";
     const why = {
-        [AMQPV.PROBLEM_UNKNOWN_TAG]: NAMES[tag]
+        [AMQPV.UNKNOWN_TAG]: NAMES[tag]
             ? `RabbitMQ doesn't know the type tag ${String.fromCharCode(tag)} (${NAMES[tag]})`
             : `a type tag is expected; ${DIGITS[tag]} is none`,
-        [AMQPV.PROBLEM_CUT]: isTruncated(problem) ? inside : past,
-        [AMQPV.PROBLEM_KEY_CUT]: `the key of ${bytesText(data[offset])} goes past the end of its table`,
-        [AMQPV.PROBLEM_KEY_NOT_UTF8]: `the key ${quoted(key)} isn't UTF-8`,
-        [AMQPV.PROBLEM_NOT_FINITE]: "the number is an infinity or a NaN",
-        [AMQPV.PROBLEM_TOO_DEEP]: `containers nest deeper than --depth ${depth} allows`,
-        [AMQPV.PROBLEM_TOO_LARGE]: `the ${shift ? "table with its type tag" : "value"} has ${bytesText(size)}, `
+        [AMQPV.MORE]: inside,
+        [AMQPV.CUT]: past,
+        [AMQPV.KEY_CUT]: `the key of ${bytesText(data[offset])} goes past the end of its table`,
+        [AMQPV.KEY_NOT_UTF8]: `the key ${quoted(key)} isn't UTF-8`,
+        [AMQPV.NOT_FINITE]: "the number is an infinity or a NaN",
+        [AMQPV.TOO_DEEP]: `containers nest deeper than --depth ${depth} allows`,
+        [AMQPV.TOO_LARGE]: `the ${shift ? "table with its type tag" : "value"} has ${bytesText(size)}, `
             + `more than --max-bytes ${frame} allows`,
     }[kind];
     return [Math.max(0, at - shift), why];
 }
 
-const isBeyondLimits = ({ kind }) => kind === AMQPV.PROBLEM_TOO_DEEP || kind === AMQPV.PROBLEM_TOO_LARGE;
+const isBeyondLimits = ({ kind }) => kind === AMQPV.TOO_DEEP || kind === AMQPV.TOO_LARGE;
 
 // The offset and the words of what is wrong, or null.
 export const failure = (reading) => reading.failed && problemText(reading, reading.failed);

@@ -290,7 +290,10 @@ def test_a_module_without_stack_is_made_anew(browser: Browser) -> None:
     script = f"""
         {deep}
         const module = amqp.modules[64], calls = {{...module.calls}}, {{amqpv_read}} = calls;
-        calls.amqpv_read = (at, length, frame, depth, ...more) => amqpv_read(at, length, frame, n + 1, ...more);
+        calls.amqpv_read = (input, ...more) => {{
+            module.words[Number(input) / 4 + 5] = n + 1;
+            return amqpv_read(input, ...more);
+        }};
         module.calls = globalThis.ended = calls;
         amqp.put(it);
     """
