@@ -8,11 +8,11 @@ ghost use Rattle.amqp_show.specs.Statuses.{code_of, status_after};
 
 mod arguments;
 mod check;
+mod decode;
 mod encode;
 mod fault;
 mod hexadecimal;
 mod input;
-mod json;
 mod messages;
 mod parts;
 mod problems;

@@ -5,10 +5,10 @@ ghost use Rattle.amqp_in_place.specs.ProblemResults.{FindsValue};
 
 use crate::arguments::{Form, Settings};
 use crate::check::push_check;
+use crate::decode::show_json;
 use crate::fault::{Result, Status};
 use crate::hexadecimal::is_hexadecimal;
 use crate::input::{BLOCK, Input};
-use crate::json::show_json;
 use crate::messages::complain;
 use crate::parts::{Note, Part, parts_of, type_of};
 use crate::problems::{is_truncated, key_text, problem_text};
