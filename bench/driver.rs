@@ -74,9 +74,9 @@ unsafe extern "C" {
     fn amqp_bench_scan(bytes: *const u8, length: usize) -> i64;
     fn amqp_bench_find(bytes: *const u8, length: usize) -> i64;
     fn amqp_bench_encode_n(bytes: *const u8, length: usize, out: *mut u8, capacity: usize, times: u64) -> i64;
-    fn amqpv_read(bytes: *const u8, length: usize, frame: u32, depth: u32, entry: &mut [u64; 16], count: &mut usize) -> i32;
-    fn amqpv_to_json(bytes: *const u8, length: usize, frame: u32, depth: u32, out: *mut u8, capacity: usize, count: &mut usize) -> i32;
-    fn amqpv_from_json(text: *const u8, length: usize, nesting: u32, out: *mut u8, capacity: usize, count: &mut usize) -> i32;
+    fn amqpv_read(input: &Input, entry: &mut [usize; 8], problem: &mut [usize; 3]) -> i32;
+    fn amqpv_to_json(input: &Input, out: *mut u8, capacity: usize, length: &mut usize) -> i32;
+    fn amqpv_from_json(text: *const u8, length: usize, nesting: u32, out: *mut u8, capacity: usize, written: &mut usize, problem: &mut [usize; 3]) -> i32;
     fn rabbitmq_read(bytes: *const u8, length: usize) -> i64;
     fn rabbitmq_write(bytes: *const u8, length: usize, out: *mut u8, capacity: usize, times: u64) -> i64;
     fn library_arguments(bytes: *const u8, length: usize, out: *mut u8, capacity: usize) -> i64;
@@ -86,19 +86,38 @@ unsafe extern "C" {
     fn dlsym(library: *const u8, name: *const c_char) -> Option<extern "C" fn(&mut [u64; 2])>;
 }
 
-/// The count of a call that succeeds, otherwise -1.
-fn counted_by(call: impl FnOnce(&mut usize) -> i32) -> i64 {
-    let mut count = 0;
-    if call(&mut count) == 0 { count as i64 } else { -1 }
+/// An amqpv_input.
+#[repr(C)]
+struct Input {
+    bytes: *const u8,
+    length: usize,
+    max_bytes: u32,
+    max_depth: u32,
+    flags: u32,
+}
+
+impl Input {
+    /// A value without limits.
+    fn of(bytes: *const u8, length: usize) -> Self {
+        Self { bytes, length, max_bytes: u32::MAX, max_depth: u32::MAX, flags: 0 }
+    }
+}
+
+/// The length that a call sets if it succeeds, otherwise -1.
+fn length_by(call: impl FnOnce(&mut usize) -> i32) -> i64 {
+    let mut length = 0;
+    if call(&mut length) == 0 { length as i64 } else { -1 }
 }
 
 extern "C" fn c_read(bytes: *const u8, length: usize) -> i64 {
-    counted_by(|count| unsafe { amqpv_read(bytes, length, u32::MAX, u32::MAX, &mut [0; 16], count) })
+    let mut entry = [0; 8];
+    // (the length of `value` is the fourth number of an amqpv_entry)
+    if unsafe { amqpv_read(&Input::of(bytes, length), &mut entry, &mut [0; 3]) } == 0 { entry[3] as i64 } else { -1 }
 }
 
 const LIBRARY_JSON: [Convert; 2] = [
-    |bytes, out| counted_by(|count| unsafe { amqpv_to_json(bytes.as_ptr(), bytes.len(), u32::MAX, u32::MAX, out.as_mut_ptr(), out.len(), count) }),
-    |text, out| counted_by(|count| unsafe { amqpv_from_json(text.as_ptr(), text.len(), 127, out.as_mut_ptr(), out.len(), count) }),
+    |bytes, out| length_by(|length| unsafe { amqpv_to_json(&Input::of(bytes.as_ptr(), bytes.len()), out.as_mut_ptr(), out.len(), length) }),
+    |text, out| length_by(|length| unsafe { amqpv_from_json(text.as_ptr(), text.len(), 127, out.as_mut_ptr(), out.len(), length, &mut [0; 3]) }),
 ];
 
 // ---- a loop by hand, which checks everything and keeps nothing

@@ -5,11 +5,12 @@
 /* The arguments of a queue: a table of two entries, written to a buffer. They return how many bytes it has, or -1. */
 
 int64_t library_arguments(const uint8_t *bytes, size_t length, uint8_t *out, size_t capacity) {
-    const amqpv_pair arguments[] = {
-        AMQPV_INT_PAIR("x-max-length", AMQPV_LONG_INT, 10000), AMQPV_STRING_PAIR("x-queue-type", "quorum", strlen("quorum")),
-    };
-    size_t count;
-    return amqpv_write_table(arguments, 2, out, capacity, &count) == AMQPV_OK ? (int64_t)count : -1;
+    amqpv_writer w;
+    size_t written;
+    amqpv_begin(&w, out, capacity);
+    amqpv_add_int(&w, "x-max-length", AMQPV_LONG_INT, 10000);
+    amqpv_add_string(&w, "x-queue-type", "quorum", strlen("quorum"));
+    return amqpv_finish(&w, &written) == AMQPV_OK ? (int64_t)written : -1;
 }
 
 static amqp_bytes_t bytes_of(const char *text) {
@@ -35,12 +36,12 @@ int64_t rabbitmq_arguments(const uint8_t *bytes, size_t length, uint8_t *out, si
 
 int64_t library_deaths(const uint8_t *bytes, size_t length, uint8_t *out, size_t capacity) {
     static const amqpv_step path[] = {AMQPV_KEY("x-death"), AMQPV_INDEX(0), AMQPV_KEY("count")};
-    const uint8_t *headers = bytes + 1;
-    size_t taken;
+    amqpv_input in = amqpv_table(bytes + 1, length - 1);
+    amqpv_problem problem;
     int64_t number;
     amqpv_entry table, count;
-    if (amqpv_read_table(headers, length - 1, AMQPV_FRAME, AMQPV_DEPTH, &table, &taken) == AMQPV_OK
-        && amqpv_find_path(headers, length - 1, &table, path, 3, AMQPV_FIRST_KEY, &count) == AMQPV_OK
+    in.flags |= AMQPV_FIRST_KEY;
+    if (amqpv_read(&in, &table, &problem) == AMQPV_OK && amqpv_find(&in, &table, path, 3, &count) == AMQPV_OK
         && amqpv_as_int(&count, &number) == AMQPV_OK) {
         return number;
     }
@@ -69,10 +70,10 @@ int64_t rabbitmq_deaths(const uint8_t *bytes, size_t length, uint8_t *out, size_
         init_amqp_pool(&pool, 4096);
     }
     if (amqp_decode_table(from, &pool, &headers, &offset) == AMQP_STATUS_OK) {
-        const amqp_field_value_t *deaths = found(&headers, AMQPV_LITERAL("x-death"), AMQP_FIELD_KIND_ARRAY);
+        const amqp_field_value_t *deaths = found(&headers, AMQPV_STR("x-death"), AMQP_FIELD_KIND_ARRAY);
         const amqp_field_value_t *first = deaths && deaths->value.array.num_entries > 0 ? deaths->value.array.entries : NULL;
         if (first && first->kind == AMQP_FIELD_KIND_TABLE) {
-            const amqp_field_value_t *count = found(&first->value.table, AMQPV_LITERAL("count"), AMQP_FIELD_KIND_I64);
+            const amqp_field_value_t *count = found(&first->value.table, AMQPV_STR("count"), AMQP_FIELD_KIND_I64);
             number = count ? count->value.i64 : -1;
         }
     }
