@@ -7,6 +7,7 @@ import os
 import resource
 import subprocess
 import tempfile
+import unicodedata
 from collections.abc import Callable
 from functools import partial
 from pathlib import Path
@@ -49,13 +50,17 @@ def inputs(seed: int) -> list[bytes]:
     return [*found, *(printed.damaged(make, make.choice([it, it, it[: len(it) // 2 + 1]])) for it in found)]
 
 
+def is_printable(text: str) -> bool:
+    """Whether no character controls a terminal. One of private use, or that Unicode hasn't assigned, doesn't."""
+    return all(it.isprintable() or it == "\n" or unicodedata.category(it) in ("Co", "Cn") for it in text)
+
+
 def wrong(program: Path, given: list[bytes], words: str, wants_of: Callable[[bytes], Printed]) -> list[str]:
     """The inputs of which something else is printed, or something unprintable, each as far as its first bytes."""
     found = []
     for data in given:
         ended = shown(program, words, data)
-        is_printable = all(it.isprintable() or it == "\n" for it in (ended.out + ended.error).decode())
-        if not is_printable or ended != as_ending(wants_of(data)):
+        if not is_printable((ended.out + ended.error).decode()) or ended != as_ending(wants_of(data)):
             found.append(data[:200].hex())
     return found
 
