@@ -1,5 +1,5 @@
 -- Why no encoding is put.
-use Rattle.std.proofs.Common.{Result, Ok, Err, IfErr, IfOk, OnOk}
+use Rattle.std.proofs.Common.{Result, Ok, Err, IfErr, IfOk}
 use Rattle.amqp_json.specs.declared.error.JsonError.{JsonError}
 use Rattle.amqp_json.specs.declared.error.JsonError.TheVariants.{OutOfMemory, TooLarge, Syntax, NotAValue}
 use Rattle.amqp_json.specs.Puts.{OnRefusal}
@@ -19,10 +19,6 @@ refusal_on (NotAValue at m) P Q f h = f h
 pub refused_on : {T : Type 0} (r : Result T JsonError) (P Q : Type 0) → (P → Q) → IfErr r (λ e. OnRefusal e P) → IfErr r (λ e. OnRefusal e Q)
 refused_on (Ok x) P Q f h = tt
 refused_on (Err e) P Q f h = refusal_on e P Q f h
-
-pub both_ok : {T E : Type 0} (r : Result T E) (A B : Type 0) → OnOk r A → OnOk r B → OnOk r (A × B)
-both_ok (Ok x) A B a b = (a, b)
-both_ok (Err e) A B a b = tt
 
 pub ok_weaker : {T E : Type 0} (r : Result T E) (P Q : T → Type 0) → ((x : T) → P x → Q x) → IfOk r P → IfOk r Q
 ok_weaker (Ok x) P Q f h = f x h

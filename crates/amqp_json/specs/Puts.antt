@@ -4,8 +4,7 @@ use Rattle.json.specs.Token.{Token, key, end_object}
 use Rattle.json.specs.Json.{Parse, Json, members, value}
 use Rattle.serde_json.specs.Read.{converted}
 use Rattle.amqp_value_core.specs.declared.types.amqp_type.AMQPType.{AMQPType}
-use Rattle.amqp_value_core.specs.declared.types.amqp_type.AMQPType.TheVariants as amqp
-use Rattle.amqp_value_core.specs.Values.{Scalar, number, scalar, Tree, Trees, Entries}
+use Rattle.amqp_value_core.specs.Values.{Scalar, scalar, Tree, Trees, Entries}
 use Rattle.amqp_value_core.specs.Grammar.{Wire, ArrayBody, TableBody}
 use Rattle.amqp_value_core.specs.InMemory.{IsScalar}
 use Rattle.amqp_value_core.specs.Texts.{text}
@@ -59,17 +58,10 @@ next_token (Some k) = key k
 abbrev pub IsNamedRead : List ℕ → List Token → Option (Tree × List Token) → Type 0
 IsNamedRead name ts read = (k : List ℕ) (depth : ℕ) → is_name k ≡ true → name ≡ drop 1 k → object_read (value depth) (key k ∷ ts) ≡ read
 
--- an integer of a type
-abbrev pub IsInteger : Tree → Type 0
-IsInteger (scalar (number amqp.ShortShortInt n)) = Unit {0}
-IsInteger (scalar (number amqp.ShortShortUInt n)) = Unit {0}
-IsInteger (scalar (number amqp.ShortInt n)) = Unit {0}
-IsInteger (scalar (number amqp.ShortUInt n)) = Unit {0}
-IsInteger (scalar (number amqp.LongInt n)) = Unit {0}
-IsInteger (scalar (number amqp.LongUInt n)) = Unit {0}
-IsInteger (scalar (number amqp.LongLongInt n)) = Unit {0}
-IsInteger (scalar (number amqp.Timestamp n)) = Unit {0}
-IsInteger v = ⊥
+-- there is such a number, and its canonical encoding is put
+abbrev pub PutsInteger : Option Tree → List ℕ → List ℕ → Type 0
+PutsInteger (Some (scalar x)) old new = (new ≡ old ++ text (scalar x)) × IsScalar x
+PutsInteger v old new = ⊥
 
 -- a token is a value of the type, or none
 abbrev pub IsLeaf : AMQPType → Token → Tree → Type 0

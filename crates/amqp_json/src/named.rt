@@ -11,15 +11,12 @@ use crate::error::{JsonError, Mismatch};
 use crate::numerals::number;
 use crate::put::{put, put_counted, put_decimal, put_integer};
 use amqp_value_core::types::{AMQPType, DecimalValue};
-use amqp_value_core::value::AMQPValue;
 use hex::{FromHex, FromHexError};
 use itoa::Buffer;
-use serde_json::Value;
 use std::alloc::Global;
 
 /// A number.
 pub(crate) fn put_number(
-    alloc: Global,
     out: &mut Vec<u8>,
     amqp_type: AMQPType,
     text: &str,
@@ -32,8 +29,8 @@ pub(crate) fn put_number(
     let Some(n) = number(text) else {
         return Err(JsonError::NotAValue(at, Mismatch::OutOfRange));
     };
-    match AMQPValue::try_from(alloc, &Value::Number(n), amqp_type)? {
-        Some(value) => put_integer(out, &value, at),
+    match put_integer(out, amqp_type, n) {
+        Some(done) => done,
         None => Err(JsonError::NotAValue(at, not_this_number(amqp_type))),
     }
 }

@@ -1,20 +1,20 @@
 //! Bytes of encodings, put after others.
 
-ghost use Rattle.std.specs.Prelude.{◌≡◌, ◌+◌, ◌-◌, ◌<◌, ◌^◌, ◌∷◌, [], ◌++◌, length, take, drop, false, None, Option, OnOk, IfErr};
+ghost use Rattle.std.specs.Prelude.{◌≡◌, ◌+◌, ◌-◌, ◌<◌, ◌^◌, ◌∷◌, [], ◌++◌, length, take, drop, false, None, Option, OnOk, IfErr, IfSome, MatchOption};
 ghost use Rattle.std.specs.Int.{w32, to_be_bytes};
+ghost use Rattle.serde_json.specs.Data.{number};
+ghost use Rattle.serde_json.specs.View.{number_view};
 ghost use Rattle.amqp_value_core.specs.Grammar.{short_field, long_field};
 ghost use Rattle.amqp_value_core.specs.Strings.{IsShort};
 ghost use Rattle.amqp_value_core.specs.Values.{Tree, Entries, scalar, decimal as decimal_tree};
-ghost use Rattle.amqp_value_core.specs.View.{view};
-ghost use Rattle.amqp_value_core.specs.InMemory.{IsValue};
-ghost use Rattle.amqp_value_core.specs.Texts.{text};
+ghost use Rattle.amqp_value_core.specs.Json.{json};
 ghost use Rattle.amqp_json.specs.Meaning.{is_name, entry_key, with_entry};
-ghost use Rattle.amqp_json.specs.Puts.{OnRefusal, PutsScalar, IsInteger};
+ghost use Rattle.amqp_json.specs.Puts.{OnRefusal, PutsScalar, PutsInteger};
 
 use crate::error::{JsonError, Mismatch};
 use crate::key::{Key, key_of};
-use amqp_value_core::types::DecimalValue;
-use amqp_value_core::value::AMQPValue;
+use amqp_value_core::types::{AMQPType, DecimalValue};
+use serde_json::Number;
 
 /// A type tag, and bytes.
 pub(crate) fn put(out: &mut Vec<u8>, tag: u8, bytes: &[u8]) -> Result<(), JsonError>
@@ -79,23 +79,30 @@ pub(crate) fn fill_length(out: &mut Vec<u8>, at: usize) -> Result<(), JsonError>
     Ok(())
 }
 
-/// An integer.
-pub(crate) fn put_integer(out: &mut Vec<u8>, value: &AMQPValue, at: usize) -> Result<(), JsonError>
-    ensures ok { OnOk result (out.new.items ≡ out.old.items ++ text (view value.now)) }
-    ensures value { OnOk result (IsValue (view value.now)) }
-    ensures refused { IfErr result (λ e. OnRefusal e (IsInteger (view value.now) → ⊥)) }
+/// A number, as an integer of the type; `None` if it isn't one.
+pub(crate) fn put_integer(
+    out: &mut Vec<u8>,
+    amqp_type: AMQPType,
+    n: Number,
+) -> Option<Result<(), JsonError>>
+    ensures value { MatchOption result
+        (json (number (number_view n)) amqp_type ≡ None)
+        (λ done. OnOk done (PutsInteger (json (number (number_view n)) amqp_type) out.old.items out.new.items)) }
+    ensures refused { IfSome result (λ done. IfErr done (λ e. OnRefusal e ⊥)) }
 {
-    match value {
-        AMQPValue::ShortShortInt(n) => put(out, b'b', &n.to_be_bytes()),
-        AMQPValue::ShortShortUInt(n) => put(out, b'B', &n.to_be_bytes()),
-        AMQPValue::ShortInt(n) => put(out, b's', &n.to_be_bytes()),
-        AMQPValue::ShortUInt(n) => put(out, b'u', &n.to_be_bytes()),
-        AMQPValue::LongInt(n) => put(out, b'I', &n.to_be_bytes()),
-        AMQPValue::LongUInt(n) => put(out, b'i', &n.to_be_bytes()),
-        AMQPValue::LongLongInt(n) => put(out, b'l', &n.to_be_bytes()),
-        AMQPValue::Timestamp(n) => put(out, b'T', &n.to_be_bytes()),
-        _ => Err(JsonError::NotAValue(at, Mismatch::OutOfRange)),
-    }
+    let done = match amqp_type {
+        AMQPType::ShortShortInt => put(out, b'b', &i8::try_from(n.as_i64()?).ok()?.to_be_bytes()),
+        AMQPType::ShortShortUInt => put(out, b'B', &u8::try_from(n.as_u64()?).ok()?.to_be_bytes()),
+        AMQPType::ShortInt => put(out, b's', &i16::try_from(n.as_i64()?).ok()?.to_be_bytes()),
+        AMQPType::ShortUInt => put(out, b'u', &u16::try_from(n.as_u64()?).ok()?.to_be_bytes()),
+        AMQPType::LongInt => put(out, b'I', &i32::try_from(n.as_i64()?).ok()?.to_be_bytes()),
+        AMQPType::LongUInt => put(out, b'i', &u32::try_from(n.as_u64()?).ok()?.to_be_bytes()),
+        AMQPType::LongLongInt => put(out, b'l', &n.as_i64()?.to_be_bytes()),
+        AMQPType::LongLongUInt => put(out, b'l', &n.as_u64()?.to_be_bytes()),
+        AMQPType::Timestamp => put(out, b'T', &n.as_u64()?.to_be_bytes()),
+        _ => return None,
+    };
+    Some(done)
 }
 
 /// A decimal.

@@ -57,7 +57,7 @@ fn put_value(
     match token {
         Token::Null => put(out, b'V', &[]),
         Token::Bool(b) => put(out, b't', &[u8::from(b)]),
-        Token::Number(text) => put_number(alloc, out, AMQPType::LongLongInt, text, at),
+        Token::Number(text) => put_number(out, AMQPType::LongLongInt, text, at),
         Token::String(text) => put_counted(out, b'S', text.as_bytes()),
         Token::BeginArray => {
             if depth == 0 {
@@ -225,7 +225,7 @@ fn put_leaf(
     ensures refused { IfErr result (λ e. OnRefusal e (IsNoLeaf amqp_type (token_of token.entry))) }
 {
     match token {
-        Token::Number(text) => put_number(alloc, out, amqp_type, text, at),
+        Token::Number(text) => put_number(out, amqp_type, text, at),
         Token::String(text) => put_string(alloc, out, amqp_type, text, at),
         _ => Err(leaf_error(amqp_type, token, at)),
     }
