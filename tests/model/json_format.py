@@ -4,8 +4,10 @@ The reader and the writer share nothing with the crates.
 """
 
 import json
+import math
 import re
 from collections.abc import Iterable, Iterator
+from contextlib import suppress
 from random import Random
 from typing import Any
 
@@ -119,50 +121,48 @@ class Text:
         self.at += 1
         return ("A", self.items(levels - 1)) if mark == b"[" else self.members(levels - 1)
 
+    def goes_on(self, end: bytes) -> bool:
+        """Whether a comma is next, or the end of what is open, which are passed."""
+        if self.take(end):
+            return False
+        if not self.take(b","):
+            raise Rejected(self.at)
+        return True
+
     def items(self, levels: int) -> list[Value]:
-        found: list[Value] = []
         if self.take(b"]"):
-            return found
-        while True:
+            return []
+        found = [self.value(levels)]
+        while self.goes_on(b"]"):
             found.append(self.value(levels))
-            if self.take(b"]"):
-                return found
-            if not self.take(b","):
-                raise Rejected(self.at)
+        return found
 
     def members(self, levels: int) -> Value:
         found: dict[bytes, Value] = {}
-        if self.take(b"}"):
-            return "F", found
-        at, key = self.key()
-        if is_name(key):
-            return self.named(at, key[1:])
-        while True:
+        has_more = not self.take(b"}")
+        while has_more:
+            at, key = self.key()
+            name = key.removeprefix("$").encode()
+            if is_name(key) and not found:
+                return self.named(at, key[1:])
             if is_name(key):
                 raise Rejected(at, "NotAlone")
-            name = key.removeprefix("$").encode()
             if len(name) > 255:
                 raise Rejected(at, "KeyTooLong")
             found[name] = self.value(levels)
-            if self.take(b"}"):
-                return "F", found
-            if not self.take(b","):
-                raise Rejected(self.at)
-            at, key = self.key()
+            has_more = self.goes_on(b"}")
+        return "F", found
 
     def named(self, at: int, name: str) -> Value:
         """The value under the name of its type, which is an object's only key."""
-        if name not in INTEGERS and name not in DIGITS and name != "DecimalValue":
+        if name not in [*INTEGERS, *DIGITS, "DecimalValue"]:
             raise Rejected(at, "UnknownType")
         if self.peek() in (b"[", b"{"):
             raise Rejected(self.at, "NotANumber" if name in INTEGERS else "NotAString")
         found = of_type(name, *self.scalar())
-        if self.take(b"}"):
-            return found
-        if not self.take(b","):
-            raise Rejected(self.at)
-        at, _ = self.key()
-        raise Rejected(at, "NotAlone")
+        if self.goes_on(b"}"):
+            raise Rejected(self.key()[0], "NotAlone")
+        return found
 
 
 def is_name(key: str) -> bool:
@@ -171,35 +171,31 @@ def is_name(key: str) -> bool:
 
 def plain(at: int, content: Any) -> Value:
     """The value of null, a boolean, a number or a string that is under no name."""
-    if content is None:
-        return "V", b""
-    if isinstance(content, bool):
-        return "t", bytes([content])
     if isinstance(content, Number):
         return of_type("LongLongInt", at, content)
-    return "S", content.encode()
+    if isinstance(content, str):
+        return "S", content.encode()
+    return ("V", b"") if content is None else ("t", bytes([content]))
 
 
 def of_type(name: str, at: int, content: Any) -> Value:
     """The value of what is under a type's name."""
+    is_number = isinstance(content, Number)
     if name in INTEGERS:
-        if not isinstance(content, Number):
-            raise Rejected(at, "NotANumber")
         tag, width, is_signed = INTEGERS[name]
-        number = integer(content, width, is_signed)
+        number = integer(content, width, is_signed) if is_number else None
         if number is None:
-            raise Rejected(at, "OutOfRange")
+            raise Rejected(at, "OutOfRange" if is_number else "NotANumber")
         return tag, number
-    if not isinstance(content, str) or isinstance(content, Number):
+    if is_number or not isinstance(content, str):
         # (a number that no float holds is out of each type's range)
-        is_huge = isinstance(content, Number) and abs(float(content)) == float("inf")
-        raise Rejected(at, "OutOfRange" if is_huge else "NotAString")
+        raise Rejected(at, "OutOfRange" if is_number and math.isinf(float(content)) else "NotAString")
     if name == "DecimalValue":
-        parts = re.fullmatch("([^e]*)e-(.*)", content, re.DOTALL)
-        value, scale = (integer(parts[1], 4, False), integer(parts[2], 1, False)) if parts else (None, None)
-        if value is None or scale is None:
+        value, _, scale = content.partition("e-")
+        number, exponent = integer(value, 4, False), integer(scale, 1, False)
+        if number is None or exponent is None:
             raise Rejected(at, "NotADecimal")
-        return "D", scale + value
+        return "D", exponent + number
     tag, size = DIGITS[name]
     count = len(content.encode())
     if count % 2:
@@ -239,21 +235,20 @@ def value_of_json(text: bytes) -> Value:
 def json_of(value: Value) -> str:
     """The text that is written for a value."""
     tag, content = value
-    if tag == "V":
-        return "null"
-    if tag == "t":
-        return "true" if content != b"\0" else "false"
-    if tag == "A":
-        return f"[{','.join(map(json_of, content))}]"
-    if tag == "F":
-        return "{" + ",".join(f"{json_of_key(key)}:{json_of(it)}" for key, it in sorted(content.items())) + "}"
-    if tag == "S":
-        try:
-            return quoted(content.decode())
-        except UnicodeDecodeError:
-            pass
-    if tag == "D":
-        return f'{{"$DecimalValue":"{int.from_bytes(content[1:], "big")}e-{content[0]}"}}'
+    match tag:
+        case "V":
+            return "null"
+        case "t":
+            return "true" if content != b"\0" else "false"
+        case "A":
+            return f"[{','.join(map(json_of, content))}]"
+        case "F":
+            return "{" + ",".join(f"{json_of_key(key)}:{json_of(it)}" for key, it in sorted(content.items())) + "}"
+        case "D":
+            return f'{{"$DecimalValue":"{int.from_bytes(content[1:], "big")}e-{content[0]}"}}'
+        case "S":
+            with suppress(UnicodeDecodeError):
+                return quoted(content.decode())
     name = NAMES[tag]
     if name in DIGITS:
         return f'{{"${name}":"{content.hex()}"}}'

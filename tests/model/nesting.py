@@ -50,15 +50,10 @@ def unordered(form: str, depth: int) -> bytes:
     return b"".join(reversed(parts))
 
 
-def payload(form: str, depth: int, key: bytes = KEY) -> bytes:
+def payload(form: str, depth: int) -> bytes:
     """What follows the type tag of a table that has a pair, and nests that deep."""
-    inner = key + encoding(form, depth - 1)
+    inner = KEY + encoding(form, depth - 1)
     return struct.pack(">I", len(inner)) + inner
-
-
-def values(form: str, depth: int) -> bytes:
-    """What follows the type tag of an array that nests that deep."""
-    return payload(form, depth, b"")
 
 
 def not_canonical(form: str, depth: int) -> bytes:
@@ -87,15 +82,13 @@ class Threaded(NamedTuple):
 
 
 Program = Path | Threaded
-
-
 Make = Callable[[str, int], bytes]
 
 
 class Call(NamedTuple):
-    """The words that have a program make it, what it is made on, and how deep; JSON has a limit by itself."""
+    """The word that has a program make it, what it is made on, and how deep; JSON has a limit by itself."""
 
-    words: list[str]
+    word: str
     makes: dict[str, Make]
     depths: tuple[int, ...]
 
@@ -124,29 +117,34 @@ def flagged(flags: int, make: Make) -> Make:
 UNTAGGED, WRONG = {"untagged": flagged(1, payload)}, {"no type tag": flagged(0, partial(encoding, innermost=b"z"))}
 READ = {"": flagged(0, encoding), **UNTAGGED, **WRONG}
 BY_RULES = {**READ, "keys of any bytes": flagged(2, any_keys), "RabbitMQ's rules": flagged(4, any_keys)}
-FOR_C = {
-    "amqpv_read": Call(["amqpv_read"], BY_RULES, DEEPER),
-    "amqpv_put_value": Call(["amqpv_put_value"], BY_RULES, DEEPER),
-    "amqpv_measure": Call(["amqpv_measure"], READ, DEEPER),
-    "amqpv_is_canonical": Call(["amqpv_is_canonical"], {"": flagged(0, not_canonical), **UNTAGGED, **WRONG}, DEEPER),
-    "amqpv_canonical": Call(["amqpv_canonical"], {"": flagged(0, not_canonical), **UNTAGGED, **WRONG}, DEEP),
-    "amqpv_to_json": Call(["amqpv_to_json"], {"": flagged(0, unordered), **UNTAGGED, **WRONG}, DEEP),
-    "amqpv_write_json": Call(["amqpv_write_json"], READ, DEEP),
-    "amqpv_from_json": Call(["amqpv_from_json"], {how: flagged(0, it) for how, it in TEXTS.items()}, OF_JSON),
-    "amqpv_warn": Call(["amqpv_warn"], {"": flagged(0, encoding), **UNTAGGED}, DEEPER),
-}
+NOT_CANONICAL = {"": flagged(0, not_canonical), **UNTAGGED, **WRONG}
+
+
+def calls(*groups: tuple[str, dict[str, Make], tuple[int, ...]]) -> dict[str, Call]:
+    """Calls by their words, which those of a group have in a line."""
+    return {word: Call(word, makes, depths) for words, makes, depths in groups for word in words.split()}
+
+
+FOR_C = calls(
+    ("amqpv_read amqpv_put_value", BY_RULES, DEEPER),
+    ("amqpv_measure", READ, DEEPER),
+    ("amqpv_is_canonical", NOT_CANONICAL, DEEPER),
+    ("amqpv_canonical", NOT_CANONICAL, DEEP),
+    ("amqpv_to_json", {"": flagged(0, unordered), **UNTAGGED, **WRONG}, DEEP),
+    ("amqpv_write_json", READ, DEEP),
+    ("amqpv_from_json", {how: flagged(0, it) for how, it in TEXTS.items()}, OF_JSON),
+    ("amqpv_warn", {"": flagged(0, encoding), **UNTAGGED}, DEEPER),
+)
 # The call that warns of what nests deeper than its limit, and is done.
 WARNS = "warnings"
 # The calls that test_calls makes: without a limit, within one, and on JSON.
-CALLS = {
-    **{it: Call([it], {"": encoding}, UNLIMITED) for it in ("parse_value", "read_in_place_unlimited", "skip_value")},
-    **{it: Call([it], {"": encoding}, UNLIMITED) for it in ("gen_value", "clone", "==", "to_json")},
-    **{it: Call([it], {"": encoding}, DEEPER) for it in ("parse_value_within", "SplitInput", "ValueReader::next")},
-    **{it: Call([it], {"": encoding}, DEEPER) for it in ("read_in_place", "to_owned", "is_canonical", "canonical_len")},
-    **{it: Call([it], {"": encoding}, DEEPER) for it in ("measure_value", "warnings")},
-    "json_of_encoding": Call(["json_of_encoding"], {"": unordered}, DEEPER),
-    **{it: Call([it], TEXTS, OF_JSON) for it in ("from_json", "encoding_of_json")},
-}
+CALLS = calls(
+    ("parse_value read_in_place_unlimited skip_value gen_value clone == to_json", {"": encoding}, UNLIMITED),
+    ("parse_value_within SplitInput ValueReader::next read_in_place to_owned", {"": encoding}, DEEPER),
+    ("is_canonical canonical_len measure_value warnings", {"": encoding}, DEEPER),
+    ("json_of_encoding", {"": unordered}, DEEPER),
+    ("from_json encoding_of_json", TEXTS, OF_JSON),
+)
 
 
 def table(column: int = 0) -> tuple[dict[str, int], int]:
@@ -174,10 +172,10 @@ def levels_of_json() -> tuple[int, int]:
 def answer(program: Program, call: Call, depth: int, given: bytes, stack: int) -> str:
     """What a call returns on a stack of n bytes, or how the program ended."""
     if isinstance(program, Threaded):
-        words = [*program.by, str(program.path), *call.words, str(depth), str(stack)]
+        words = [*program.by, str(program.path), call.word, str(depth), str(stack)]
         done = subprocess.run(words, input=given, capture_output=True, timeout=60)
     else:
-        row = f"nest {call.words[0]} {depth} {given.hex()}\n"
+        row = f"nest {call.word} {depth} {given.hex()}\n"
         done = within(resource.RLIMIT_STACK, stack, [program], row.encode())
     text = done.stdout.decode().splitlines()[:1]
     return f"status {done.returncode}" if done.returncode else "".join(text).rpartition(" => ")[2]

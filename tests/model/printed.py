@@ -7,12 +7,12 @@ import math
 import random
 import re
 import struct
-from collections.abc import Iterable, Iterator, Sequence
+from collections.abc import Generator, Iterable, Iterator, Sequence
 from dataclasses import dataclass
 from datetime import datetime, timedelta
 from decimal import Decimal
 from fractions import Fraction
-from typing import Any
+from typing import Any, NamedTuple
 
 from crates import TOP
 
@@ -65,7 +65,7 @@ Value = json_format.Value
 
 
 class Unread(Exception):
-    """Why there is no value, as amqp_wire prints it."""
+    """Why there is no value, as amqp_wire prints it, or nothing."""
 
 
 def read(data: bytes) -> tuple[Value, bytes]:
@@ -131,10 +131,6 @@ class Failure(Exception):
     """The offset at which a value fails, and why; and the type tag of the container that it is in."""
 
 
-class NotRead(Exception):
-    """A value, or a key, can't be read any further."""
-
-
 @dataclass
 class Part:
     offset: int
@@ -176,7 +172,7 @@ class Dissection:
             if extent(data) > FRAME:
                 raise Failure(0, too_large(data, self.left_out))
             self.walk()
-            taken(data, 0, len(data), DEPTH, rules="read")
+            taken(data, "read")
         except Failure as why:
             self.failure = why
 
@@ -184,7 +180,7 @@ class Dissection:
         try:
             while self.at < self.end:
                 self.value(self.end, 0)
-        except NotRead:
+        except Unread:
             count = self.end - self.at
             is_payload = 0 < count < self.whole
             self.part(count, "rest", self.parts[-1].type if is_payload else "", whole=self.whole if is_payload else 0)
@@ -246,19 +242,19 @@ class Dissection:
         self.level, begin = level, self.at
         tag = chr(self.data[begin]) if begin < end else ""
         if tag not in TYPES or tag in "AF" and level >= DEPTH:
-            raise NotRead
+            raise Unread
         name, width = TYPES[tag]
         self.part(1, "tag", name)
         if tag in COUNTED:
             if end - self.at < 4:
-                raise NotRead
+                raise Unread
             width = int.from_bytes(self.part(4, "length", name), "big")
         assert width is not None
         if tag in "AF":
             self.entries(tag, min(end, self.at + width), level + 1)
         elif end - self.at < width:
             self.whole = width
-            raise NotRead
+            raise Unread
         else:
             is_other = tag == "t" and self.data[self.at] > 1
             alternate = f"the type tag {tag} isn't canonical, {ALTERNATE[tag]} is" if tag in ALTERNATE else ""
@@ -277,7 +273,7 @@ class Dissection:
     def key(self, end: int, seen: set[bytes], last: list[bytes]) -> bytes:
         count = self.data[self.at]
         if end - self.at < 1 + count:
-            raise NotRead
+            raise Unread
         self.part(1, "key length")
         key = self.data[self.at : self.at + count]
         return self.part(count, "key", note=AGAIN if key in seen else AFTER_GREATER if [key] < last else "")
@@ -306,17 +302,17 @@ def outcome(dissection: Dissection) -> str:
 HEXADECIMAL = re.compile(rb"(?:B*(?:0[xX]|\\x)?[\da-fA-F]{2})+B*".replace(b"B", rb"(?:[ \t\r\n\f,:]|#[^\n]*(?:\n|\Z))"))
 
 
-def hints(data: bytes, subject: str) -> list[str]:
+def hint(data: bytes, subject: str) -> str:
     """What bytes seem to be instead. (A length that begins as the type tag F is beyond the limits.)"""
     if subject == "table":
-        return ["the input seems to have a type tag; without --table it is read"] if data[:1] == b"F" else []
+        return "the input seems to have a type tag; without --table it is read" if data[:1] == b"F" else ""
     if data and chr(data[0]) in TYPES:
-        return []
+        return ""
     if data[:1] == b"\0":
-        return ["the input seems to be a table without its type tag; --table reads it"]
+        return "the input seems to be a table without its type tag; --table reads it"
     if data[:1] in (b"{", b"["):
-        return ["the input seems to be JSON; --encode reads it"]
-    return ["the input seems to be hexadecimal; --hex reads it"] if HEXADECIMAL.fullmatch(data) else []
+        return "the input seems to be JSON; --encode reads it"
+    return "the input seems to be hexadecimal; --hex reads it" if HEXADECIMAL.fullmatch(data) else ""
 
 
 # Strings
@@ -377,21 +373,21 @@ def number_of(name: str, data: bytes) -> str:
 
 def text_of(name: str, data: bytes) -> str:
     """A payload as a string."""
-    if name == "Boolean":
-        return "false" if data == b"\0" else "true"
-    if name in ("Float", "Double"):
-        return number_of(name, data)
-    if name == "LongString":
-        return quoted(data)
-    if name == "ByteArray":
-        return data.hex()
-    if name == "DecimalValue":
-        digits, scale = str(int.from_bytes(data[1:], "big")), data[0]
-        digits = digits.rjust(scale + 1, "0")
-        return f"{digits[:-scale]}.{digits[-scale:]}" if scale else digits
     number = int.from_bytes(data, "big", signed=name in SIGNED)
-    if name == "Timestamp" and number <= LAST_DATE:
-        return f"{number} ({datetime(1970, 1, 1) + timedelta(seconds=number):%Y-%m-%dT%H:%M:%SZ})"
+    match name:
+        case "Boolean":
+            return "true" if number else "false"
+        case "Float" | "Double":
+            return number_of(name, data)
+        case "LongString":
+            return quoted(data)
+        case "ByteArray":
+            return data.hex()
+        case "DecimalValue":
+            scale, digits = data[0], str(int.from_bytes(data[1:], "big")).rjust(data[0] + 1, "0")
+            return f"{digits[:-scale]}.{digits[-scale:]}" if scale else digits
+        case "Timestamp" if number <= LAST_DATE:
+            return f"{number} ({datetime(1970, 1, 1) + timedelta(seconds=number):%Y-%m-%dT%H:%M:%SZ})"
     return str(number)
 
 
@@ -427,14 +423,11 @@ def tree(parts: Iterable[Part], asks_notes: bool) -> list[str]:
         elif part.whole:
             lines[-1] += f" {not_decoded(part)}"
         else:
-            lines.append(indentation(part.level) + node(part))
+            node = quoted(part.bytes) if part.kind == "key" else part.type if part.kind == "tag" else not_decoded(part)
+            lines.append(indentation(part.level) + node)
         lines[-1] += part.noted(asks_notes)
         has_key = part.kind == "key"
     return lines
-
-
-def node(part: Part) -> str:
-    return {"tag": part.type, "key": quoted(part.bytes), "rest": not_decoded(part)}[part.kind]
 
 
 def meaning(part: Part) -> str:
@@ -479,19 +472,19 @@ def ending(found: Dissection) -> tuple[str, int]:
 
 def instead(data: bytes, subject: str) -> Printed | None:
     """All that is said if the bytes seem to be something else."""
-    said = "".join(map(message, hints(data, subject)))
-    return ("", said, 1) if said else None
+    said = hint(data, subject)
+    return ("", message(said), 1) if said else None
 
 
 def printed(
-    data: bytes, form: str = "tree", asks_notes: bool = False, subject: str = "value", start: int = 0
+    data: bytes, form: str = "tree", asks_notes: bool = False, subject: str = "value", start: int | None = None
 ) -> Printed:
-    """Of `amqp_show --tree` or `--bytes`, with `--canonical` and with `--table`, or without them."""
-    found = Dissection(data, subject, start)
+    """Of `amqp_show --tree` or `--bytes`, with `--canonical` and with `--table`, or without them; or in a stream."""
+    found = Dissection(data, subject, start or 0)
     lines = [*(part_lines(found, asks_notes) if form == "bytes" else tree(found.parts, asks_notes)), *repeated(found)]
     lines += [f"! {found.failed()}"] if found.failure else []
     shown = "".join(f"{line}\n" for line in [*lines, f"= {outcome(found)}"]), *ending(found)
-    return instead(data, subject) or shown
+    return start is None and instead(data, subject) or shown
 
 
 def printed_json(data: bytes, subject: str = "value", start: int = 0) -> Printed:
@@ -504,16 +497,17 @@ def printed_json(data: bytes, subject: str = "value", start: int = 0) -> Printed
     return f"{json_text(read(found.data)[0])}\n", "".join(map(message, again)) + said, status
 
 
-def streamed(values: Iterable[bytes]) -> dict[str, Printed]:
-    """Of `amqp_show --stream` on values one after another, by the form; the last may be none."""
+def streamed(data: bytes) -> dict[str, Printed]:
+    """Of `amqp_show --stream`, by the form: all values up to the first that fails."""
     shown, said, status, offset = dict.fromkeys(("tree", "bytes", "JSON"), ""), "", 0, 0
-    for data in values:
+    while offset < len(data) and not status:
+        value = data[offset : offset + Dissection(data[offset:]).end]
         for form in ("tree", "bytes"):
-            shown[form] += printed(data, form, start=offset)[0].replace("\n= ", f"\n= at {offset}: ")
-        text, why, status = printed_json(data, start=offset)
+            shown[form] += printed(value, form, start=offset)[0].replace("\n= ", f"\n= at {offset}: ")
+        text, why, status = printed_json(value, start=offset)
         shown["JSON"] += text
         said += why
-        offset += len(data)
+        offset += len(value)
     return {form: (text, said if form == "JSON" else "", status) for form, text in shown.items()}
 
 
@@ -539,8 +533,8 @@ def judged(found: Dissection, version: str = "4.3") -> str:
     try:
         if extent(found.data) > FRAME:
             raise Failure(0, too_large(found.data, found.left_out))
-        end = taken(found.data, 0, len(found.data), DEPTH)
-        lines += warned(found, end, version)
+        taken(found.data)
+        lines += warned(found, version)
         verdict, found.failure = f"accepts it{', except as the warnings say' * bool(lines)}", None
     except Failure as failure:
         found.failure = failure
@@ -551,13 +545,32 @@ def judged(found: Dissection, version: str = "4.3") -> str:
     return "".join(f"{it}\n" for it in [*lines, f"= RabbitMQ {version} {verdict}"])
 
 
-def taken(data: bytes, at: int, end: int, depth: int, inside: str = "", rules: str = "RabbitMQ", most: int = -1) -> int:
-    """Returns the offset of the end of a value that RabbitMQ takes, or fails at the first thing that it doesn't.
+class Inner(NamedTuple):
+    """A value that is taken: its offset, type tag and key, in how many containers it is, and the offset of the innermost."""
+
+    at: int
+    tag: str
+    key: bytes | None
+    outer: int
+    container: int
+
+
+def taken(data: bytes, rules: str = "RabbitMQ", depth: int = DEPTH) -> list[Inner]:
+    """The value at the start and those in it, if RabbitMQ takes it, or a failure at the first thing that it doesn't.
 
     The failure also has the type tag of the container that it is in. Other rules are those of what is read here: "any
     keys", and "read", by which keys are UTF-8.
     """
-    begin, stop, most = at, at + extent(data[at:end][:5]), depth if most < 0 else most
+    return [*walked(data, 0, len(data), rules, depth, Inner(0, "", None, -1, 0), None)]
+
+
+Walk = Generator[Inner, None, int]
+
+
+def walked(data: bytes, at: int, end: int, rules: str, depth: int, around: Inner, key: bytes | None) -> Walk:
+    """Yields a value that is in another, and those in it, and returns the offset of its end."""
+    inside, outer = around.tag, around.outer + 1
+    begin, stop = at, at + extent(data[at : min(end, at + 5)])
     tags = {*TYPES} - ({"U"} if rules == "RabbitMQ" else set())
     tag = chr(data[at]) if at < end else ""
     if tag and tag not in tags:
@@ -567,10 +580,13 @@ def taken(data: bytes, at: int, end: int, depth: int, inside: str = "", rules: s
         raise cut(data, begin, tag, stop, inside)
     if rules == "RabbitMQ" and tag in "fd" and not math.isfinite(struct.unpack(f">{tag}", data[at + 1 : stop])[0]):
         raise Failure(begin, "the number is an infinity or a NaN", inside)
-    if tag in "AF" and not depth:
-        raise Failure(begin, f"containers nest deeper than --depth {most} allows", inside)
+    if tag in "AF" and outer == depth:
+        raise Failure(begin, f"containers nest deeper than --depth {depth} allows", inside)
+    value = Inner(begin, tag, key, outer, around.at)
+    yield value
     at += 5
     while tag in "AF" and at < stop:
+        key = None
         if tag == "F":
             if at + 1 + data[at] > stop:
                 raise Failure(at, f"the key of {size_of(data[at])} goes past the end of its table", tag)
@@ -578,7 +594,7 @@ def taken(data: bytes, at: int, end: int, depth: int, inside: str = "", rules: s
             if rules == "read" and not is_utf8(key):
                 raise Failure(at, f"the key {quoted(key)} isn't UTF-8", tag)
             at += 1 + data[at]
-        at = taken(data, at, stop, depth - 1, tag, rules, most)
+        at = yield from walked(data, at, stop, rules, depth, value, key)
     return stop
 
 
@@ -591,29 +607,14 @@ def cut(data: bytes, at: int, tag: str, stop: int, inside: str) -> Failure:
     return Failure(at, past or "a value is expected; its table ends here", inside)
 
 
-def pairs(data: bytes, at: int) -> Iterator[tuple[int, int, bytes]]:
-    """Yields each pair in a value that RabbitMQ takes: the offset of its table, its own, and its key."""
-    container, tag, stop = at, chr(data[at]), at + extent(data[at : at + 5])
-    at += 5
-    while tag in "AF" and at < stop:
-        if tag == "F":
-            key = data[at + 1 : at + 1 + data[at]]
-            yield container, at, key
-            at += 1 + len(key)
-        yield from pairs(data, at)
-        at += extent(data[at : at + 5])
-
-
-def values_in(data: bytes, at: int, outer: int = 0) -> Iterator[tuple[int, str, int]]:
-    """Yields each value in one that RabbitMQ takes: its offset and type tag, and in how many containers it is."""
-    tag, stop = chr(data[at]), at + extent(data[at : at + 5])
-    yield at, tag, outer
-    if tag in "AF":
-        at += 5
-        while at < stop:
-            at += 1 + data[at] if tag == "F" else 0
-            yield from values_in(data, at, outer + 1)
-            at += extent(data[at : at + 5])
+def failure_of(data: bytes, rules: str = "RabbitMQ", depth: int = DEPTH) -> tuple[int, str, str] | None:
+    """The first thing in a value that the rules don't allow: its offset, why, and the type tag of its container."""
+    try:
+        taken(data, rules, depth)
+    except Failure as failure:
+        at, why, inside = failure.args
+        return at, why, inside
+    return None
 
 
 def is_utf8(key: bytes) -> bool:
@@ -625,23 +626,24 @@ def is_utf8(key: bytes) -> bool:
 
 
 def doubtful(data: bytes, levels: int) -> dict[str, list[int]]:
-    """Where what is doubtful in a value that RabbitMQ takes is: pairs by their keys, and containers that are too deep."""
-    found = [*pairs(data, 0)]
-    first = {(table, key): at for table, at, key in reversed(found)}
+    """Where what is doubtful in a value is: pairs by their keys, and containers that are too deep."""
+    found = taken(data, "any keys", 2**32)
+    pairs = [(it.at - 1 - len(it.key), it.key, it.container) for it in found if it.key is not None]
+    first = {(table, key): at for at, key, table in reversed(pairs)}
     return {
-        "repeated_key": [at for table, at, key in found if first[table, key] < at],
-        "key_not_utf8": [at for _, at, key in found if not is_utf8(key)],
-        "empty_key": [at for _, at, key in found if not key],
-        "too_deep": [at for at, tag, outer in values_in(data, 0) if tag in "AF" and levels <= outer],
+        "repeated_key": [at for at, key, table in pairs if first[table, key] < at],
+        "key_not_utf8": [at for at, key, _ in pairs if not is_utf8(key)],
+        "empty_key": [at for at, key, _ in pairs if not key],
+        "too_deep": [it.at for it in found if it.tag in "AF" and levels <= it.outer],
     }
 
 
 def unfit_for_streams(data: bytes) -> dict[str, list[int]]:
     """Where the decimals of a value are, and the containers in its outermost one."""
-    found = [*values_in(data, 0)]
+    found = taken(data, "any keys", 2**32)
     return {
-        "decimal": [at for at, tag, _ in found if tag == "D"],
-        "nested_header": [at for at, tag, outer in found if tag in "AF" and outer],
+        "decimal": [it.at for it in found if it.tag == "D"],
+        "nested_header": [it.at for it in found if it.tag in "AF" and it.outer],
     }
 
 
@@ -660,7 +662,7 @@ WARNINGS = {
 }
 
 
-def warned(found: Dissection, end: int, version: str) -> Iterator[str]:
+def warned(found: Dissection, version: str) -> Iterator[str]:
     """A line for the first of each that is doubtful in a value that RabbitMQ takes, and for its size."""
     data = found.data
     kept = "" if version == "3.10" else " unless its key is CC or begins with x-"
@@ -669,7 +671,7 @@ def warned(found: Dissection, end: int, version: str) -> Iterator[str]:
             words = {"key": quoted(data[at + 1 : at + 1 + data[at]]), "path": found.path(at), "kept": kept}
             what = WARNINGS[kind].format(**words, equal_keys=EQUAL_KEYS[version])
             yield f"* offset {found.offset(at)}: {what}"
-    if exceeds(end, FRAME_MAX):
+    if exceeds(found.end, FRAME_MAX):
         yield f"* the {found.subject} takes a frame of more than {FRAME_MAX} bytes, RabbitMQ's usual frame_max"
 
 
@@ -687,9 +689,8 @@ def value_of(make: random.Random, depth: int) -> bytes:
     if width is not None:
         return tag.encode() + make.randbytes(width)
     if tag in "Sx":
-        return field(
-            tag.encode(), make.choice([b"", 'gr\u00fc\u00df \u202e\u0085"\\\x1b[31m'.encode(), make.randbytes(17)])
-        )
+        escaped_ones = 'gr\u00fc\u00df \u202e\u0085"\\\x1b[31m'.encode()
+        return field(tag.encode(), make.choice([b"", escaped_ones, make.randbytes(17)]))
     entries = [value_of(make, depth - 1) for _ in range(make.randrange(5))]
     return table_of(make, entries) if tag == "F" else field(b"A", b"".join(entries))
 
@@ -712,30 +713,15 @@ def nested(form: str, depth: int, inside: bytes, key: bytes = b"\1k") -> bytes:
 
 def numbers(make: random.Random) -> Iterator[bytes]:
     """Floats, Doubles and Timestamps at every edge, in arrays."""
-    floats = [
-        *range(0, 1 << 31, 1 << 23),
-        *range(1, 1 << 31, 1 << 23),
-        0x7F7FFFFF,
-        *(make.getrandbits(32) for _ in range(1000)),
-    ]
+    most_of_32, most_of_64 = 0x7F7FFFFF, (0x7FF << 52) - 1
+    floats = [*range(0, 1 << 31, 1 << 23), *range(1, 1 << 31, 1 << 23), most_of_32]
+    floats += [make.getrandbits(32) for _ in range(1000)]
     floats += [int.from_bytes(struct.pack(">f", 10.0**it), "big") for it in range(-38, 39)]
-    doubles = [
-        *range(0, 1 << 63, 1 << 52),
-        *range(1, 1 << 63, 1 << 52),
-        (0x7FF << 52) - 1,
-        *(make.getrandbits(64) for _ in range(1000)),
-    ]
+    doubles = [*range(0, 1 << 63, 1 << 52), *range(1, 1 << 63, 1 << 52), most_of_64]
+    doubles += [make.getrandbits(64) for _ in range(1000)]
     doubles += [int.from_bytes(struct.pack(">d", -(10.0**it)), "big") for it in range(-323, 309)]
-    times = [
-        0,
-        951782400,
-        1735689600,
-        *(LAST_DATE + it for it in (-1, 0, 1, 10**5)),
-        2**63 - 1,
-        2**63,
-        2**64 - 1,
-    ]
-    times += [make.randrange(LAST_DATE) for _ in range(100)]
+    times = [0, 951782400, 1735689600, 2**63 - 1, 2**63, 2**64 - 1]
+    times += [LAST_DATE + it for it in (-1, 0, 1, 10**5)] + [make.randrange(LAST_DATE) for _ in range(100)]
     yield field(b"A", b"".join(b"f" + struct.pack(">I", it) for it in floats))
     yield field(b"A", b"".join(b"d" + struct.pack(">Q", it) for it in doubles))
     yield field(b"A", b"".join(b"T" + struct.pack(">Q", it) for it in times))
@@ -744,32 +730,26 @@ def numbers(make: random.Random) -> Iterator[bytes]:
 def damaged(make: random.Random, data: bytes) -> bytes:
     """The bytes with one of them another, one more or one less."""
     at = make.randrange(len(data))
-    return make.choice(
-        [
-            data[:at],
-            data[:at] + make.randbytes(1) + data[at + 1 :],
-            data[:at] + data[at + 1 :],
-            data[:at] + b"\xff" + data[at:],
-        ]
-    )
+    return make.choice([data[:at], data[:at] + make.randbytes(1) + data[at + 1 :], data[:at] + data[at + 1 :],
+                        data[:at] + b"\xff" + data[at:]])  # fmt: skip
 
 
-def captured() -> list[bytes]:
-    lines = [it for it in CAPTURED.read_text().splitlines() if it and not it.startswith("#")]
-    return [bytes.fromhex(it.rpartition(": ")[2]) for it in lines]
+def captured() -> dict[str, bytes]:
+    """The tables that were captured, by name."""
+    rows = (it.rpartition(": ") for it in CAPTURED.read_text().splitlines() if it and not it.startswith("#"))
+    return {name: bytes.fromhex(digits) for name, _, digits in rows}
 
 
 def inputs() -> Iterator[bytes]:
     """Inputs of every kind: types, keys, strings, nesting, what was really sent, and damage to all of it."""
-    make, tables = random.Random(9), captured()
+    make, tables = random.Random(9), [*captured().values()]
     yield from [b"", b"_", b"\0"]
     yield from (tag.encode() + it * 16 for tag in TYPES for it in (b"\0", b"\xff", b"\x80", b"\1"))
     for size in (0, 1, 17, 256, 65536, 70000):
         yield from (field(tag, make.randbytes(size)) for tag in (b"S", b"x"))
         yield field(b"S", b"\xc3\xa9" * (size // 2))
-    yield from (
-        field(b"F", bytes([size]) + b"k" * size + it) for size in (0, 1, 40, 255) for it in (b"V", b"t\7", b"z", b"")
-    )
+    for size in (0, 1, 40, 255):
+        yield from (field(b"F", bytes([size]) + b"k" * size + it) for it in (b"V", b"t\7", b"z", b""))
     for count in (1, 2, 63, 64, 65, 200):
         yield from (nested(tag, count, inside) for tag in "AF" for inside in (b"V", b"z", b"I\0", b"A\0\0\0\0"))
     yield field(b"S", b"\7" * (FRAME - 5))
@@ -794,11 +774,3 @@ def inputs() -> Iterator[bytes]:
 def untagged() -> list[bytes]:
     """The tables among them without their type tag: also cut and damaged ones, and some that bytes follow."""
     return [it[1:] for it in inputs() if it[:1] == b"F"]
-
-
-def stream() -> list[bytes]:
-    """The inputs whose length is known, each up to its end, rejected ones too, and at last one that is cut."""
-    return [
-        *(data[: extent(data)] for data in inputs() if 0 < extent(data) <= len(data)),
-        max(captured(), key=len)[:100],
-    ]

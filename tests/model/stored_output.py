@@ -1,97 +1,129 @@
-"""Checks the stored output of programs against the model: python3 -m tests.model.stored_output
+"""Stored output of programs, by which the model is judged: python3 -m tests.model.stored_output
 
-crates/amqp_wire must print its file `stdout`, which is what the reader and writer of printed.py predict. So must amqp_show in
-the cases of tests/show with JSON and --check, by docs/JSON.md and the model. `make test` runs this, and compares
-the same files with what the programs print.
+amqp_wire must print crates/amqp_wire/stdout, and amqp_show what the cases of tests/show have. The model has to predict both.
+`make test` runs this, and compares the same files with what the programs print. tests/run model also runs it on each broken
+form of the model.
 """
 
 import re
 import sys
 from collections.abc import Iterator, Sequence
-from contextlib import suppress
-from itertools import zip_longest
+from typing import Any
 
 from crates import TOP
 
 from tests.checks import Checks, content
-from tests.model.json_format import value_of_json
-from tests.model.printed import Unread, checked, json_text, read, write
+from tests.model import json_format, printed
+from tests.model.printed import Printed
 from tests.transcripts import Case, Output, cases
 
 CRATES = TOP / "crates"
 # The colours of a terminal.
-COLOURS = re.compile(r"\x1b\[\d+m")
+COLOURS = re.compile(r"\x1b\[\d*m")
+# What the model doesn't predict: words of amqp_show, and cases; and the words that have a value.
+OTHERS = {
+    "--depth",
+    "--max-bytes",
+    "--raw",
+    "--help",
+    "--version",
+    "/dev/zero",
+    "file_name_escape",
+    "hexadecimal_forms",
+}
+WITH_VALUE = ("--depth", "--max-bytes", "--check")
+# The name of a row, and whether the model has what it says.
+Rows = Iterator[tuple[str, bool]]
 
 
-def line(text: str) -> str:
+def line(text: str, model: Any = printed) -> str:
     """What amqp_wire prints of a line."""
     if not re.fullmatch("([0-9a-fA-F]{2})*", text):
         return "not hex"
     try:
-        value, rest = read(bytes.fromhex(text))
-        return f"value {write(value).hex()} rest {len(rest)}"
-    except Unread as why:
+        value, rest = model.read(bytes.fromhex(text))
+        return f"value {model.write(value).hex()} rest {len(rest)}"
+    except model.Unread as why:
         return str(why)
 
 
-def lines_of(case: Case) -> Iterator[str]:
-    """What amqp_show must print of a case's inputs as JSON: of each up to one value, all, or a malformed one."""
-    words = case.words
-    for file in [it for it in words if not it.startswith("--")] or ["-"]:
+def rows_of_wire(model: Any) -> Rows:
+    """The lines of amqp_wire."""
+    given, wants = ((CRATES / "amqp_wire" / it).read_text().splitlines() for it in ("stdin", "stdout"))
+    for text, said in zip(given, wants, strict=True):
+        yield f"amqp_wire of {text[:99]}", line(text, model) == said
+
+
+def files_of(words: Sequence[str]) -> list[str]:
+    """The files that words of amqp_show name, or standard input."""
+    named = [it for at, it in enumerate(words) if it[:2] != "--" and (at == 0 or words[at - 1] not in WITH_VALUE)]
+    return named or ["-"]
+
+
+def predicted_of_input(words: Sequence[str], data: bytes, model: Any = printed) -> Printed:
+    """What amqp_show prints of an input with these words."""
+    subject = "table" if "--table" in words else "value"
+    form = "bytes" if "--bytes" in words else "JSON" if "--json" in words else "tree"
+    if "--check" in words:
+        version = words[words.index("--check") + 1].partition("-")[2] or "4.3"
+        found: Printed = model.checked(data, subject, version)
+    elif "--stream" in words:
+        found = model.streamed(data)[form]
+    elif form == "JSON":
+        found = model.printed_json(data, subject)
+    else:
+        found = model.printed(data, form, "--canonical" in words, subject)
+    return found
+
+
+def predicted(case: Case, model: Any) -> Printed:
+    """What amqp_show prints of all files of a case."""
+    out, error, status = "", "", 0
+    for file in files_of(case.words):
         data = case.given if file == "-" else content(CRATES / "amqp_show/data" / file)
-        data = tag_of(words) + (bytes.fromhex(data.decode()) if "--hex" in words else data)
-        with suppress(Unread):
-            while data:
-                value, rest = read(data)
-                yield json_text(value)
-                data = rest if "--stream" in words else b""
+        data = bytes.fromhex(data.decode()) if "--hex" in case.words else data
+        text, said, failed = predicted_of_input(case.words, data, model)
+        has_name = file != "-" and not {"--json", "--check"} & {*case.words}
+        out += f"{file}:\n" * has_name + text
+        error += said.replace('"-"', f'"{file}"')
+        status = max(status, failed)
+    return out, error, status
 
 
-def tag_of(words: Sequence[str]) -> bytes:
-    """The type tag that is left out."""
-    return b"F" if "--table" in words else b""
+def is_judged(name: str, case: Case) -> bool:
+    """Whether the model predicts a case of tests/show."""
+    is_read = case.output in (Output.PIPE, Output.TERMINAL) and case.wants.status != 2
+    is_stream_checked = {"--check", "--stream"} <= {*case.words}
+    return is_read and not is_stream_checked and not OTHERS & {name, *case.words}
 
 
-def is_judged(case: Case) -> bool:
-    """Whether a case is within the limits of the model, and ends well enough to print something."""
-    is_limited = {"--max-bytes", "--depth", "--raw"} & {*case.words}
-    return not is_limited and case.output in (Output.PIPE, Output.TERMINAL) and case.wants.status != 2
-
-
-def judged_cases() -> Iterator[tuple[str, bool]]:
-    """Yields the cases of amqp_show that JSON, encodings and RabbitMQ decide, and whether each is right."""
+def rows_of_show(model: Any) -> Rows:
+    """The cases of amqp_show that read encodings."""
     for name, case in cases(TOP / "tests/show").items():
-        words, status = case.words, case.wants.status
-        if not is_judged(case):
-            continue
-        wants = case.wants.out.decode()
-        if "--json" in words:
-            yield name, wants == "".join(f"{line}\n" for line in lines_of(case))
-        elif "--check" in words and "--stream" not in words:
-            version = words[words.index("--check") + 1].partition("-")[2] or "4.3"
-            text, _, said = checked(case.given, "table" if "--table" in words else "value", version)
-            yield name, (COLOURS.sub("", wants), status) == (text, said)
-        elif "--encode" in words and not status:
-            data = tag_of(words) + bytes.fromhex(wants)
-            value, rest = read(data)
-            yield name, not rest and write(value) == data and value_of_json(case.given) == value
+        if is_judged(name, case) and "--encode" not in case.words:
+            wants = COLOURS.sub("", case.wants.out.decode()), case.wants.error.decode(), case.wants.status
+            yield f"{name} of tests/show", predicted(case, model) == wants
 
 
-def first_other(crate: str, wants: Sequence[str]) -> str:
-    """What is wrong with the stored output of a crate that has to print these lines."""
-    stored = content(CRATES / crate / "stdout").decode().splitlines()
-    pairs = enumerate(zip_longest(stored, wants), 1)
-    other = next((f"line {n} is {it[0]!r}, predicted is {it[1]!r}" for n, it in pairs if it[0] != it[1]), "")
-    return other if wants else "no line is predicted"
+def rows_of_encode(model: Any) -> Rows:
+    """The cases of amqp_show that read JSON."""
+    for name, case in cases(TOP / "tests/show").items():
+        if is_judged(name, case) and "--encode" in case.words and not case.wants.status:
+            data = b"F" * ("--table" in case.words) + bytes.fromhex(case.wants.out.decode())
+            yield f"{name} of tests/show", printed.write(model.value_of_json(case.given)) == data
 
 
 def main() -> int:
     checks = Checks("model")
-    lines = [line(text) for text in (CRATES / "amqp_wire/stdin").read_text().splitlines()]
-    checks.tell(f"amqp_wire, {len(lines)} lines", first_other("amqp_wire", lines))
-    judged = [*judged_cases()]
-    wrong = [name for name, is_well in judged if not is_well]
-    checks.tell(f"amqp_show, {len(judged)} cases", ", ".join(wrong) if judged else "no case is judged")
+    of_programs = {
+        "amqp_wire": rows_of_wire(printed),
+        "amqp_show": rows_of_show(printed),
+        "amqp_show --encode": rows_of_encode(json_format),
+    }
+    for program, rows in of_programs.items():
+        found = [*rows]
+        wrong = [name for name, is_well in found if not is_well]
+        checks.tell(f"{program}, {len(found)} rows", ", ".join(wrong) if found else "there is none")
     return checks.ended()
 
 

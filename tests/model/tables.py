@@ -6,8 +6,8 @@ from fractions import Fraction
 from random import Random
 from typing import Any, NamedTuple
 
-from tests.model.printed import COUNTED, DEPTH, SIGNED, TYPES, Dissection, Failure, Unread, Value
-from tests.model.printed import encoded, extent, field, is_utf8, read, taken
+from tests.model.printed import COUNTED, DEPTH, SIGNED, TYPES, Dissection, Unread, Value
+from tests.model.printed import encoded, extent, failure_of, field, is_utf8, read
 
 PLAIN = "tbBsuIilfdDSxTV"
 INTEGERS = "bBsuIil"
@@ -127,13 +127,11 @@ ROWS = ["U", "unknown tag", "NaN f", "NaN d", "infinity f", "infinity d", "value
 
 def first_problem(data: bytes, rules: str = "RabbitMQ", depth: int = DEPTH) -> Problem | None:
     """The first thing in a value that the rules don't allow: offset, kind and unknown tag, or None."""
-    try:
-        taken(data, 0, len(data), depth, rules=rules)
-    except Failure as failure:
-        at, why, _ = failure.args
-        kind = next(kind for kind, words in PROBLEMS.items() if words in why)
-        return at, kind, data[at] if kind == 1 else 0
-    return None
+    if not (found := failure_of(data, rules, depth)):
+        return None
+    at, why, _ = found
+    kind = next(kind for kind, words in PROBLEMS.items() if words in why)
+    return at, kind, data[at] if kind == 1 else 0
 
 
 def row_of(data: bytes, problem: Problem) -> str:
@@ -149,11 +147,8 @@ def row_of(data: bytes, problem: Problem) -> str:
 
 def container_of(data: bytes) -> str:
     """The type tag of the container that the first problem is in."""
-    try:
-        taken(data, 0, len(data), DEPTH)
-    except Failure as failure:
-        return str(failure.args[2])
-    return ""
+    _, _, inside = failure_of(data) or (0, "", "")
+    return inside
 
 
 def is_read(data: bytes) -> bool:
@@ -337,9 +332,8 @@ def binary(data: bytes) -> str:
 
 # Bytes that are odd
 
-NAN_FLOATS = ("7fc00000", "ffc00000", "7f800001", "7fffffff")
-NAN_DOUBLES = ("7ff8000000000000", "fff0000000000001", "7fffffffffffffff")
-NAN = [b"f" + bytes.fromhex(it) for it in NAN_FLOATS] + [b"d" + bytes.fromhex(it) for it in NAN_DOUBLES]
+NAN = [bytes.fromhex(f"66{it}") for it in ("7fc00000", "ffc00000", "7f800001", "7fffffff")]
+NAN += [bytes.fromhex(f"64{it}") for it in ("7ff8000000000000", "fff0000000000001", "7fffffffffffffff")]
 INFINITY = [bytes.fromhex(it) for it in ("667f800000", "66ff800000", "647ff0000000000000", "64fff0000000000000")]
 NO_TAG = [b"\0", b"_\1a", b"z", b"\xff", b"n\0"]
 CUT = [field(b"A", it) for it in (b"VI\0\0\0", b"S\0\0\0\5four", b"F\0\0")]

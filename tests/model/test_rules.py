@@ -1,26 +1,29 @@
-"""Each rule of the model, broken once: the model that has it otherwise disagrees with a row of worked.py.
+"""Each rule of the model, broken once: the model that has it otherwise disagrees with a row.
 
-The rules are the blocks of `mutants`, and of each type tag that there is one, its width and its type.
+The rules are the lines of `mutants`, and of each type tag that there is one, its width and its type. The rows are those of
+worked.py, and what programs have stored.
 """
 
 import re
-from collections.abc import Iterator
+import signal
+from collections.abc import Callable, Iterator
 from pathlib import Path
 from types import ModuleType
-from typing import NamedTuple
+from typing import Any, NamedTuple
 
 import pytest
 
-from tests.model import json_format, printed, tables
-from tests.model.worked import Rows, first_wrong, rows_of_json, rows_of_printed, rows_of_tables
+from tests.model import json_format, printed, stored_output, tables, worked
+from tests.model.stored_output import Rows
 
 HERE = Path(__file__).parent
 # The rows by which each file is judged.
-ROWS: dict[str, tuple[ModuleType, Rows]] = {
-    "printed.py": (printed, rows_of_printed),
-    "tables.py": (tables, rows_of_tables),
-    "json_format.py": (json_format, rows_of_json),
+ROWS: dict[str, tuple[ModuleType, list[Callable[[Any], Rows]]]] = {
+    "printed.py": (printed, [stored_output.rows_of_wire, stored_output.rows_of_show, worked.rows_of_printed]),
+    "tables.py": (tables, [worked.rows_of_tables]),
+    "json_format.py": (json_format, [worked.rows_of_json, stored_output.rows_of_encode]),
 }
+CHANGE = re.compile("«(.*?)→(.*?)»")
 
 
 class Mutant(NamedTuple):
@@ -35,12 +38,10 @@ class Mutant(NamedTuple):
 def of_types() -> Iterator[Mutant]:
     """Of each type tag that it is one, the width of its payload, and its type; and of each name in JSON what is under it."""
     for tag, (name, width) in printed.TYPES.items():
-        entry = f'"{tag}": ("{name}", {width})'
+        entry, wider = f'"{tag}": ("{name}", {width})', 3 if width is None else width + 1
         other = "Boolean" if name == "Void" else "Void"
         yield Mutant(f"{tag} is a type tag", "printed.py", entry, f'"no tag {tag}": ("{name}", {width})')
-        yield Mutant(
-            f"the width of {tag}", "printed.py", entry, f'"{tag}": ("{name}", {3 if width is None else width + 1})'
-        )
+        yield Mutant(f"the width of {tag}", "printed.py", entry, f'"{tag}": ("{name}", {wider})')
         yield Mutant(f"the type of {tag}", "printed.py", entry, f'"{tag}": ("{other}", {width})')
     for name, (tag, width, is_signed) in json_format.INTEGERS.items():
         entry = f'"{name}": ("{tag}", {width}, {is_signed})'
@@ -50,12 +51,14 @@ def of_types() -> Iterator[Mutant]:
 
 
 def of_file() -> Iterator[Mutant]:
-    """The blocks of `mutants`."""
-    for block in re.split(r"(?m)^## ", (HERE / "mutants").read_text())[1:]:
-        rule, *lines = block.splitlines()
-        old, new = ("\n".join(it[2:] for it in lines if it.startswith(sign)) for sign in "-+")
-        (file,) = [it.removeprefix("file: ") for it in lines if it.startswith("file: ")] or ["printed.py"]
-        yield Mutant(rule, file, old, new)
+    """The lines of `mutants`."""
+    file = ""
+    for line in (HERE / "mutants").read_text().splitlines():
+        if line and line[0] != "#":
+            rule, _, change = line.partition(": ")
+            file = change if rule == "file" else file
+            if rule != "file":
+                yield Mutant(rule, file, CHANGE.sub(r"\1", change), CHANGE.sub(r"\2", change))
 
 
 MUTANTS = [*of_types(), *of_file()]
@@ -70,15 +73,30 @@ def mutated(it: Mutant) -> ModuleType:
     return module
 
 
+def first_wrong(file: str, model: Any) -> str:
+    """The first row that a model doesn't agree with, or at which it fails; nothing if it agrees with all."""
+    name = "the first row"
+    try:
+        for rows in ROWS[file][1]:
+            for name, is_well in rows(model):
+                if not is_well:
+                    return name
+    except Exception as why:
+        return f"after {name}: {why!r}"
+    return ""
+
+
 @pytest.mark.parametrize("file", ROWS)
 def test_model_agrees_with_each_row(file: str) -> None:
-    module, rows = ROWS[file]
-    assert first_wrong(rows, module) == ""
+    assert first_wrong(file, ROWS[file][0]) == ""
 
 
 @pytest.mark.parametrize("mutant", MUTANTS, ids=[it.rule for it in MUTANTS])
 def test_broken_rule_is_found_out(mutant: Mutant) -> None:
-    assert first_wrong(ROWS[mutant.file][1], mutated(mutant)) != ""
+    # (a broken model may never end, which then ends the process)
+    signal.alarm(30)
+    assert first_wrong(mutant.file, mutated(mutant)) != ""
+    signal.alarm(0)
 
 
 def test_each_rule_is_broken_once() -> None:

@@ -80,8 +80,8 @@ def test_tables(program: Path, form: str, seed: int) -> None:
 
 @pytest.mark.parametrize(("form", "words"), (("tree", "--tree"), ("bytes", "--bytes"), ("JSON", "--json")))
 def test_stream(program: Path, form: str, words: str, seed: int) -> None:
-    found = [*values(seed), b"A\0\0\0\1z"]
-    assert shown(program, f"--stream {words}", b"".join(found)) == as_ending(printed.streamed(found)[form])
+    data = b"".join([*values(seed), b"A\0\0\0\1z"])
+    assert shown(program, f"--stream {words}", data) == as_ending(printed.streamed(data)[form])
 
 
 @pytest.mark.parametrize("name", ("numbers", "nested", "captured"))
@@ -90,7 +90,7 @@ def test_others(program: Path, name: str) -> None:
     given = {
         "numbers": [*printed.numbers(Random(9))],
         "nested": [printed.nested(form, count, b"") for form in ("A", "F", "FA") for count in (32, 33, 64, 65)],
-        "captured": printed.captured(),
+        "captured": [*printed.captured().values()],
     }[name]
     for words, wants_of in FORMS.values():
         assert wrong(program, given, words, wants_of) == []

@@ -6,14 +6,13 @@ from typing import Any, NamedTuple
 
 from crates import TOP
 
+from tests.model.stored_output import COLOURS, files_of
 from tests.transcripts import Case, cases
 
 DATA = TOP / "crates/amqp_show/data"
-COLOURS = re.compile(r"\x1b\[\d*m")
 NOTE = re.compile(r" \((?:the key comes after|the type tag|the byte)[^)]*\)")
 PART = re.compile(r" *\d+  (?:[0-9a-f]{2}| {18})")
 FAULT = re.compile(r'amqp_show: ".*?": (line \d+, column \d+: .*|the text ends inside a byte.*|a dump of .*)')
-WITH_WORD = ("--depth", "--max-bytes", "--check")
 # The file of a failure, and the last line of a value of a stream.
 FAILED = re.compile(r'amqp_show: "(.*?)": (?!more bytes follow|.* comes again;)')
 OFFSET = re.compile(r"^([!*] offset )(\d+):")
@@ -43,12 +42,6 @@ def settings(words: tuple[str, ...]) -> dict[str, Any]:
         if word in words:
             how[name] = int(words[words.index(word) + 1])
     return how
-
-
-def files_of(words: tuple[str, ...]) -> list[str]:
-    """The files that words name, or standard input."""
-    named = [it for at, it in enumerate(words) if it[:2] != "--" and (at == 0 or words[at - 1] not in WITH_WORD)]
-    return named or ["-"]
 
 
 def printed_of(case: Case) -> dict[str, list[str]]:

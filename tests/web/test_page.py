@@ -126,18 +126,11 @@ def test_random_tables(browser: Browser, bits: int, seed: int) -> None:
 @BITS
 def test_prefixes(browser: Browser, bits: int) -> None:
     """Every prefix of three tables that were captured, with their type tag and without it."""
-    names = dict(captured_by_name())
+    names = printed.captured()
     for name in ("x-death after 2", "server-properties", "federation"):
         prefixes = [names[name][:size] for size in range(len(names[name]))]
         assert judge(browser, bits, prefixes)
         assert judge(browser, bits, [it[1:] for it in prefixes[1:]], isTable=True)
-
-
-def captured_by_name() -> Iterator[tuple[str, bytes]]:
-    for line in printed.CAPTURED.read_text().splitlines():
-        name, _, digits = line.rpartition(": ")
-        if digits and not line.startswith("#"):
-            yield name, bytes.fromhex(digits)
 
 
 def bytes_of(browser: Browser, text: str | None, data: bytes) -> bytes:
