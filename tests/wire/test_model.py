@@ -1,15 +1,19 @@
 """amqp_wire, as `rt ci` left it, against the model."""
 
 import subprocess
+from collections import Counter
 from collections.abc import Iterator
 from random import Random
 
 from building import is_up_to_date
 from crates import Crates
 
+from tests.calls import bytes_of
+from tests.calls import stored as rows_of
 from tests.model.printed import write
 from tests.model.stored_output import line
 from tests.model.tables import EVERY_TYPE, odd_table, random_value
+from tests.wire.answered import answers
 
 CRATES = Crates()
 # What takes the place of a byte: bounds, type tags, and bytes that are none and no UTF-8.
@@ -57,6 +61,17 @@ def assert_lines(given: list[bytes]) -> None:
 
 def test_fronts_and_replaced_bytes() -> None:
     assert_lines([*damaged(table_of_every_type())])
+
+
+def test_replaced_bytes_of_a_stored_table() -> None:
+    """What is a value then is written into as many bytes as were read, and read back: if not, test_calls answers `ok not ..`."""
+    (stored,) = [it for it, _ in rows_of("canonical.calls") if it.startswith("wire_sizes 46000000c2")]
+    data = bytes_of(stored.partition(" ")[2])
+    given = [data[:at] + bytes([it]) + data[at + 1 :] for at in range(len(data)) for it in b"\x00z\xff"]
+    said = [answer for _, answer in answers([f"wire {it.hex()}" for it in given])]
+    assert not [it for it in said if it.startswith("ok not")]
+    assert Counter(it.split(" ")[0] for it in said) == {"ok": 344, "more": 7, "error": 246}
+    assert_lines(given)
 
 
 def test_random_encodings(seed: int) -> None:

@@ -1,7 +1,7 @@
 //! Texts of errors: `message BYTES` of the error that `parse_value` returns, `message_of ERROR` of an
 //! error by its name.
 
-use super::words::{bytes_of, kind_of, number};
+use super::words::{bytes_of, kind_of, number, shown};
 use super::{Answer, Trouble};
 use amq_protocol_types::generation::GenError;
 use amq_protocol_types::parsing::{
@@ -13,9 +13,8 @@ use std::alloc::{AllocError, Global};
 
 /// The text of an error.
 pub fn message(alloc: Global, error: ParserError) -> Answer {
-    let own = format!(in alloc; "{error}")?;
-    let error = Error::from(error);
-    let text = format!(in alloc; "{error}")?;
+    let own = shown(alloc, &error)?;
+    let text = shown(alloc, Error::from(error))?;
     if own.as_str() != text.as_str() {
         return Ok(format!(in alloc; "{text} but {own} itself")?);
     }
@@ -34,7 +33,10 @@ fn variant_of(error: &Error) -> &str {
 }
 
 /// The variant of `Error` that the named error becomes, and its text.
-pub fn answer(alloc: Global, words: &[&str]) -> Answer {
+pub fn answer(_rt: &HostRuntime, alloc: Global, call: &str, words: &[&str]) -> Answer {
+    if call != "message_of" {
+        return Err(Trouble::Unknown);
+    }
     let error = error_of(alloc, words)?;
     let variant = variant_of(&error);
     Ok(format!(in alloc; "{variant}: {error}")?)
@@ -51,7 +53,7 @@ fn error_of(alloc: Global, words: &[&str]) -> Result<Error, Trouble> {
         ["StreamError::OutOfMemory"] => Error::from(StreamError::OutOfMemory),
         ["StreamError::Failed"] => Error::from(StreamError::Failed),
         ["TryCopyError::OutOfMemory"] => Error::from(TryCopyError::OutOfMemory),
-        ["ParserError::Incomplete"] => Error::from(incomplete(Needed::Unknown)),
+        ["ParserError::Incomplete"] => Error::from(ParserError::Incomplete(Needed::Unknown)),
         [name, word] => return error_with(alloc, *name, *word),
         _ => return Err(Trouble::Unknown),
     })
@@ -59,31 +61,23 @@ fn error_of(alloc: Global, words: &[&str]) -> Result<Error, Trouble> {
 
 /// The error of this name that holds something.
 fn error_with(alloc: Global, name: &str, word: &str) -> Result<Error, Trouble> {
-    match name {
-        "GenError::IoError" => Ok(Error::from(GenError::IoError(kind_of(word)?))),
-        "StreamError::Read" => Ok(Error::from(StreamError::Read(kind_of(word)?))),
-        "StreamError::Refused" => refused(parser_error(alloc, word)?),
-        "ParserError::Error" => Ok(Error::from(parser_error(alloc, word)?)),
-        "ParserError::Incomplete" => Ok(Error::from(incomplete(Needed::Size(number(word)?)))),
-        "ShortStringError" => Ok(Error::from(too_long(alloc, number(word)?)?)),
-        "TryCopyError::TooLong" => too_long_to_copy(alloc, number(word)?),
-        _ => Err(Trouble::Unknown),
-    }
-}
-
-fn refused(error: ParserError) -> Result<Error, Trouble> {
-    match error {
-        Err::Error(error) => Ok(Error::from(StreamError::Refused(error))),
-        _ => Err(Trouble::Unknown),
-    }
-}
-
-fn too_long_to_copy(alloc: Global, length: usize) -> Result<Error, Trouble> {
-    Ok(Error::from(TryCopyError::TooLong(too_long(alloc, length)?)))
-}
-
-fn incomplete(needed: Needed) -> ParserError {
-    Err::Incomplete(needed)
+    Ok(match name {
+        "GenError::IoError" => Error::from(GenError::IoError(kind_of(word)?)),
+        "StreamError::Read" => Error::from(StreamError::Read(kind_of(word)?)),
+        "StreamError::Refused" => match parser_error(alloc, word)? {
+            Err::Error(error) => Error::from(StreamError::Refused(error)),
+            _ => return Err(Trouble::Unknown),
+        },
+        "ParserError::Error" => Error::from(parser_error(alloc, word)?),
+        "ParserError::Incomplete" => {
+            Error::from(ParserError::Incomplete(Needed::Size(number(word)?)))
+        }
+        "ShortStringError" => Error::from(too_long(alloc, number(word)?)?),
+        "TryCopyError::TooLong" => {
+            Error::from(TryCopyError::TooLong(too_long(alloc, number(word)?)?))
+        }
+        _ => return Err(Trouble::Unknown),
+    })
 }
 
 /// The error for a string that isn't UTF-8, for a value that is too large, or for these bytes.
@@ -105,10 +99,9 @@ fn parser_error(alloc: Global, word: &str) -> Result<ParserError, Trouble> {
 
 /// The error for a string of this length.
 fn too_long(alloc: Global, length: usize) -> Result<ShortStringError, Trouble> {
-    let mut text = String::new(alloc);
-    for _ in 0..length {
-        text.push('a')?;
-    }
+    let Ok(text) = String::from_utf8(vec![in alloc; b'a'; length]?) else {
+        return Err(Trouble::Unknown);
+    };
     match ShortString::try_new(text) {
         Ok(_string) => Err(Trouble::Unknown),
         Err(error) => Ok(error),

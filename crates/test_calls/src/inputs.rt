@@ -7,47 +7,55 @@ use amq_protocol_types::parsing::{SliceInput, SplitInput};
 use std::alloc::Global;
 
 /// The length, the byte at N, the bytes before it and from it on, each in its slice, and the chunk.
-pub fn answer(alloc: Global, words: &[&str]) -> Answer {
-    let [place, word, other] = words else {
+pub fn answer(_rt: &HostRuntime, alloc: Global, call: &str, words: &[&str]) -> Answer {
+    let ("input", [place, word, other]) = (call, words) else {
         return Err(Trouble::Unknown);
     };
     let mut whole = bytes_of(alloc, *word)?;
     let cut = whole.len();
     whole.extend_from_slice(bytes_of(alloc, *other)?.as_slice())?;
-    let whole = whole.as_slice();
+    split(alloc, number(*place)?, whole.as_slice(), cut)
+}
+
+fn split(alloc: Global, place: usize, whole: &[u8], cut: usize) -> Answer {
     let (first, second) = whole.split_at(cut.min(whole.len()));
     let (one, two) = (SliceInput::new(whole), SplitInput::new(first, second));
-    let place: usize = number(*place)?;
     if two.input_len() < place || one.input_len() < place {
         return Err(Trouble::Unknown);
     }
-    let (before, after) = (two.take(place), two.take_from(place));
-    let byte = if place < two.input_len() {
-        digits(alloc, &[two.byte_at(place)])?
+    let mut text = format!(in alloc; "length {}", two.input_len())?;
+    if place < two.input_len() {
+        push(alloc, &mut text, "byte ", &[two.byte_at(place)])?;
     } else {
-        String::from_str(alloc, "none")?
-    };
+        text.push_str(" byte none")?;
+    }
+    push_parts(alloc, &mut text, "before ", two.take(place))?;
+    push_parts(alloc, &mut text, "after ", two.take_from(place))?;
+    push(alloc, &mut text, "chunk ", two.chunk())?;
     let (first, second) = whole.split_at(place.min(whole.len()));
     let is_same = one.chunk() == whole
         && one.take(place).as_slice() == first
         && one.take_from(place).as_slice() == second;
-    Ok(format!(in alloc;
-        "length {} byte {byte} before {} after {} chunk {}{}",
-        two.input_len(),
-        parts_of(alloc, before)?,
-        parts_of(alloc, after)?,
-        digits(alloc, two.chunk())?,
-        if is_same {
-            ""
-        } else {
-            " but one slice has others"
-        }
-    )?)
+    if !is_same {
+        text.push_str(" but one slice has others")?;
+    }
+    Ok(text)
 }
 
-/// The two slices of an input.
-fn parts_of(alloc: Global, input: SplitInput<'_>) -> Answer {
+/// Adds what bytes are, and these.
+fn push(alloc: Global, text: &mut String, what: &str, bytes: &[u8]) -> Result<(), Trouble> {
+    let bytes = digits(alloc, bytes)?;
+    Ok(write!(text, " {what}{bytes}")?)
+}
+
+/// The same, of both slices of an input.
+fn push_parts(
+    alloc: Global,
+    text: &mut String,
+    what: &str,
+    input: SplitInput<'_>,
+) -> Result<(), Trouble> {
     let (first, second) = input.parts();
     let (first, second) = (digits(alloc, first)?, digits(alloc, second)?);
-    Ok(format!(in alloc; "{first},{second}")?)
+    Ok(write!(text, " {what}{first},{second}")?)
 }

@@ -3,19 +3,17 @@
 //!
 //! Steps are `-` for none, or joined by `/`, each a position or a key.
 
-use super::in_place::with_rest;
-use super::values::{decimal_text, value_text};
-use super::words::{bytes_of, digits, number, quoted, text_of};
+use super::values::{Word, push_some, push_word};
+use super::words::{bytes_of, digits, named, number, plain, quoted, shown, text_of};
 use super::{Answer, Trouble};
 use amqp_in_place::{ArrayRef, EqualKeys, PathStep, TableRef, ValueRef, read_in_place_unlimited};
-use std::alloc::{AllocError, Global};
-use std::fmt::Display;
+use std::alloc::Global;
 
 /// So many values or pairs of a container are shown, at most.
 const MOST: usize = 12;
 
 /// What a call of a value in place answers.
-pub fn answer<R: Eprint>(rt: &R, alloc: Global, call: &str, words: &[&str]) -> Answer {
+pub fn answer(rt: &HostRuntime, alloc: Global, call: &str, words: &[&str]) -> Answer {
     let [word, words @ ..] = words else {
         return Err(Trouble::Unknown);
     };
@@ -23,45 +21,43 @@ pub fn answer<R: Eprint>(rt: &R, alloc: Global, call: &str, words: &[&str]) -> A
     let Ok((value, [])) = read_in_place_unlimited(bytes.as_slice()) else {
         return Err(Trouble::Unknown);
     };
-    match (call, words) {
-        ("iter", []) => each(rt, alloc, value),
-        ("iter", [steps]) => each_at(rt, alloc, value, *steps),
-        ("get", [key]) => match value {
-            ValueRef::FieldTable(table) => get(rt, alloc, table, text_of(alloc, *key)?.as_str()),
-            _ => Err(Trouble::Unknown),
-        },
-        ("get_path", [steps]) => get_path(rt, alloc, value, *steps),
-        ("repeated_key", []) => match value {
-            ValueRef::FieldTable(table) => match call!(rt; table.repeated_key(alloc)) {
-                Ok(Some(key)) => Ok(quoted(alloc, key)?),
-                Ok(None) => Ok(format!(in alloc; "None")?),
-                Err(error) => Ok(format!(in alloc; "{error:?}")?),
-            },
-            _ => Err(Trouble::Unknown),
-        },
-        ("view_getters", []) => getters(alloc, value),
+    match (call, words, value) {
+        ("iter", [], _) => each(rt, alloc, value),
+        ("iter", [steps], _) => each_at(rt, alloc, value, *steps),
+        ("get", [key], ValueRef::FieldTable(table)) => get(rt, alloc, table, *key),
+        ("get_path", [steps], _) => get_path(rt, alloc, value, *steps),
+        ("repeated_key", [], ValueRef::FieldTable(table)) => repeated_key(rt, alloc, table),
+        ("view_getters", [], _) => getters(alloc, value),
         _ => Err(Trouble::Unknown),
     }
 }
 
+fn repeated_key(rt: &HostRuntime, alloc: Global, table: TableRef<'_>) -> Answer {
+    match call!(rt; table.repeated_key(alloc)) {
+        Ok(Some(key)) => quoted(alloc, key),
+        Ok(None) => plain(alloc, "None"),
+        Err(error) => named(alloc, error),
+    }
+}
+
 /// The word of what was found, of a container its bytes.
-fn found_text(alloc: Global, found: Option<ValueRef<'_>>) -> Result<String, AllocError> {
+fn found_text(alloc: Global, found: Option<ValueRef<'_>>) -> Answer {
     match found {
-        None => format!(in alloc; "None"),
+        None => plain(alloc, "None"),
         Some(ValueRef::FieldArray(array)) => {
             let bytes = digits(alloc, array.as_bytes())?;
-            format!(in alloc; "FieldArray({bytes})")
+            Ok(format!(in alloc; "FieldArray({bytes})")?)
         }
         Some(ValueRef::FieldTable(table)) => {
             let bytes = digits(alloc, table.as_bytes())?;
-            format!(in alloc; "FieldTable({bytes})")
+            Ok(format!(in alloc; "FieldTable({bytes})")?)
         }
-        Some(value) => value_text(alloc, &value.to_owned(alloc)?),
+        Some(value) => value.to_owned(alloc)?.word(alloc),
     }
 }
 
 /// The values of a container in order, each with the bytes that are left after it, until there is none twice.
-fn each<R: Eprint>(rt: &R, alloc: Global, value: ValueRef<'_>) -> Answer {
+fn each(rt: &HostRuntime, alloc: Global, value: ValueRef<'_>) -> Answer {
     match value {
         ValueRef::FieldArray(array) => each_value(rt, alloc, array),
         ValueRef::FieldTable(table) => each_pair(rt, alloc, table),
@@ -69,7 +65,7 @@ fn each<R: Eprint>(rt: &R, alloc: Global, value: ValueRef<'_>) -> Answer {
     }
 }
 
-fn each_value<R: Eprint>(rt: &R, alloc: Global, array: ArrayRef<'_>) -> Answer {
+fn each_value(rt: &HostRuntime, alloc: Global, array: ArrayRef<'_>) -> Answer {
     let mut text = begun(alloc, array.as_bytes(), array.is_empty())?;
     let mut values = call!(rt; array.iter());
     for at in 0..MOST {
@@ -89,7 +85,7 @@ fn each_value<R: Eprint>(rt: &R, alloc: Global, array: ArrayRef<'_>) -> Answer {
     Ok(text)
 }
 
-fn each_pair<R: Eprint>(rt: &R, alloc: Global, table: TableRef<'_>) -> Answer {
+fn each_pair(rt: &HostRuntime, alloc: Global, table: TableRef<'_>) -> Answer {
     let mut text = begun(alloc, table.as_bytes(), table.is_empty())?;
     let mut pairs = call!(rt; table.iter());
     for _ in 0..MOST {
@@ -107,26 +103,28 @@ fn each_pair<R: Eprint>(rt: &R, alloc: Global, table: TableRef<'_>) -> Answer {
 }
 
 /// The bytes of a container.
-fn begun(alloc: Global, bytes: &[u8], is_empty: bool) -> Result<String, AllocError> {
+fn begun(alloc: Global, bytes: &[u8], is_empty: bool) -> Answer {
     let bytes = digits(alloc, bytes)?;
     if is_empty {
-        return format!(in alloc; "empty {bytes}");
+        return Ok(format!(in alloc; "empty {bytes}")?);
     }
     Ok(bytes)
 }
 
 /// Of equal keys the first value and the last.
-fn get<R: Eprint>(rt: &R, alloc: Global, table: TableRef<'_>, key: &str) -> Answer {
+fn get(rt: &HostRuntime, alloc: Global, table: TableRef<'_>, key: &str) -> Answer {
+    let key = text_of(alloc, key)?;
+    let key = key.as_str();
     let first = found_text(alloc, call!(rt; table.get_first(key)))?;
     let last = found_text(alloc, call!(rt; table.get(key)))?;
     let is_there = call!(rt; table.contains_key(key));
-    both_text(alloc, first, last, is_there)
-}
-
-fn both_text(alloc: Global, first: String, last: String, is_there: bool) -> Answer {
     if is_there != (last.as_str() != "None") {
         return Ok(format!(in alloc; "first {first} last {last} contains {is_there}")?);
     }
+    both_text(alloc, first, last)
+}
+
+fn both_text(alloc: Global, first: String, last: String) -> Answer {
     if first.as_str() != last.as_str() {
         return Ok(format!(in alloc; "first {first} last {last}")?);
     }
@@ -166,27 +164,26 @@ fn path_of<'a>(alloc: Global, steps: &'a [Step]) -> Result<Vec<PathStep<'a>>, Tr
 }
 
 /// Where a path leads: by the first of equal keys, and by the last.
-fn get_path<R: Eprint>(rt: &R, alloc: Global, value: ValueRef<'_>, steps: &str) -> Answer {
+fn get_path(rt: &HostRuntime, alloc: Global, value: ValueRef<'_>, steps: &str) -> Answer {
     let steps = steps_of(alloc, steps)?;
     let path = path_of(alloc, steps.as_slice())?;
     let path = path.as_slice();
     let first = found_text(alloc, call!(rt; value.get_path(path, EqualKeys::First)))?;
     let last = found_text(alloc, call!(rt; value.get_path(path, EqualKeys::Last)))?;
+    let whole = both_text(alloc, first, last)?;
     if let ValueRef::FieldTable(table) = value {
-        let by_first = found_text(alloc, call!(rt; table.get_path(path, EqualKeys::First)))?;
-        let by_last = found_text(alloc, call!(rt; table.get_path(path, EqualKeys::Last)))?;
-        if by_first.as_str() != first.as_str() || by_last.as_str() != last.as_str() {
-            return Ok(format!(in alloc;
-                "first {first} last {last} of the table {by_first} {by_last}"
-            )?);
+        let first = found_text(alloc, call!(rt; table.get_path(path, EqualKeys::First)))?;
+        let last = found_text(alloc, call!(rt; table.get_path(path, EqualKeys::Last)))?;
+        let of_table = both_text(alloc, first, last)?;
+        if of_table.as_str() != whole.as_str() {
+            return Ok(format!(in alloc; "{whole} but {of_table} of the table")?);
         }
     }
-    let is_there = last.as_str() != "None";
-    both_text(alloc, first, last, is_there)
+    Ok(whole)
 }
 
 /// What is in the container that a path leads to.
-fn each_at<R: Eprint>(rt: &R, alloc: Global, value: ValueRef<'_>, steps: &str) -> Answer {
+fn each_at(rt: &HostRuntime, alloc: Global, value: ValueRef<'_>, steps: &str) -> Answer {
     let steps = steps_of(alloc, steps)?;
     let path = path_of(alloc, steps.as_slice())?;
     match value.get_path(path.as_slice(), EqualKeys::First) {
@@ -197,61 +194,34 @@ fn each_at<R: Eprint>(rt: &R, alloc: Global, value: ValueRef<'_>, steps: &str) -
 
 /// The type, and the getters that answer something, each with what.
 fn getters(alloc: Global, value: ValueRef<'_>) -> Answer {
-    let amqp_type = value.get_type();
-    let mut text = format!(in alloc; "{amqp_type}")?;
-    numbers(&mut text, value)?;
-    if let Some(it) = value.as_decimal_value() {
-        push_some(
-            &mut text,
-            "as_decimal_value",
-            Some(decimal_text(alloc, it)?),
-        )?;
-    }
-    if let Some(it) = value.as_long_string() {
-        push_some(&mut text, "as_long_string", Some(digits(alloc, it)?))?;
-    }
-    if let Some(it) = value.as_array() {
-        push_some(&mut text, "as_array", Some(digits(alloc, it.as_bytes())?))?;
-    }
-    if let Some(it) = value.as_field_table() {
-        push_some(
-            &mut text,
-            "as_field_table",
-            Some(digits(alloc, it.as_bytes())?),
-        )?;
-    }
-    if let Some(it) = value.as_byte_array() {
-        push_some(&mut text, "as_byte_array", Some(digits(alloc, it)?))?;
-    }
-    push_some(&mut text, "as_void", value.as_void().map(|_| '-'))?;
+    let mut text = shown(alloc, value.get_type())?;
+    let to = &mut text;
+    push_numbers!(to, alloc, value);
+    push_bytes(alloc, to, "as_long_string", value.as_long_string())?;
+    push_bytes(
+        alloc,
+        to,
+        "as_array",
+        value.as_array().map(|it| it.as_bytes()),
+    )?;
+    push_bytes(
+        alloc,
+        to,
+        "as_field_table",
+        value.as_field_table().map(|it| it.as_bytes()),
+    )?;
+    push_bytes(alloc, to, "as_byte_array", value.as_byte_array())?;
     Ok(text)
 }
 
-fn numbers(text: &mut String, value: ValueRef<'_>) -> Result<(), AllocError> {
-    push_some(text, "as_bool", value.as_bool())?;
-    push_some(text, "as_short_short_int", value.as_short_short_int())?;
-    push_some(text, "as_short_short_uint", value.as_short_short_uint())?;
-    push_some(text, "as_short_int", value.as_short_int())?;
-    push_some(text, "as_short_uint", value.as_short_uint())?;
-    push_some(text, "as_long_int", value.as_long_int())?;
-    push_some(text, "as_long_uint", value.as_long_uint())?;
-    push_some(text, "as_long_long_int", value.as_long_long_int())?;
-    push_some(text, "as_float", value.as_float().map(|it| it.to_bits()))?;
-    push_some(text, "as_double", value.as_double().map(|it| it.to_bits()))?;
-    push_some(text, "as_timestamp", value.as_timestamp())
-}
-
-/// Adds a name with what it has, if that is something.
-fn push_some<T: Display + Drop>(
+fn push_bytes(
+    alloc: Global,
     text: &mut String,
     name: &str,
-    held: Option<T>,
-) -> Result<(), AllocError> {
-    let Some(held) = held else {
-        return Ok(());
-    };
-    if !text.is_empty() {
-        text.push(' ')?;
+    held: Option<&[u8]>,
+) -> Result<(), Trouble> {
+    match held {
+        Some(it) => push_some(text, name, Some(digits(alloc, it)?)),
+        None => Ok(()),
     }
-    write!(text, "{name}={held}")
 }

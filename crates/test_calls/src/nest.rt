@@ -1,7 +1,8 @@
 //! `nest CALL DEPTH BYTES`: whether a call is done with these bytes, which nest deep, or why it isn't. DEPTH is the
 //! limit of calls that have one. Nothing of a value is printed, since that takes stack too.
 
-use super::words::{bytes_of, number};
+use super::in_place::WIDE;
+use super::words::{bytes_of, named, number, plain};
 use super::{Answer, Trouble};
 use amq_protocol_types::AMQPValue;
 use amq_protocol_types::generation::{WriteContext, gen_value};
@@ -18,13 +19,13 @@ use std::alloc::Global;
 use std::fmt::Debug;
 
 /// Whether the call is done.
-pub fn answer<R: Eprint>(rt: &R, alloc: Global, words: &[&str]) -> Answer {
-    let [call, depth, word] = words else {
+pub fn answer(rt: &HostRuntime, alloc: Global, call: &str, words: &[&str]) -> Answer {
+    let ("nest", [call, depth, word]) = (call, words) else {
         return Err(Trouble::Unknown);
     };
     let limits = Limits {
-        frame: u32::MAX,
         depth: number(*depth)?,
+        ..WIDE
     };
     let bytes = bytes_of(alloc, *word)?;
     let bytes = bytes.as_slice();
@@ -48,7 +49,7 @@ pub fn answer<R: Eprint>(rt: &R, alloc: Global, words: &[&str]) -> Answer {
 }
 
 /// Calls on the bytes of a value that is read in place.
-fn in_place<R: Eprint>(rt: &R, alloc: Global, call: &str, bytes: &[u8], limits: Limits) -> Answer {
+fn in_place(rt: &HostRuntime, alloc: Global, call: &str, bytes: &[u8], limits: Limits) -> Answer {
     match call {
         "read_in_place" => done(alloc, call!(rt; read_in_place(bytes, limits))),
         "read_in_place_unlimited" => done(alloc, call!(rt; read_in_place_unlimited(bytes))),
@@ -74,7 +75,7 @@ fn in_place<R: Eprint>(rt: &R, alloc: Global, call: &str, bytes: &[u8], limits: 
 }
 
 /// Calls on the value that these bytes are.
-fn of_value<R: Eprint>(rt: &R, alloc: Global, call: &str, bytes: &[u8]) -> Answer {
+fn of_value(rt: &HostRuntime, alloc: Global, call: &str, bytes: &[u8]) -> Answer {
     let Ok((_, value)) = parse_value(alloc, SliceInput::new(bytes)) else {
         return Err(Trouble::Unknown);
     };
@@ -91,20 +92,20 @@ fn of_value<R: Eprint>(rt: &R, alloc: Global, call: &str, bytes: &[u8]) -> Answe
 
 fn parsed<I: ParsableInput>(alloc: Global, parsed: ParserResult<I, AMQPValue>) -> Answer {
     match parsed {
-        Ok((_rest, _value)) => Ok(String::from_str(alloc, "done")?),
-        Err(error) => Ok(format!(in alloc; "{error:?}")?),
+        Ok((_rest, _value)) => plain(alloc, "done"),
+        Err(error) => named(alloc, error),
     }
 }
 
 fn done<T: Drop, E: Debug + Drop>(alloc: Global, returned: Result<T, E>) -> Answer {
     match returned {
-        Ok(_) => Ok(String::from_str(alloc, "done")?),
-        Err(error) => Ok(format!(in alloc; "{error:?}")?),
+        Ok(_) => plain(alloc, "done"),
+        Err(error) => named(alloc, error),
     }
 }
 
 fn said(alloc: Global, is_done: bool) -> Answer {
-    Ok(String::from_str(alloc, if is_done { "done" } else { "refused" })?)
+    plain(alloc, if is_done { "done" } else { "refused" })
 }
 
 fn text_of(bytes: &[u8]) -> Result<&str, Trouble> {

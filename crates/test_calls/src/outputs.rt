@@ -10,33 +10,41 @@ use amq_protocol_types::generation::{BackToTheBuffer, GenResult, IoOutput, Outpu
 use std::alloc::Global;
 
 /// What each call answers, and the state after them.
-pub fn answer(alloc: Global, words: &[&str]) -> Answer {
-    let [place, calls @ ..] = words else {
+pub fn answer(_rt: &HostRuntime, alloc: Global, call: &str, words: &[&str]) -> Answer {
+    let ("output", [place, calls @ ..]) = (call, words) else {
         return Err(Trouble::Unknown);
     };
-    let mut text = String::new(alloc);
     if *place == "vec" {
         let mut output: Vec<u8> = Vec::new(alloc);
-        for call in calls {
-            buffer_call(alloc, &mut text, &mut output, *call)?;
-        }
+        let text = buffer_calls(alloc, &mut output, calls)?;
         return with_state(alloc, text, &output, output.as_slice());
     }
     if let Some(steps) = place.strip_prefix("io:") {
-        let mut output = IoOutput::new(Device::of(alloc, steps)?);
-        for call in calls {
-            output_call(alloc, &mut text, &mut output, *call)?;
-        }
-        let text = with_state(alloc, text, &output, &[])?;
-        let taken = digits(alloc, output.into_inner().taken.as_slice())?;
-        return Ok(format!(in alloc; "{text} taken {taken}")?);
+        return in_device(alloc, Device::of(alloc, steps)?, calls);
     }
     let mut slice = vec![in alloc; 0xee_u8; number(*place)?]?;
     let mut output = SliceOutput::new(slice.as_mut_slice());
-    for call in calls {
-        buffer_call(alloc, &mut text, &mut output, *call)?;
-    }
+    let text = buffer_calls(alloc, &mut output, calls)?;
     with_state(alloc, text, &output, output.written())
+}
+
+fn in_device(alloc: Global, device: Device, calls: &[&str]) -> Answer {
+    let mut output = IoOutput::new(device);
+    let mut text = String::new(alloc);
+    for call in calls {
+        output_call(alloc, &mut text, &mut output, *call)?;
+    }
+    let text = with_state(alloc, text, &output, &[])?;
+    let taken = digits(alloc, output.into_inner().taken.as_slice())?;
+    Ok(format!(in alloc; "{text} taken {taken}")?)
+}
+
+fn buffer_calls<W: BackToTheBuffer>(alloc: Global, output: &mut W, calls: &[&str]) -> Answer {
+    let mut text = String::new(alloc);
+    for call in calls {
+        buffer_call(alloc, &mut text, output, *call)?;
+    }
+    Ok(text)
 }
 
 fn with_state<W: Output>(alloc: Global, text: String, output: &W, written: &[u8]) -> Answer {
@@ -55,8 +63,8 @@ fn buffer_call<W: BackToTheBuffer>(
     let (name, words) = call.split_once(':').unwrap_or((call, ""));
     match name {
         "reserve" => match output.reserve(number(words)?) {
-            Ok(at) => write!(text, "ok {at}; ")?,
-            Err(error) => write!(text, "{error:?}; ")?,
+            Ok(at) => Ok(write!(text, "ok {at}; ")?),
+            Err(error) => push_how(text, Err(error)),
         },
         "fill" => {
             let (at, bytes) = words.split_once(':').unwrap_or((words, "-"));
@@ -65,7 +73,7 @@ fn buffer_call<W: BackToTheBuffer>(
                 Some(end) if end <= output.position() => output.fill(at, bytes.as_slice()),
                 _ => return Err(Trouble::Unknown),
             }
-            text.push_str("ok; ")?;
+            push_how(text, Ok(()))
         }
         "back_to" => {
             let at = number(words)?;
@@ -73,11 +81,10 @@ fn buffer_call<W: BackToTheBuffer>(
                 return Err(Trouble::Unknown);
             }
             output.back_to(at);
-            text.push_str("ok; ")?;
+            push_how(text, Ok(()))
         }
-        _ => output_call(alloc, text, output, call)?,
+        _ => output_call(alloc, text, output, call),
     }
-    Ok(())
 }
 
 /// A call of any output.
@@ -88,14 +95,17 @@ fn output_call<W: Output>(
     call: &str,
 ) -> Result<(), Trouble> {
     let (name, word) = call.split_once(':').unwrap_or((call, ""));
-    let how: GenResult = match name {
-        "put" => output.put(bytes_of(alloc, word)?.as_slice()),
-        "make_room" => output.make_room(number(word)?),
-        _ => return Err(Trouble::Unknown),
-    };
-    match how {
-        Ok(()) => text.push_str("ok; ")?,
-        Err(error) => write!(text, "{error:?}; ")?,
+    match name {
+        "put" => push_how(text, output.put(bytes_of(alloc, word)?.as_slice())),
+        "make_room" => push_how(text, output.make_room(number(word)?)),
+        _ => Err(Trouble::Unknown),
     }
-    Ok(())
+}
+
+/// Adds how a call ended.
+fn push_how(text: &mut String, how: GenResult) -> Result<(), Trouble> {
+    match how {
+        Ok(()) => Ok(text.push_str("ok; ")?),
+        Err(error) => Ok(write!(text, "{error:?}; ")?),
+    }
 }

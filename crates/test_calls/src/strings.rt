@@ -1,15 +1,15 @@
 //! Strings: `try_new STRING`, `try_copy STRING`, `order STRING STRING`, `order_bytes BYTES BYTES`, `long_string BYTES`,
 //! `byte_array BYTES`, and `hash_decimal DECIMAL DECIMAL`.
 
-use super::values::{decimal_of, string_text};
-use super::words::{bytes_of, digits, quoted, text_of};
+use super::values::{Word, decimal_of, short_string};
+use super::words::{bytes_of, named, ok, plain, quoted, shown, text_of};
 use super::{Answer, Trouble};
 use amq_protocol_types::{ByteArray, LongString, ShortString, TryCopyError};
 use std::alloc::Global;
 use std::hash::{DefaultHasher, Hash, Hasher};
 
 /// What a call of strings answers.
-pub fn answer<R: Eprint>(rt: &R, alloc: Global, call: &str, words: &[&str]) -> Answer {
+pub fn answer(rt: &HostRuntime, alloc: Global, call: &str, words: &[&str]) -> Answer {
     match (call, words) {
         ("try_new", [text]) => new(rt, alloc, text_of(alloc, *text)?),
         ("try_copy", [text]) => copy(rt, alloc, text_of(alloc, *text)?.as_str()),
@@ -24,7 +24,7 @@ pub fn answer<R: Eprint>(rt: &R, alloc: Global, call: &str, words: &[&str]) -> A
     }
 }
 
-fn new<R: Eprint>(rt: &R, alloc: Global, text: String) -> Answer {
+fn new(rt: &HostRuntime, alloc: Global, text: String) -> Answer {
     let length = text.len();
     match call!(rt; ShortString::try_new(text)) {
         Ok(string) => short_text(alloc, string),
@@ -33,11 +33,18 @@ fn new<R: Eprint>(rt: &R, alloc: Global, text: String) -> Answer {
     }
 }
 
-fn copy<R: Eprint>(rt: &R, alloc: Global, text: &str) -> Answer {
+fn copy(rt: &HostRuntime, alloc: Global, text: &str) -> Answer {
     match call!(rt; ShortString::try_copy(alloc, text)) {
         Ok(string) => short_text(alloc, string),
-        Err(TryCopyError::TooLong(error)) => Ok(format!(in alloc; "error {error}")?),
-        Err(TryCopyError::OutOfMemory) => Ok(format!(in alloc; "OutOfMemory")?),
+        Err(error) => not_copied(alloc, error),
+    }
+}
+
+/// Why a string isn't copied.
+pub fn not_copied(alloc: Global, error: TryCopyError) -> Answer {
+    match error {
+        TryCopyError::TooLong(error) => Ok(format!(in alloc; "error {error}")?),
+        TryCopyError::OutOfMemory => plain(alloc, "OutOfMemory"),
     }
 }
 
@@ -84,61 +91,58 @@ fn order_of_bytes(alloc: Global, one: Vec<u8>, other: Vec<u8>) -> Answer {
     ordered(alloc, &one, &other)
 }
 
-/// The short string of a word.
-pub fn short_string(alloc: Global, word: &str) -> Result<ShortString, Trouble> {
-    match ShortString::try_new(text_of(alloc, word)?) {
-        Ok(string) => Ok(string),
-        Err(_) => Err(Trouble::Unknown),
-    }
-}
-
 /// A short string as it is held, as it is printed, and as a string.
 fn short_text(alloc: Global, string: ShortString) -> Answer {
-    let held = quoted(alloc, string.as_str())?;
-    let shown = format!(in alloc; "{string}")?;
-    let shown = quoted(alloc, shown.as_str())?;
-    let made = String::from(string);
-    let made = quoted(alloc, made.as_str())?;
+    let held = string.word(alloc)?;
+    let shown = quoted(alloc, shown(alloc, &string)?.as_str())?;
+    let made = quoted(alloc, String::from(string).as_str())?;
     if held.as_str() != shown.as_str() || held.as_str() != made.as_str() {
         return Ok(format!(in alloc; "ok {held} printed {shown} as a string {made}")?);
     }
-    Ok(format!(in alloc; "ok {held}")?)
+    ok(alloc, held.as_str())
 }
 
 /// A long string's bytes, their number, whether there are none, and what is printed; made in each way.
-fn long_string<R: Eprint>(rt: &R, alloc: Global, bytes: Vec<u8>) -> Answer {
+fn long_string(rt: &HostRuntime, alloc: Global, bytes: Vec<u8>) -> Answer {
     let string = match call!(rt; LongString::from_slice(alloc, bytes.as_slice())) {
         Ok(string) => string,
-        Err(error) => return Ok(format!(in alloc; "{error:?}")?),
+        Err(error) => return named(alloc, error),
     };
     if let Ok(text) = std::str::from_utf8(bytes.as_slice()) {
-        let owned = LongString::from(String::from_str(alloc, text)?);
         match call!(rt; LongString::from_text(alloc, text)) {
-            Ok(copied) if copied == string && owned == string => {}
-            Ok(_) => return Ok(format!(in alloc; "other from a string")?),
-            Err(error) => return Ok(format!(in alloc; "{error:?}")?),
+            Ok(copied) if copied == string => {}
+            Ok(_) => return plain(alloc, "other from a text"),
+            Err(error) => return named(alloc, error),
+        }
+    }
+    long_text(alloc, string, bytes)
+}
+
+fn long_text(alloc: Global, string: LongString, bytes: Vec<u8>) -> Answer {
+    if let Ok(text) = std::str::from_utf8(bytes.as_slice()) {
+        if LongString::from(String::from_str(alloc, text)?) != string {
+            return plain(alloc, "other from a string");
         }
     }
     if LongString::from(bytes) != string {
-        return Ok(format!(in alloc; "other from a vector")?);
+        return plain(alloc, "other from a vector");
     }
-    let held = string_text(alloc, &string)?;
-    let (length, is_empty) = (string.len(), string.is_empty());
+    let (held, length, is_empty) = (string.word(alloc)?, string.len(), string.is_empty());
     Ok(format!(in alloc; "ok {held} {length} {is_empty} \"{string}\"")?)
 }
 
 /// A byte array's bytes, their number, and whether there are none; made in each way.
-fn byte_array<R: Eprint>(rt: &R, alloc: Global, bytes: Vec<u8>) -> Answer {
+fn byte_array(rt: &HostRuntime, alloc: Global, bytes: Vec<u8>) -> Answer {
     match call!(rt; ByteArray::from_slice(alloc, bytes.as_slice())) {
         Ok(array) => array_text(alloc, &array, &ByteArray::from(bytes)),
-        Err(error) => Ok(format!(in alloc; "{error:?}")?),
+        Err(error) => named(alloc, error),
     }
 }
 
 fn array_text(alloc: Global, array: &ByteArray, of_vector: &ByteArray) -> Answer {
     if of_vector != array {
-        return Ok(format!(in alloc; "other from a vector")?);
+        return plain(alloc, "other from a vector");
     }
-    let held = digits(alloc, array.as_slice())?;
-    Ok(format!(in alloc; "ok {held} {} {}", array.len(), array.is_empty())?)
+    let (held, length, is_empty) = (array.word(alloc)?, array.len(), array.is_empty());
+    Ok(format!(in alloc; "ok {held} {length} {is_empty}")?)
 }
