@@ -4,10 +4,10 @@ import re
 import sys
 from collections.abc import Sequence
 
-# What is between these lines of the page is written anew, as all its tables are but the one of tests/run web.
+# What is between these lines of the page is written anew, as all its tables are but the one of the page in a browser.
 BEGIN, END = "<!-- run: bench/run -->\n", "<!-- end of run -->\n"
 TABLE = re.compile(r"(?m)(?:^\|.*\n)+")
-# The first head of the table that tests/run web makes.
+# The first head of the table of the page in a browser, which isn't measured anew.
 BY_THE_PAGE = "1 MiB"
 
 

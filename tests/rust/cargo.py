@@ -17,13 +17,15 @@ RUST = TOP / "bindings/rust"
 CRATES, DROP_IN = ("amqp-values-sys", "amqp-values"), RUST / "drop_in"
 TARGET, COPIES = OUT / "target", OUT / "crates"
 NAME, VERSION = "amq-protocol-types", "10.6.3"
+# What names the folder of the archive, if that isn't in the crate.
+NAMED_BY = "AMQP_VALUES_LIB_DIR"
 TRIPLE = "x86_64-unknown-linux-gnu"
 # What cargo calls the two ways to build, and the words that ask for them.
 PROFILES: dict[str, list[str]] = {"debug": [], "release": ["--release"]}
+# The packages that programs here use.
+PACKAGES = ('cookie-factory = "0.3"', 'nom = "8"', 'serde_json = "1"')
 # The oldest compiler that the crates over the calls for C are for, and where Debian has it.
 OLDEST, OF_DEBIAN = "rustc 1.63", Path("/usr/bin")
-# The exit status of a command that took too long.
-TOO_LONG = 124
 
 Done = subprocess.CompletedProcess[str]
 
@@ -31,14 +33,9 @@ Done = subprocess.CompletedProcess[str]
 def run(
     words: Sequence[str | Path], cwd: Path | None = None, env: Mapping[str, str] | None = None, seconds: int = 600
 ) -> Done:
-    """Runs a command; one that takes longer has failed."""
+    """Runs a command, which may not take longer."""
     typed = [str(it) for it in words]
-    try:
-        return subprocess.run(
-            typed, cwd=cwd, env=env, capture_output=True, text=True, errors="replace", timeout=seconds
-        )
-    except subprocess.TimeoutExpired:
-        return Done(typed, TOO_LONG, "", f"it took more than {seconds} seconds")
+    return subprocess.run(typed, cwd=cwd, env=env, capture_output=True, text=True, errors="replace", timeout=seconds)
 
 
 def assert_well(done: Done) -> None:
@@ -62,12 +59,30 @@ def copied(crate: Path, to: Path) -> Path:
     return to
 
 
-def package(name: str, manifest: str, /, **values: object) -> Path:
-    """A folder with a package's manifest."""
+def package(name: str, dependencies: Sequence[str], more: str = "", **programs: str) -> Path:
+    """A folder with the manifest of a package: its dependencies, and its programs, each with the source that it has here."""
     folder = OUT / name
     folder.mkdir(parents=True, exist_ok=True)
-    (folder / "Cargo.toml").write_text(manifest.format(here=HERE, **values))
+    parts = [f'[package]\nname = "{name}"\nedition = "2024"\n[workspace]\n', more]
+    parts += (f'[[bin]]\nname = "{it}"\npath = "{HERE}/{source}.rs"\n' for it, source in programs.items())
+    (folder / "Cargo.toml").write_text("\n".join([*parts, "[dependencies]", *dependencies, ""]))
     return folder
+
+
+def client(name: str, drop_in: Path | None = None, version: str = VERSION) -> Path:
+    """A client that takes the Rust crate from the registry, and with what makes it take the drop-in."""
+    patch = f'[patch.crates-io]\n{NAME} = {{ path = "{drop_in}" }}\n' if drop_in else ""
+    return package(name, [f'{NAME} = "{version}"'], f"[features]\nchosen = []\n{patch}", **{name: "client"})
+
+
+def cargo(folder: Path, *words: str, tools: Path | None = None, seconds: int = 600, **more: str) -> Done:
+    """Calls cargo, with the tools of the path or of a folder."""
+    of_folder = {"RUSTC": f"{tools}/rustc", "RUSTDOC": f"{tools}/rustdoc"} if tools else {}
+    target = TARGET.with_name("target-oldest") if tools else TARGET
+    outside = {name: value for name, value in os.environ.items() if name != NAMED_BY}
+    environment = {**outside, "CARGO_TARGET_DIR": str(target), "RUST_BACKTRACE": "0", **of_folder, **more}
+    program = f"{tools}/cargo" if tools else "cargo"
+    return run([program, *words[:1], "--offline", *words[1:]], folder, environment, seconds)
 
 
 class Given(NamedTuple):
@@ -77,12 +92,16 @@ class Given(NamedTuple):
     library: Path
     registry: Path
 
+    @property
+    def original(self) -> str:
+        """The Rust crate as a dependency, by another name."""
+        return f'original = {{ package = "{NAME}", path = "{self.crate}" }}'
+
     def cargo(self, folder: Path, *words: str, seconds: int = 600, **more: str) -> Done:
-        """Calls cargo."""
+        """Calls cargo, with these packages."""
         source = ['source.crates-io.replace-with="given"', f'source.given.directory="{self.registry}"']
         config = [word for it in source for word in ("--config", it)]
-        environment = {**os.environ, "CARGO_TARGET_DIR": str(TARGET), "RUST_BACKTRACE": "0", **more}
-        return run(["cargo", *words[:1], "--offline", *config, *words[1:]], folder, environment, seconds)
+        return cargo(folder, *words[:1], *config, *words[1:], tools=None, seconds=seconds, **more)
 
     def drop_in(self, to: Path, *words: str, crate: Path | None = None) -> Done:
         """Makes the drop-in of the Rust crate, or of another folder."""

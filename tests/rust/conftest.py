@@ -11,15 +11,13 @@ from tests.left_out import leave_out, needs_of
 from tests.notes import NOTES
 from tests.oracle.crate import named, packages_for
 from tests.rust.cargo import COPIES, CRATES, OF_DEBIAN, OLDEST, OUT, RUST, TRIPLE, Given
-from tests.rust.cargo import assert_well, copied, given, package, run
-from tests.rust.manifests import BOTH, VALUES
-from tests.rust.relay import SERVER
+from tests.rust.cargo import assert_well, copied, given, run
 
 # How long building what is proved may take: it is proved first, and may wait for another step that builds it.
 PROVING_SECONDS = 3_600
 ARCHIVE = "libamqp_values.a"
 # How WITHOUT names what is needed, if otherwise than the tests.
-NAMES = {"--crate": "crate", SERVER: "broker", OLDEST: "rustc"}
+NAMES = {"--crate": "crate", OLDEST: "rustc"}
 
 
 def pytest_addoption(parser: pytest.Parser) -> None:
@@ -27,7 +25,6 @@ def pytest_addoption(parser: pytest.Parser) -> None:
     group.addoption("--crate", type=Path, metavar="FOLDER", default=named(), help="the Rust crate")
     group.addoption("--packages", type=Path, metavar="FOLDER", help="from where cargo takes all packages")
     group.addoption("--count", type=int, default=100_000, help="how many random inputs are tried (100,000)")
-    group.addoption("--times", action="store_true", help="measure times, too")
 
 
 def pytest_configure(config: pytest.Config) -> None:
@@ -39,19 +36,10 @@ def pytest_configure(config: pytest.Config) -> None:
         config.option.seed = int(time.time())
 
 
-def pytest_ignore_collect(collection_path: Path, config: pytest.Config) -> bool | None:
-    """Times aren't measured unasked."""
-    return True if collection_path.name == "test_times.py" and not config.getoption("--times") else None
-
-
 def pytest_collection_modifyitems(config: pytest.Config, items: list[pytest.Item]) -> None:
     """Leaves out the tests that lack what WITHOUT names."""
-    NOTES.extend(leave_out(config, items, lambda it: lacking(config, it), NAMES))
-
-
-def lacking(config: pytest.Config, item: pytest.Item) -> list[str]:
-    """What a test needs and isn't there."""
-    return [it for it in needs_of(item) if not is_there(config, it)]
+    lacking = lambda test: [it for it in needs_of(test) if not is_there(config, it)]
+    NOTES.extend(leave_out(config, items, lacking, NAMES))
 
 
 def is_there(config: pytest.Config, need: str) -> bool:
@@ -108,12 +96,6 @@ def drop_in(rust: Given) -> Path:
 
 
 @pytest.fixture(scope="session")
-def both(rust: Given, drop_in: Path) -> Path:
-    """A package with both crates."""
-    return package("both", BOTH, crate=rust.crate, drop_in=drop_in)
-
-
-@pytest.fixture(scope="session")
 def copies(archive: Path) -> Path:
     """The folder that has both crates, with the archive where `make rust` puts it."""
     for name in CRATES:
@@ -122,9 +104,3 @@ def copies(archive: Path) -> Path:
     folder.mkdir(parents=True)
     shutil.copyfile(archive, folder / ARCHIVE)
     return COPIES
-
-
-@pytest.fixture(scope="session")
-def values(rust: Given, copies: Path) -> Path:
-    """A package with both crates."""
-    return package("values", VALUES, crate=rust.crate, crates=copies)

@@ -8,7 +8,7 @@ mod halves;
 mod inputs;
 
 use halves::Halves;
-use inputs::{Dice, input};
+use inputs::{asked, input};
 use std::process::ExitCode;
 
 const TOO_LARGE: &str = "Err(Error(ParserErrors { error: Nom(TooLarge)";
@@ -79,11 +79,9 @@ fn is_right(call: Call, bytes: &[u8], theirs: &str, ours: &str) -> bool {
 }
 
 fn main() -> ExitCode {
-    let mut words = std::env::args().skip(1).map(|it| it.parse().expect("a number"));
-    let (count, seed) = (words.next().unwrap_or(100_000), words.next().unwrap_or(0));
-    let mut dice = Dice(seed);
+    let (count, mut dice) = asked();
     let (mut equal, mut claims, mut wrong) = (0, 0, 0);
-    for number in 0..count as usize {
+    for number in 0..count {
         let bytes = input(&mut dice, number);
         let at = dice.below(bytes.len() + 1);
         for (call, bytes) in calls(&bytes) {

@@ -1,7 +1,7 @@
 //! Random inputs.
 
 /// Random numbers, the same of the same seed (splitmix64).
-pub struct Dice(pub u64);
+pub struct Dice(u64);
 
 impl Dice {
     pub fn next(&mut self) -> u64 {
@@ -25,34 +25,37 @@ impl Dice {
     }
 }
 
-/// The type tags, with how many bytes a value of fixed width has.
-const FIXED: [(u8, usize); 15] = [
-    (b't', 1),
-    (b'b', 1),
-    (b'B', 1),
-    (b's', 2),
-    (b'U', 2),
-    (b'u', 2),
-    (b'I', 4),
-    (b'i', 4),
-    (b'L', 8),
-    (b'l', 8),
-    (b'f', 4),
-    (b'd', 8),
-    (b'D', 5),
-    (b'T', 8),
-    (b'V', 0),
-];
+/// How many inputs are asked for by the first word of the program, and what makes them, by the seed that is the second.
+pub fn asked() -> (usize, Dice) {
+    let words: Vec<u64> = std::env::args().skip(1).map(|it| it.parse().expect("a number")).collect();
+    let [count, seed] = words[..] else { panic!("COUNT SEED") };
+    (count as usize, Dice(seed))
+}
+
+/// The type tags of a value of fixed width, and of one whose length is written.
+const FIXED: &[u8; 15] = b"tbBsUuIiLlfdDTV";
 const COUNTED: [u8; 4] = *b"SxAF";
 const KEYS: [&str; 8] = ["", "a", "k", "count", "x-death", "é", "𝄞", "routing-keys"];
 const LEVELS: usize = 6;
 
+/// How many bytes a value of fixed width has.
+fn width(tag: u8) -> usize {
+    match tag {
+        b'V' => 0,
+        b't' | b'b' | b'B' => 1,
+        b's' | b'U' | b'u' => 2,
+        b'I' | b'i' | b'f' => 4,
+        b'D' => 5,
+        _ => 8,
+    }
+}
+
 /// Appends a value, type tag included.
 fn append_value(dice: &mut Dice, levels: usize, to: &mut Vec<u8>) {
     if levels == 0 || dice.below(3) > 0 {
-        let (tag, width) = *dice.of(&FIXED);
+        let tag = *dice.of(FIXED);
         to.push(tag);
-        to.extend(dice.bytes(width));
+        to.extend(dice.bytes(width(tag)));
         return;
     }
     let tag = *dice.of(&COUNTED);

@@ -12,16 +12,67 @@ use std::sync::{Mutex, PoisonError};
 /// The stack of a worker of tokio.
 const STACK: usize = 2 << 20;
 const LIMITS: Limits = Limits::DEFAULT;
-/// A table with a key that isn't UTF-8, without its type tag.
-const KEY_NOT_UTF8: &[u8] = &[0, 0, 0, 3, 1, 0xff, b'V'];
+/// What becomes of a table or an array.
+const READ: &str = "read";
+const DEEP: &str = "x-refused-too-deep";
+const MANY: &str = "x-refused-too-many-values";
+const LARGE: &str = "x-refused-too-large";
+const MALFORMED: &str = "x-refused-malformed";
+const ERROR: &str = "Parser error: Nom(TooLarge)";
+const EOF: &str = "Parser error: Nom(Eof)";
 
-/// Runs a function under limits, on such a stack; the limits are the process's, so one at once.
-fn under(limits: Limits, f: impl FnOnce() + Send) {
+/// A parser, which says what becomes of bytes that it is given.
+type Parse = fn(&[u8]) -> String;
+type Row<'a> = (Parse, Vec<u8>, &'a str);
+
+fn said<I, T>(parsed: ParserResult<I, T>, what: impl FnOnce(I, T) -> &'static str) -> String {
+    match parsed {
+        Ok((rest, value)) => what(rest, value).to_owned(),
+        Err(nom::Err::Error(error)) => error.to_string(),
+        Err(other) => format!("{other:?}"),
+    }
+}
+
+/// The only key of a table that was refused.
+fn key_of(table: &FieldTable) -> &'static str {
+    let refusal = limits::refusal(table).inspect(|_| assert_eq!(table.inner().len(), 1));
+    refusal.map_or(READ, Refusal::key)
+}
+
+fn table(bytes: &[u8]) -> String {
+    said(parse_field_table(&[bytes, b"rest"].concat()[..]), |rest, table| {
+        assert_eq!(rest, b"rest");
+        key_of(&table)
+    })
+}
+
+fn table_in_halves(bytes: &[u8]) -> String {
+    said(parse_field_table(Halves::of(bytes, bytes.len() / 2)), |rest, table| {
+        assert_eq!(rest, Halves(b"", b""));
+        key_of(&table)
+    })
+}
+
+fn array(bytes: &[u8]) -> String {
+    said(parse_field_array(bytes), |_, _| READ)
+}
+
+fn value(bytes: &[u8]) -> String {
+    said(parse_value(bytes), |_, value| value.as_field_table().map_or(READ, key_of))
+}
+
+/// Parses under limits, on such a stack; the limits are the process's, so one at once.
+fn under(limits: Limits, rows: &[Row<'_>]) {
     static TURN: Mutex<()> = Mutex::new(());
     let _turn = TURN.lock().unwrap_or_else(PoisonError::into_inner);
     limits::set(limits);
+    let parse_all = || {
+        for (parse, bytes, wanted) in rows {
+            assert_eq!(parse(bytes), *wanted, "{:02x?} ..", &bytes[..bytes.len().min(40)]);
+        }
+    };
     std::thread::scope(|scope| {
-        let worker = std::thread::Builder::new().stack_size(STACK).spawn_scoped(scope, f).unwrap();
+        let worker = std::thread::Builder::new().stack_size(STACK).spawn_scoped(scope, parse_all).unwrap();
         worker.join().unwrap_or_else(|panic| std::panic::resume_unwind(panic));
     });
 }
@@ -34,150 +85,72 @@ fn counted(body: &[u8]) -> Vec<u8> {
 /// Tables or arrays in each other, the outermost without its type tag.
 fn nested(tag: u8, levels: usize) -> Vec<u8> {
     let header: &[u8] = if tag == b'F' { &[0, b'F'] } else { b"A" };
-    let step = header.len() + 4;
-    let mut bytes = Vec::new();
-    for inside in (0..levels).rev() {
-        bytes.extend((inside as u32 * step as u32).to_be_bytes());
-        if inside > 0 {
-            bytes.extend(header);
-        }
-    }
-    bytes
+    let lengths = (0..levels).rev().map(|inside| ((inside * (header.len() + 4)) as u32).to_be_bytes());
+    lengths.map(|it| it.to_vec()).collect::<Vec<_>>().join(header)
 }
 
-/// An array of as many values of one byte, without its type tag.
+/// An array of as many values of one byte, without its type tag, and a table of as many pairs.
 fn voids(count: usize) -> Vec<u8> {
     counted(&vec![b'V'; count])
 }
 
-fn is_marked(parsed: ParserResult<&[u8], FieldTable>, refusal: Refusal) -> bool {
-    parsed.is_ok_and(|(rest, table)| {
-        rest == b"rest" && table.inner().len() == 1 && limits::refusal(&table) == Some(refusal)
-    })
-}
-
-fn text_of<I, T>(parsed: ParserResult<I, T>) -> String {
-    match parsed {
-        Ok(_) => "a value".to_owned(),
-        Err(nom::Err::Error(error)) => error.to_string(),
-        Err(other) => format!("{other:?}"),
-    }
-}
-
-fn with_rest(bytes: &[u8]) -> Vec<u8> {
-    [bytes, b"rest"].concat()
+fn pairs(count: usize) -> Vec<u8> {
+    counted(&b"\x01kV".repeat(count))
 }
 
 #[test]
 fn nesting_up_to_the_limit_is_read_and_no_deeper() {
-    under(LIMITS, || {
-        assert!(parse_field_table(&nested(b'F', 64)[..]).is_ok());
-        assert!(parse_field_array(&nested(b'A', 64)[..]).is_ok());
-        for levels in [65, 258, 2_255, 3_000, 20_000] {
-            assert!(is_marked(parse_field_table(&with_rest(&nested(b'F', levels))[..]), Refusal::TooDeep), "{levels}");
-            let error = text_of(parse_field_array(&nested(b'A', levels)[..]));
-            assert_eq!(error, "Parser error: Nom(TooLarge)", "{levels}");
-        }
-    });
-}
-
-#[test]
-fn the_keys_stay_those_that_applications_compare() {
-    let keys = [Refusal::TooLarge, Refusal::TooDeep, Refusal::TooManyValues, Refusal::Malformed].map(Refusal::key);
-    let reasons = ["too-large", "too-deep", "too-many-values", "malformed"];
-    assert_eq!(keys.map(str::to_owned), reasons.map(|it| format!("x-refused-{it}")));
-}
-
-#[test]
-fn deep_tables_in_two_slices_and_with_their_tag_are_refused_too() {
-    under(LIMITS, || {
-        let bytes = nested(b'F', 20_000);
-        let (rest, table) = parse_field_table(Halves::of(&bytes, 50_000)).unwrap();
-        assert_eq!((rest, limits::refusal(&table)), (Halves(b"", b""), Some(Refusal::TooDeep)));
-        let tagged = [&b"F"[..], &bytes].concat();
-        let (_, value) = parse_value(&tagged[..]).unwrap();
-        assert_eq!(value.as_field_table().and_then(limits::refusal), Some(Refusal::TooDeep));
-    });
-}
-
-#[test]
-fn a_process_may_choose_errors() {
-    let many = counted(&[1, b'k', b'V'].repeat(10));
-    under(Limits { refused: Refused::Error, ..LIMITS }, || {
-        let error = text_of(parse_field_table(&nested(b'F', 3_000)[..]));
-        assert_eq!(error, "Parser error: Nom(TooLarge)");
-    });
-    under(Limits { refused: Refused::Error, bytes: many.len() as u32, ..LIMITS }, || {
-        assert_eq!(text_of(parse_field_table(&many[..])), "Parser error: Nom(TooLarge)");
-    });
-    under(Limits { refused: Refused::Error, values: 10, ..LIMITS }, || {
-        assert_eq!(text_of(parse_field_table(&many[..])), "Parser error: Nom(TooLarge)");
-    });
+    let tagged = [&b"F"[..], &nested(b'F', 20_000)].concat();
+    under(LIMITS, &[(table, nested(b'F', 64), READ), (array, nested(b'A', 64), READ), (value, tagged, DEEP)]);
+    for levels in [65, 258, 2_255, 3_000, 20_000] {
+        let (tables, arrays) = (nested(b'F', levels), nested(b'A', levels));
+        under(LIMITS, &[(table, tables.clone(), DEEP), (table_in_halves, tables, DEEP), (array, arrays, ERROR)]);
+    }
+    under(Limits { depth: 0, ..LIMITS }, &[(table, counted(b""), DEEP), (array, counted(b""), ERROR)]);
 }
 
 #[test]
 fn bytes_up_to_the_limit_are_read_and_no_more() {
-    let bytes = counted(&[1, b'k', b'S', 0, 0, 0, 3, b'a', b'b', b'c']);
-    let most = 1 + bytes.len() as u32;
-    under(Limits { bytes: most, ..LIMITS }, || {
-        assert!(parse_field_table(&bytes[..]).is_ok_and(|(_, it)| limits::refusal(&it).is_none()));
-        let larger = counted(&[1, b'k', b'S', 0, 0, 0, 4, b'a', b'b', b'c', b'd']);
-        assert!(is_marked(parse_field_table(&with_rest(&larger)[..]), Refusal::TooLarge));
-        assert_eq!(text_of(parse_field_array(&voids(most as usize)[..])), "Parser error: Nom(TooLarge)");
-    });
-}
-
-#[test]
-fn a_claim_above_the_limit_is_not_waited_for() {
-    under(LIMITS, || {
-        assert_eq!(text_of(parse_value(&b"F\xff\xff\xff\xff"[..])), "Parser error: Nom(TooLarge)");
-        assert_eq!(text_of(parse_field_array(&[0, 0x0f, 0xff, 0xfc][..])), "Parser error: Nom(TooLarge)");
-        assert_eq!(text_of(parse_field_table(&[0, 0x0f, 0xff, 0xfb, 0][..])), "Incomplete(Size(1048570))");
-        assert_eq!(text_of(parse_field_table(&[0, 0, 0][..])), "Incomplete(Size(1))");
-    });
-}
-
-#[test]
-fn a_value_that_claims_more_than_its_array_has_is_malformed() {
-    under(LIMITS, || {
-        for claim in [6_u32, 1 << 20, u32::MAX] {
-            let body = [&b"x"[..], &claim.to_be_bytes()].concat();
-            assert_eq!(text_of(parse_field_array(&counted(&body)[..])), "Parser error: Nom(Eof)", "{claim}");
-        }
-    });
+    let (bytes, larger) = (counted(b"\x01kS\0\0\0\x03abc"), counted(b"\x01kS\0\0\0\x04abcd"));
+    let limits = Limits { bytes: 1 + bytes.len() as u32, ..LIMITS };
+    under(limits, &[(table, bytes, READ), (table, larger, LARGE), (array, voids(15), ERROR)]);
 }
 
 #[test]
 fn values_up_to_the_limit_are_read_and_no_more() {
-    under(Limits { values: 10, ..LIMITS }, || {
-        assert!(parse_field_array(&voids(9)[..]).is_ok());
-        assert_eq!(text_of(parse_field_array(&voids(10)[..])), "Parser error: Nom(TooLarge)");
-        let pairs = |count| counted(&[1, b'k', b'V'].repeat(count));
-        assert!(parse_field_table(&pairs(9)[..]).is_ok_and(|(_, it)| limits::refusal(&it).is_none()));
-        assert!(is_marked(parse_field_table(&with_rest(&pairs(10))[..]), Refusal::TooManyValues));
-    });
+    let limits = Limits { values: 10, ..LIMITS };
+    under(
+        limits,
+        &[(array, voids(9), READ), (array, voids(10), ERROR), (table, pairs(9), READ), (table, pairs(10), MANY)],
+    );
 }
 
 #[test]
-fn a_malformed_table_is_an_error_unless_the_process_chooses_otherwise() {
-    for refused in [Refused::Error, Refused::Marked] {
-        under(Limits { refused, ..LIMITS }, || {
-            assert_eq!(text_of(parse_field_table(KEY_NOT_UTF8)), "Parser error: Nom(Eof)");
-        });
-    }
-    under(Limits { refused: Refused::MarkedIfMalformed, ..LIMITS }, || {
-        assert!(is_marked(parse_field_table(&with_rest(KEY_NOT_UTF8)[..]), Refusal::Malformed));
-        assert!(is_marked(parse_field_table(&with_rest(&nested(b'F', 65))[..]), Refusal::TooDeep));
-        assert_eq!(text_of(parse_field_array(&counted(b"z")[..])), "Parser error: Nom(Eof)");
-    });
+fn a_claim_above_the_limit_is_not_waited_for() {
+    under(
+        LIMITS,
+        &[
+            (value, b"F\xff\xff\xff\xff".to_vec(), ERROR),
+            (array, vec![0, 0x0f, 0xff, 0xfc], ERROR),
+            (table_in_halves, vec![0, 0x0f, 0xff, 0xfb, 0], "Incomplete(Size(1048570))"),
+            (table_in_halves, vec![0, 0, 0], "Incomplete(Size(1))"),
+        ],
+    );
+    let claims = [6_u32, 1 << 20, u32::MAX].map(|it| counted(&[&b"x"[..], &it.to_be_bytes()].concat()));
+    under(LIMITS, &claims.map(|it| (array as Parse, it, EOF)));
 }
 
 #[test]
-fn limits_of_zero_refuse_all() {
-    under(Limits { depth: 0, ..LIMITS }, || {
-        assert!(is_marked(parse_field_table(&with_rest(&counted(b""))[..]), Refusal::TooDeep));
-        assert_eq!(text_of(parse_field_array(&counted(b"")[..])), "Parser error: Nom(TooLarge)");
-    });
+fn a_process_may_choose_what_a_refused_table_becomes() {
+    let key_not_utf8 = counted(b"\x01\xffV");
+    let errors = Limits { refused: Refused::Error, ..LIMITS };
+    under(errors, &[(table, nested(b'F', 3_000), ERROR), (table, key_not_utf8.clone(), EOF)]);
+    under(Limits { bytes: 34, ..errors }, &[(table, pairs(10), ERROR)]);
+    under(Limits { values: 10, ..errors }, &[(table, pairs(10), ERROR)]);
+    under(LIMITS, &[(table, key_not_utf8.clone(), EOF)]);
+    let rows: [Row<'_>; 3] =
+        [(table, key_not_utf8, MALFORMED), (table, nested(b'F', 65), DEEP), (array, counted(b"z"), EOF)];
+    under(Limits { refused: Refused::MarkedIfMalformed, ..LIMITS }, &rows);
 }
 
 #[test]

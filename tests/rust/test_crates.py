@@ -6,48 +6,28 @@ end as those in C. values.rs: on random inputs amqp-values reads, measures, find
 under valgrind and the address sanitizer.
 """
 
-import os
 import subprocess
 from pathlib import Path
 
 import pytest
 from crates import TOP
 
-from tests.rust.cargo import COPIES, CRATES, OF_DEBIAN, OLDEST, RUST, TARGET, TRIPLE, Done, Given
-from tests.rust.cargo import assert_well, copied, count_of_tests, last_line, run
+from tests.rust.cargo import COPIES, CRATES, NAMED_BY, OF_DEBIAN, OLDEST, PACKAGES, RUST, TARGET, TRIPLE, Given
+from tests.rust.cargo import assert_well, cargo, copied, count_of_tests, last_line, package, run
 from tests.transcripts import Case, cases
 
-NAMED_BY = "AMQP_VALUES_LIB_DIR"
 # Of random inputs, one in so many is tried under valgrind, and under the address sanitizer.
 UNDER_VALGRIND, SANITIZED = 25, 5
 
 pytestmark = pytest.mark.needs("--library", "cargo")
 
 
-def cargo(folder: Path, *words: str, tools: Path | None = None, **more: str) -> Done:
-    """Calls cargo for a crate that needs no package, with the tools of the path or of a folder."""
-    of_folder = {"RUSTC": f"{tools}/rustc", "RUSTDOC": f"{tools}/rustdoc"} if tools else {}
-    target = TARGET.with_name("target-oldest") if tools else TARGET
-    outside = {name: value for name, value in os.environ.items() if name != NAMED_BY}
-    environment = {**outside, "CARGO_TARGET_DIR": str(target), "RUST_BACKTRACE": "0", **of_folder, **more}
-    program = f"{tools}/cargo" if tools else "cargo"
-    return run([program, *words[:1], "--offline", *words[1:]], cwd=folder, env=environment)
-
-
-@pytest.fixture
-def without_archive() -> Path:
-    """amqp-values-sys without an archive."""
-    return copied(RUST / CRATES[0], COPIES.with_name("without-archive"))
-
-
-def test_no_archive(without_archive: Path) -> None:
-    done = cargo(without_archive, "build")
-    assert done.returncode, "it is built"
-    assert f"{NAMED_BY} names its folder" in done.stderr
-
-
-def test_archive_is_named(without_archive: Path, archive: Path) -> None:
-    assert_well(cargo(without_archive, "build", AMQP_VALUES_LIB_DIR=str(archive.parent)))
+def test_archive(archive: Path) -> None:
+    """Without one amqp-values-sys isn't built, unless its folder is named."""
+    without = copied(RUST / CRATES[0], COPIES.with_name("without-archive"))
+    done = cargo(without, "build")
+    assert done.returncode and f"{NAMED_BY} names its folder" in done.stderr, done.stderr
+    assert_well(cargo(without, "build", AMQP_VALUES_LIB_DIR=str(archive.parent)))
 
 
 @pytest.mark.parametrize(
@@ -55,7 +35,6 @@ def test_archive_is_named(without_archive: Path, archive: Path) -> None:
 )
 @pytest.mark.parametrize("name", CRATES)
 def test_own_tests(copies: Path, name: str, tools: Path | None) -> None:
-    """All tests of a crate pass."""
     done = cargo(copies / name, "test", tools=tools)
     assert_well(done)
     assert count_of_tests(done) >= sum(it.read_text().count("#[test]") for it in (copies / name).glob("**/*.rs"))
@@ -103,6 +82,13 @@ def test_example(examples: Path, example: str, case: Case) -> None:
 
 
 @pytest.fixture(scope="session")
+def values(rust: Given, copies: Path) -> Path:
+    """A package with both crates."""
+    ours = f'amqp-values = {{ path = "{copies}/amqp-values" }}'
+    return package("values", [ours, rust.original, *PACKAGES], values="values")
+
+
+@pytest.fixture(scope="session")
 def program(rust: Given, values: Path) -> Path:
     """values.rs, as it is built."""
     assert_well(rust.cargo(values, "build", "--release", "--quiet", "--bin", "values"))
@@ -120,15 +106,8 @@ class TestValues:
 
     @pytest.mark.needs("valgrind")
     def test_under_valgrind(self, program: Path, count: int, seed: int) -> None:
-        words: list[str | Path] = [
-            "valgrind",
-            "--quiet",
-            "--error-exitcode=9",
-            program,
-            str(count // UNDER_VALGRIND),
-            str(seed),
-        ]
-        assert_well(run(words))
+        asked = [str(count // UNDER_VALGRIND), str(seed)]
+        assert_well(run(["valgrind", "--quiet", "--error-exitcode=9", program, *asked]))
 
     def test_sanitized(self, rust: Given, values: Path, count: int, seed: int) -> None:
         """Under the address sanitizer."""

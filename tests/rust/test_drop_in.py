@@ -11,51 +11,44 @@ import re
 import shutil
 from collections.abc import Iterator
 from pathlib import Path
-from typing import NamedTuple
 
 import pytest
 from crates import TOP
 
-from tests.rust.cargo import NAME, OUT, PROFILES, Given, assert_well, copied, count_of_tests, last_line, package
-from tests.rust.manifests import CLIENT, PATCH, PROGRAMS
+from tests.rust.cargo import HERE, NAME, OUT, PACKAGES, PROFILES, VERSION, Given
+from tests.rust.cargo import assert_well, client, copied, count_of_tests, last_line, package
 
 
-class Change(NamedTuple):
-    """A change of a source of the crate that the drop-in doesn't know, with the place where it has to say so."""
-
-    name: str
-    old: str
-    new: str
-    place: str
-
-
-PARSING, GENERATION = "src/parsing.rs", "src/generation.rs"
+BOTH = f"""\
+[[test]]
+name = "refused"
+path = "{HERE}/refused.rs"
+[features]
+default = []
+verbose-errors = ["original/verbose-errors", "drop-in/verbose-errors"]
+"""
+# Changes of the crate's sources that the drop-in doesn't know: the file, what becomes of what, and what is named then.
 UNKNOWN = (
-    Change("Cargo.toml", 'version = "10.6.3"', 'version = "10.7.0"', r"Cargo\.toml:\d+: "),
-    Change(PARSING, "pub fn parse_field_table<", "pub fn parse_table<", r"src/parsing\.rs:\d+: parse_field_table"),
-    Change(
-        PARSING,
-        "ParserResult<I, FieldArray> {",
-        "ParserResult<I, Vec<()>> {",
-        r"src/parsing\.rs:\d+: parse_field_array",
-    ),
-    Change(PARSING, 'context("parse_id", parse_short_uint)', "parse_value", r"src/parsing\.rs:\d+: parse_value"),
-    Change(GENERATION, "pub fn gen_short_string<", "pub fn gen_short<", r"src/generation\.rs:\d+: gen_short_string"),
-    Change("src/lib.rs", "pub mod parsing;", "pub mod parsers;", r"src/lib\.rs:\d+: "),
+    ("Cargo.toml", 'version = "10.6.3"', 'version = "10.7.0"', ""),
+    ("src/parsing.rs", "pub fn parse_field_table<", "pub fn parse_table<", "parse_field_table"),
+    ("src/parsing.rs", "ParserResult<I, FieldArray> {", "ParserResult<I, Vec<()>> {", "parse_field_array"),
+    ("src/parsing.rs", 'context("parse_id", parse_short_uint)', "parse_value", "parse_value"),
+    ("src/generation.rs", "pub fn gen_short_string<", "pub fn gen_short<", "gen_short_string"),
+    ("src/lib.rs", "pub mod parsing;", "pub mod parsers;", ""),
 )
 
 pytestmark = pytest.mark.needs("--crate", "--packages", "--library", "cargo")
 
 
-@pytest.mark.parametrize("change", UNKNOWN, ids=[it.new for it in UNKNOWN])
-def test_unknown_source(rust: Given, change: Change) -> None:
+@pytest.mark.parametrize(("name", "old", "new", "what"), UNKNOWN, ids=[it[2] for it in UNKNOWN])
+def test_unknown_source(rust: Given, name: str, old: str, new: str, what: str) -> None:
     """It isn't edited, and the place is printed."""
     copy, out = copied(rust.crate, OUT / "changed"), OUT / "made"
-    source = (copy / change.name).read_text()
-    assert change.old in source
-    (copy / change.name).write_text(source.replace(change.old, change.new, 1))
+    source = (copy / name).read_text()
+    assert old in source
+    (copy / name).write_text(source.replace(old, new, 1))
     done = rust.drop_in(out, crate=copy)
-    assert done.returncode and re.match(change.place, done.stderr), done.stderr
+    assert done.returncode and re.match(rf"{re.escape(name)}:\d+: {what}", done.stderr), done.stderr
     assert not out.exists()
 
 
@@ -74,9 +67,14 @@ def test_clippy(rust: Given, drop_in: Path) -> None:
     assert re.findall(r"--> (src/(?:checked|limits)\.rs):\d+", done.stderr) == []
 
 
-@pytest.mark.parametrize(
-    ("feature", "part"), (("default", 1), ("verbose-errors", 10)), ids=("default", "verbose-errors")
-)
+@pytest.fixture(scope="session")
+def both(rust: Given, drop_in: Path) -> Path:
+    """A package with the crate and the drop-in."""
+    ours = f'drop-in = {{ package = "{NAME}", path = "{drop_in}" }}'
+    return package("both", [rust.original, ours, *PACKAGES], BOTH, equal="equal")
+
+
+@pytest.mark.parametrize(("feature", "part"), (("default", 1), ("verbose-errors", 10)))
 def test_equal(rust: Given, both: Path, feature: str, part: int, count: int, seed: int, notes: list[str]) -> None:
     """What both answer to random inputs, and to a tenth of them with the feature that has an error's contexts."""
     words = ["--release", "--quiet", "--features", feature, "--bin", "equal", "--", str(count // part), str(seed)]
@@ -102,37 +100,27 @@ def is_taken(rust: Given, folder: Path, drop_in: Path) -> bool:
     return str(drop_in) in done.stdout
 
 
-@pytest.mark.parametrize("is_updated", (False, True), ids=("as it was locked", "updated"))
+@pytest.mark.parametrize("is_updated", (False, True), ids=("locked", "updated"))
 def test_locked(rust: Given, drop_in: Path, is_updated: bool) -> None:
     """If Cargo.lock has the crate's version, the drop-in is taken after `cargo update`."""
-    folder = package("locked", CLIENT, name="locked", version="10.6.3")
+    folder = client("locked")
     (folder / "Cargo.lock").unlink(missing_ok=True)
     assert_well(rust.cargo(folder, "generate-lockfile"))
-    package("locked", CLIENT + PATCH, name="locked", version="10.6.3", drop_in=drop_in)
+    client("locked", drop_in)
     if is_updated:
         assert_well(rust.cargo(folder, "update", "-p", NAME))
     assert is_taken(rust, folder, drop_in) == is_updated
 
 
-@pytest.mark.parametrize("is_kept", (False, True), ids=("its own version", "the version that is kept"))
+@pytest.mark.parametrize("is_kept", (False, True), ids=("raised", "kept"))
 def test_asked_for_exactly(rust: Given, is_kept: bool) -> None:
     """If the client asks for exactly the crate's version, the drop-in is taken that keeps it."""
     path = OUT / ("kept" if is_kept else "raised")
     assert_well(rust.drop_in(path, *["--keep-version"] * is_kept))
-    folder = package(f"exact-{path.name}", CLIENT + PATCH, name="exact", version="=10.6.3", drop_in=path)
-    assert is_taken(rust, folder, path) == is_kept
+    assert is_taken(rust, client(f"exact-{path.name}", path, f"={VERSION}"), path) == is_kept
 
 
 # docs/UPSTREAM.md
-
-
-class Typed(NamedTuple):
-    """A command of the page: the section, the number of its program, what cargo is called with, and what is printed."""
-
-    section: str
-    program: int
-    words: str
-    lines: list[str]
 
 
 def sources() -> Iterator[tuple[str, str, str]]:
@@ -143,33 +131,33 @@ def sources() -> Iterator[tuple[str, str, str]]:
             yield section.partition("\n")[0], source, console
 
 
-def commands() -> Iterator[Typed]:
-    for number, (section, _, console) in enumerate(sources()):
-        for words, lines in re.findall(r"(?m)^\$ cargo (run(?: --release)?)\n((?:(?!\$ ).*\n)*)", console):
-            yield Typed(section, number, words, lines.splitlines())
-
-
-COMMANDS = [*commands()]
+SOURCES = [*sources()]
+# What is typed for a program, by its number, and the lines that it prints.
+COMMANDS = [
+    pytest.param(number, words, lines.splitlines(), id=f"{section}, {words}")
+    for number, (section, _, console) in enumerate(SOURCES)
+    for words, lines in re.findall(r"(?m)^\$ cargo (run(?: --release)?)\n((?:(?!\$ ).*\n)*)", console)
+]
 
 
 @pytest.fixture(scope="session")
 def upstream(rust: Given) -> Path:
     """A package with the page's programs."""
-    folder = package("upstream", PROGRAMS, crate=rust.crate)
+    folder = package("upstream", [f'{NAME} = {{ path = "{rust.crate}" }}', *PACKAGES])
     shutil.rmtree(folder / "src", ignore_errors=True)
     (folder / "src/bin").mkdir(parents=True)
-    for number, (_, source, _) in enumerate(sources()):
+    for number, (_, source, _) in enumerate(SOURCES):
         (folder / f"src/bin/program{number}.rs").write_text(source)
     return folder
 
 
-@pytest.mark.parametrize("typed", COMMANDS, ids=[f"{it.section}, {it.words}" for it in COMMANDS])
-def test_program_of_page(rust: Given, upstream: Path, typed: Typed) -> None:
+@pytest.mark.parametrize(("number", "words", "lines"), COMMANDS)
+def test_program_of_page(rust: Given, upstream: Path, number: int, words: str, lines: list[str]) -> None:
     """It prints the page's lines, in their order."""
-    done = rust.cargo(upstream, *typed.words.split(), "--quiet", "--bin", f"program{typed.program}")
+    done = rust.cargo(upstream, *words.split(), "--quiet", "--bin", f"program{number}")
     printed, at = done.stdout + done.stderr, 0
-    assert typed.lines, "the page has no lines"
-    for line in typed.lines:
+    assert lines, "the page has no lines"
+    for line in lines:
         found = printed.find(line, at)
         assert found >= 0, f"{line!r} isn't in {printed[-1000:]!r}"
         at = found + len(line)

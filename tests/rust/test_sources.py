@@ -56,19 +56,14 @@ def test_version(name: str) -> None:
     assert {*versions} == {*version}
 
 
-def functions_of_page() -> list[str]:
-    """The functions over amqp-values on docs/RUST.md."""
-    section = (TOP / "docs/RUST.md").read_text().partition("\n## Without the crate")[2].partition("\n## ")[0]
-    return re.findall(r"```rust\n(.*?)```", section, re.DOTALL)
+def functions_of_page() -> dict[str, str]:
+    """The functions on docs/RUST.md, by their names."""
+    blocks = re.findall(r"```rust\n(.*?)```", (TOP / "docs/RUST.md").read_text(), re.DOTALL)
+    return {found[1]: it for it in blocks if (found := re.search(r"\bfn (\w+)", it))}
 
 
-def first_name(function: str) -> str:
-    found = re.search(r"\bfn (\w+)", function)
-    return found[1] if found else "no function"
-
-
-@pytest.mark.parametrize("function", functions_of_page(), ids=first_name)
-def test_function_of_page(function: str) -> None:
-    """An example has it."""
-    examples = [it.read_text() for it in (RUST / "amqp-values/examples").glob("*.rs")]
-    assert any(function in it for it in examples), function
+@pytest.mark.parametrize("name", functions_of_page())
+def test_function_of_page(name: str) -> None:
+    """An example has it, or the client."""
+    sources = [*(RUST / "amqp-values/examples").glob("*.rs"), HERE / "client.rs"]
+    assert any(functions_of_page()[name] in it.read_text() for it in sources)

@@ -10,7 +10,7 @@ use amqp_values::{
     ArrayBuilder, DecimalValue, EqualKeys, Error, Limits, Measure, PathStep, ProblemKind, TableBuilder, TableRef,
     ValueRef, WriteError, check, check_table, read, read_table,
 };
-use inputs::{Dice, input};
+use inputs::{Dice, asked, input};
 use original::generation::{gen_field_table, gen_value};
 use original::parsing::{ParserResult, parse_field_table, parse_value};
 use original::{AMQPValue, FieldTable, ShortString};
@@ -83,36 +83,32 @@ fn measured(value: ValueRef<'_>) -> (usize, usize) {
     }
 }
 
-/// Looks up each key that a table has, and one that it hasn't.
-fn check_keys(table: TableRef<'_>, theirs: &FieldTable) -> Checked<()> {
-    for (key, value) in theirs.inner() {
-        let key = key.as_str();
-        let first = table.iter().find(|(it, _)| *it == key).map(|(_, value)| value);
-        ensure(table.get(key).is_some_and(|it| written(&tree(it)) == written(value)), "get finds another value")?;
-        let found = table.get_first(key).zip(first);
-        ensure(found.is_some_and(|(a, b)| written(&tree(a)) == written(&tree(b))), "get_first finds another value")?;
-    }
-    ensure(table.get("absent").is_none() && table.get_first("absent").is_none(), "a key is found that isn't there")
+/// Whether a value that was found is the crate's.
+fn is_theirs(found: Option<ValueRef<'_>>, theirs: &AMQPValue) -> bool {
+    found.is_some_and(|it| written(&tree(it)) == written(theirs))
 }
 
-/// Looks up keys in all tables of a value.
+/// Looks up each key of all tables in a value, and one that none has.
 fn check_tables(value: ValueRef<'_>) -> Checked<()> {
-    match value {
-        ValueRef::FieldArray(array) => array.iter().try_for_each(check_tables),
-        ValueRef::FieldTable(table) => {
-            check_keys(table, &tree_of_table(table))?;
-            table.iter().try_for_each(|(_, value)| check_tables(value))
-        }
-        _ => Ok(()),
+    let table = match value {
+        ValueRef::FieldArray(array) => return array.iter().try_for_each(check_tables),
+        ValueRef::FieldTable(table) => table,
+        _ => return Ok(()),
+    };
+    for (key, value) in tree_of_table(table).inner() {
+        let (_, first) = table.iter().find(|(it, _)| *it == key.as_str()).expect("it is there");
+        ensure(is_theirs(table.get(key.as_str()), value), "get finds another value")?;
+        ensure(is_theirs(table.get_first(key.as_str()), &tree(first)), "get_first finds another value")?;
     }
+    ensure(table.get("absent").is_none() && table.get_first("absent").is_none(), "a key is found that isn't there")?;
+    table.iter().try_for_each(|(_, value)| check_tables(value))
 }
 
 /// Follows a random path, as far as it leads, and one step beyond.
 fn check_path(dice: &mut Dice, value: ValueRef<'_>, theirs: &AMQPValue) -> Checked<()> {
     let (mut path, mut at) = (Vec::new(), theirs);
     loop {
-        let found = value.get_path(&path, EqualKeys::Last);
-        ensure(found.is_some_and(|it| written(&tree(it)) == written(at)), "a path leads to another value")?;
+        ensure(is_theirs(value.get_path(&path, EqualKeys::Last), at), "a path leads to another value")?;
         match at {
             AMQPValue::FieldTable(table) if !table.inner().is_empty() => {
                 let (key, next) = table.inner().iter().nth(dice.below(table.inner().len())).expect("it has so many");
@@ -191,12 +187,10 @@ fn check_built(value: ValueRef<'_>, bytes: usize, theirs: &AMQPValue) -> Checked
     ensure(matches!(short, Err(WriteError::BufferTooSmall { .. })), "a table is built in too small a buffer")?;
 
     let mut buffer = vec![0; 16 + bytes];
-    let mut table = TableBuilder::new(&mut buffer).map_err(|it| it.to_string())?;
-    table.put("key", value).map_err(|it| it.to_string())?;
-    let copied = table.finish().map_err(|it| it.to_string())?;
+    let mut table = TableBuilder::new(&mut buffer).expect("the buffer has room");
+    let copied = table.put("key", value).and_then(|()| table.finish()).map_err(|it| it.to_string())?;
     let (copy, rest) = read_table(copied, LIMITS).map_err(|it| it.to_string())?;
-    let is_copied = copy.get("key").is_some_and(|it| written(&tree(it)) == written(theirs));
-    ensure(rest.is_empty() && is_copied, "another value is copied")
+    ensure(rest.is_empty() && is_theirs(copy.get("key"), theirs), "another value is copied")
 }
 
 /// Checks a value that both read.
@@ -207,7 +201,7 @@ fn check_value(
     (length, measure): (usize, Measure),
 ) -> Checked<()> {
     ensure(rest == left, "other bytes are left")?;
-    ensure(written(&tree(value)) == written(&theirs), "another value is read")?;
+    ensure(is_theirs(Some(value), &theirs), "another value is read")?;
     let (values, levels) = measured(value);
     ensure(measure == Measure { bytes: length - rest.len(), values, levels }, "it is measured otherwise")?;
     check_tables(value)?;
@@ -262,11 +256,9 @@ fn compare_table(dice: &mut Dice, bytes: &[u8]) -> Checked<Outcome> {
 }
 
 fn main() -> ExitCode {
-    let mut words = std::env::args().skip(1).map(|it| it.parse().expect("a number"));
-    let (count, seed) = (words.next().unwrap_or(100_000), words.next().unwrap_or(0));
-    let mut dice = Dice(seed);
+    let (count, mut dice) = asked();
     let (mut read, mut not_read, mut claims, mut wrong) = (0, 0, 0, 0);
-    for number in 0..count as usize {
+    for number in 0..count {
         let bytes = input(&mut dice, number).into_boxed_slice();
         let mut outcomes = vec![compare(&mut dice, &bytes)];
         if let [b'F', table @ ..] = &bytes[..] {

@@ -77,11 +77,6 @@ class Browser:
         """Waits until something is so."""
         WebDriverWait(self.driver, 20).until(lambda _: is_so())
 
-    def thread_time(self) -> float:
-        """How many seconds the page's thread has had of a processor."""
-        metrics = self.driver.execute_cdp_cmd("Performance.getMetrics", {})["metrics"]
-        return float(next(it["value"] for it in metrics if it["name"] == "ThreadTime"))
-
     def requests(self) -> list[str]:
         """What was asked of a network, a file or anything else since this was asked last."""
         entries = [json.loads(it["message"])["message"] for it in self.driver.get_log("performance")]
@@ -89,19 +84,16 @@ class Browser:
 
 
 @contextmanager
-def opened(page: Path, width: int = 1200, height: int = 2400, is_dark: bool = False) -> Iterator[Browser]:
-    """A browser with the page, in a window of that size."""
+def opened(page: Path) -> Iterator[Browser]:
+    """A browser with the page, in a window that shows many lines."""
     options = webdriver.ChromeOptions()
     options.binary_location = CHROMIUM
-    for word in ("--headless=new", "--no-sandbox", "--disable-dev-shm-usage", f"--window-size={width},{height}"):
+    for word in ("--headless=new", "--no-sandbox", "--disable-dev-shm-usage", "--window-size=1200,2400"):
         options.add_argument(word)
-    if is_dark:
-        options.add_argument("--blink-settings=preferredColorScheme=0")
     options.set_capability("goog:loggingPrefs", {"performance": "ALL", "browser": "ALL"})
     driver = webdriver.Chrome(service=Service(DRIVER), options=options)
     try:
         browser = Browser(driver, page)
-        driver.execute_cdp_cmd("Performance.enable", {"timeDomain": "threadTicks"})
         browser.load()
         yield browser
     finally:

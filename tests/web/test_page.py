@@ -1,4 +1,4 @@
-"""What the page reads, next to the stored cases of amqp_show and to the model."""
+"""What the page reads, next to the model; and of hexadecimal, next to the stored cases of amqp_show."""
 
 import re
 import struct
@@ -7,20 +7,31 @@ from random import Random
 from typing import Any
 
 import pytest
+from crates import TOP
 
 from tests.model import printed
 from tests.model.printed import Dissection, field, inputs, untagged
+from tests.model.stored_output import files_of
 from tests.model.tables import odd_table, random_table, raw
+from tests.transcripts import Case, cases
 from tests.web.browser import Browser
-from tests.web.stored import faults, stored, stored_json
 
 BITS = pytest.mark.parametrize("bits", (64, 32))
 VERSIONS = "RabbitMQ 3.10.8, 4.0.5 and 4.3.6"
 # The keys and indices that lead to what is wrong.
 KEYS = r', in ["[].*'
 COUNT = 2000
-# How many bytes are given to the page at once.
-BATCH = 2**21
+# How many inputs are given to the page at once.
+BATCH = 200
+# The cases of tests/show that take hexadecimal from standard input. (With --max-bytes amqp_show reads no more than that.)
+HEXADECIMAL = [
+    it
+    for it in cases(TOP / "tests/show").values()
+    if "--hex" in it.words and "--max-bytes" not in it.words and files_of(it.words) == ["-"]
+]
+FAULT = re.compile(r'amqp_show: ".*?": (line \d+, column \d+: .*|the text ends inside a byte.*|a dump of .*)')
+# What is between digits, and before those of a byte.
+NO_DIGITS = re.compile(r"#[^\n]*|0[xX]|\\x|[ \t\r\n\f,:]")
 
 
 def rabbitmq(text: str) -> str:
@@ -62,24 +73,14 @@ def wanted(data: bytes, how: dict[str, Any]) -> dict[str, Any]:
     }
 
 
-def batches(given: Iterable[bytes]) -> Iterator[list[bytes]]:
-    batch: list[bytes] = []
-    for it in given:
-        batch.append(it)
-        if sum(map(len, batch)) > BATCH or len(batch) == 500:
-            yield batch
-            batch = []
-    yield batch
-
-
-def judge(browser: Browser, bits: int, given: Iterable[bytes], **how: Any) -> int:
-    """Compares what the page reads of inputs with the model, and returns how many they were."""
-    count = 0
-    for batch in batches(given):
+def judge(browser: Browser, bits: int, given: Iterable[bytes], **how: Any) -> None:
+    """Compares what the page reads of inputs, of which there are some, with the model."""
+    all_given = [*given]
+    assert all_given
+    for at in range(0, len(all_given), BATCH):
+        batch = all_given[at : at + BATCH]
         for data, has in zip(batch, browser.read(batch, bits, **how), strict=True):
             assert has == wanted(data, how), data[:300].hex()
-            count += 1
-    return count
 
 
 def short(given: Iterable[bytes]) -> Iterator[bytes]:
@@ -90,8 +91,8 @@ def short(given: Iterable[bytes]) -> Iterator[bytes]:
 @BITS
 def test_inputs_of_every_kind(browser: Browser, bits: int) -> None:
     """Those of tests/show, also tables without their type tag."""
-    assert judge(browser, bits, short(inputs()))
-    assert judge(browser, bits, short(untagged()), isTable=True)
+    judge(browser, bits, short(inputs()))
+    judge(browser, bits, short(untagged()), isTable=True)
 
 
 def odd_inputs() -> Iterator[bytes]:
@@ -113,14 +114,14 @@ def odd_inputs() -> Iterator[bytes]:
 
 @BITS
 def test_odd_inputs(browser: Browser, bits: int) -> None:
-    assert judge(browser, bits, odd_inputs())
+    judge(browser, bits, odd_inputs())
 
 
 @BITS
 def test_random_tables(browser: Browser, bits: int, seed: int) -> None:
     make = Random(seed)
     tables = [raw(random_table(make)) if at % 2 else odd_table(make) for at in range(COUNT)]
-    assert judge(browser, bits, tables)
+    judge(browser, bits, tables)
 
 
 @BITS
@@ -129,50 +130,13 @@ def test_prefixes(browser: Browser, bits: int) -> None:
     names = printed.captured()
     for name in ("x-death after 2", "server-properties", "federation"):
         prefixes = [names[name][:size] for size in range(len(names[name]))]
-        assert judge(browser, bits, prefixes)
-        assert judge(browser, bits, [it[1:] for it in prefixes[1:]], isTable=True)
+        judge(browser, bits, prefixes)
+        judge(browser, bits, [it[1:] for it in prefixes[1:]], isTable=True)
 
 
-def bytes_of(browser: Browser, text: str | None, data: bytes) -> bytes:
-    """The bytes of a stored case's input, by the page if they are hexadecimal."""
-    if text is None:
-        return data
-    script = "const {bytes} = amqp.readHexadecimal(arguments[0]); return amqp.hexadecimal(bytes)"
-    return bytes.fromhex(browser.run(script, text))
-
-
-@BITS
-def test_stored_cases(browser: Browser, bits: int) -> None:
-    """Of each case of tests/show that shows a value the same tree, repeated key, failure and outcome."""
-    found = [*stored()]
-    for it in found:
-        data = bytes_of(browser, it.text, it.data)[it.skipped :]
-        (has,) = browser.read([data], bits, **it.how)
-        if it.is_check:
-            assert has["rabbitmq"] in (rabbitmq("\n".join(it.wants)), ""), it.name
-            assert has["rabbitmq"] or has["outcome"].startswith("= truncated"), it.name
-            continue
-        lines = [*(has["tree"] if it.has_tree else []), has["repeated"], has["failure"], has["outcome"]]
-        assert [line for line in lines if line] == it.wants, it.name
-    assert found
-
-
-@BITS
-def test_stored_json(browser: Browser, bits: int) -> None:
-    """Of each case of tests/show that prints JSON the same, unless keys don't ascend."""
-    found = [*stored_json()]
-    for name, text, given, how, line in found:
-        data = bytes_of(browser, text, given)
-        (has,) = browser.read([data], bits, **how)
-        found_of = Dissection(data, "table" if how["isTable"] else "value")
-        assert has["json"] == (line if json_of(found_of) else ""), name
-    assert found
-
-
-def test_hexadecimal(browser: Browser) -> None:
-    """Of each case of tests/show that reads hexadecimal the same bytes, or the same words at the same place."""
-    found = [*faults()]
-    for name, text, fault in found:
-        has = browser.run("const {bytes, fault} = amqp.readHexadecimal(arguments[0]); return fault ?? ''", text)
-        assert has == fault, name
-    assert found
+@pytest.mark.parametrize("case", HEXADECIMAL, ids=[it.name for it in HEXADECIMAL])
+def test_hexadecimal(browser: Browser, case: Case) -> None:
+    """Of each case of tests/show that reads hexadecimal the bytes, or the same words at the same place."""
+    text, fault = case.given.decode(), FAULT.search(case.wants.error.decode())
+    script = "const {bytes, fault} = amqp.readHexadecimal(arguments[0]); return fault ?? amqp.hexadecimal(bytes)"
+    assert browser.run(script, text) == (fault[1] if fault else NO_DIGITS.sub("", text).lower())

@@ -1,11 +1,8 @@
 """What is seen of the page, and how it is used."""
 
 import os
-import struct
 import subprocess
-import zlib
-from collections import Counter
-from collections.abc import Iterator
+from base64 import b64encode
 from contextlib import suppress
 from pathlib import Path
 
@@ -15,14 +12,29 @@ from selenium.common.exceptions import StaleElementReferenceException, TimeoutEx
 from selenium.webdriver.common.action_chains import ActionChains
 from selenium.webdriver.common.keys import Keys
 
-from tests.model.printed import nested
+from tests.model import printed
+from tests.model.printed import Dissection, inputs, nested
 from tests.model.tables import EVERY_TYPE, raw
 from tests.web.browser import Browser, opened
-from tests.web.stored import stored
 
 TWISTS = str.maketrans("", "", "▸▾")
 # A table with a number, an array with a string in it, and a number after that: where each pair and each part begins.
 TABLE = "46 00000017 01 61 49 00000005 01 62 41 00000006 53 00000001 78 01 63 56"
+# Counts the pixels of a picture by their colours.
+PIXELS = """
+    const [png, done] = arguments, picture = new Image(), counts = {};
+    picture.onload = () => {
+        const {width, height} = picture, drawing = new OffscreenCanvas(width, height).getContext("2d");
+        drawing.drawImage(picture, 0, 0);
+        const pixels = new DataView(drawing.getImageData(0, 0, width, height).data.buffer);
+        for (let at = 0; at < pixels.byteLength; at += 4) {
+            const colour = (pixels.getUint32(at) >>> 8).toString(16);
+            counts[colour] = (counts[colour] ?? 0) + 1;
+        }
+        done(counts);
+    };
+    picture.src = `data:image/png;base64,${png}`;
+"""
 
 
 @pytest.fixture(autouse=True)
@@ -71,22 +83,17 @@ def press(browser: Browser, box: str, *keys: str) -> None:
     ActionChains(browser.driver).send_keys(*keys).perform()
 
 
-def test_stored_cases_are_drawn(browser: Browser) -> None:
-    """Of each case of tests/show that prints a tree the page draws its lines, and says what is wrong."""
-    for it in stored():
-        if it.is_check or not it.has_tree or it.skipped or len(it.data) > 10000:
-            continue
-        browser.choose("form", "table" if it.how["isTable"] else "value")
-        browser.choose("depth", it.how.get("depth", 64))
-        browser.choose("frame", it.how.get("frame", 2**20))
-        browser.type(it.text if it.text is not None else it.data.hex())
-        wants = [line for line in it.wants if line[0] not in "!*="]
-        assert is_drawn(browser, wants), (it.name, drawn(browser))
-        failures = [line[2:] for line in it.wants if line.startswith("! offset")]
-        assert browser.text("failure") == "".join(failures), it.name
+def test_inputs_are_drawn(browser: Browser) -> None:
+    """Of inputs of every kind the page draws the lines of the model, and says what is wrong."""
+    browser.choose("form", "value")
+    for data in [it for it in inputs() if len(it) < 300][::25]:
+        browser.type(data.hex())
+        found = Dissection(data)
+        assert is_drawn(browser, printed.tree(found.parts, False)), (data.hex(), drawn(browser))
+        assert browser.text("failure") == (found.failed() if found.failure else ""), data.hex()
 
 
-def test_pointing_at_a_row_marks_its_bytes(browser: Browser) -> None:
+def test_pointing_marks_a_row_and_its_bytes(browser: Browser) -> None:
     browser.type(TABLE)
     point(browser, "#row-3")
     assert marked(browser) == (['"b": FieldArray'], "016241000000065300000001" + "78")
@@ -94,10 +101,6 @@ def test_pointing_at_a_row_marks_its_bytes(browser: Browser) -> None:
     assert browser.text("about") == about
     point(browser, "#row-4")
     assert browser.text("about") == '$.b[0]: LongString "x" — type tag at 19, length at 20 to 23, payload at 24'
-
-
-def test_pointing_at_a_byte_marks_its_row(browser: Browser) -> None:
-    browser.type(TABLE)
     point(browser, "#byte-9")
     assert marked(browser) == (['"a": LongInt 5'], "01614900000005")
 
@@ -131,10 +134,13 @@ def test_roles_of_a_tree(browser: Browser) -> None:
 
 
 def test_what_is_wrong_is_marked(browser: Browser) -> None:
-    browser.type("46 00000003 01 61 7a")
-    script = "const it = document.querySelector('#bytes .wrong'); return [it.id, it.textContent]"
-    assert browser.run(script) == ["byte-7", "7a"]
-    assert browser.text("failure") == "offset 7: a type tag is expected; 7a is none"
+    """The failure leads to it."""
+    browser.type("46 00000009 01 61 56 01 62 7a 01 63 56")
+    assert browser.text("failure") == "offset 10: a type tag is expected; 7a is none"
+    wrong = browser.driver.find_elements("css selector", "#bytes .wrong")
+    assert [(it.get_attribute("id"), it.text) for it in wrong] == [("byte-10", "7a")]
+    browser.driver.find_element("css selector", "#failure button").click()
+    assert browser.run("return document.querySelector('.here').id") == "byte-10"
 
 
 def test_hexadecimal_that_is_none(browser: Browser) -> None:
@@ -192,28 +198,13 @@ def test_notes(browser: Browser) -> None:
     assert browser.text("notes") == "" and browser.text("outcome") == "truncated; more bytes needed: 8"
 
 
-def test_the_failure_leads_to_its_byte(browser: Browser) -> None:
-    browser.type("46 00000009 01 61 56 01 62 7a 01 63 56")
-    browser.driver.find_element("css selector", "#failure button").click()
-    assert browser.run("return document.querySelector('.here').id") == "byte-10"
-
-
 def test_a_click_closes_and_opens(browser: Browser) -> None:
     browser.type(TABLE)
-    twist = browser.driver.find_elements("css selector", "#tree .twist")[2]
-    ActionChains(browser.driver).move_to_element(twist).click().perform()
-    assert drawn(browser) == ["FieldTable", '  "a": LongInt 5', '  "b": FieldArray', '  "c": Void']
-    twist = browser.driver.find_elements("css selector", "#tree .twist")[2]
-    ActionChains(browser.driver).move_to_element(twist).click().perform()
-    assert len(drawn(browser)) == 5
-
-
-def test_dumps(browser: Browser) -> None:
-    """What has offsets isn't read; the command is named that makes bytes of it."""
-    browser.type("00000000: 7401                                     t.")
-    assert browser.text("failure") == "a dump of xxd: `xxd -r FILE | amqp_show` reads it"
-    browser.type("00000000  74 01                                             |t.|")
-    assert browser.text("failure") == "a dump of hexdump -C: `cut -c 11-58 FILE | amqp_show --hex` reads it"
+    before = drawn(browser)
+    for lines in (["FieldTable", '  "a": LongInt 5', '  "b": FieldArray', '  "c": Void'], before):
+        twist = browser.driver.find_elements("css selector", "#tree .twist")[2]
+        ActionChains(browser.driver).move_to_element(twist).click().perform()
+        assert drawn(browser) == lines
 
 
 def test_a_table_without_its_type_tag(browser: Browser) -> None:
@@ -332,26 +323,32 @@ def test_a_dropped_file(browser: Browser) -> None:
     assert browser.run("return document.getElementById('text').placeholder") == "a.bin: 131072 bytes"
 
 
+def copied(browser: Browser, *names: str) -> list[str]:
+    """What buttons copy."""
+    script = """
+        const said = [];
+        navigator.clipboard.writeText = async (it) => { said.push(it) };
+        arguments[0].forEach((it) => document.getElementById(`copy-${it}`).click());
+        return said;
+    """
+    return list(browser.run(script, names))
+
+
 def test_copies(browser: Browser) -> None:
     """The buttons copy the bytes as hexadecimal, the tree as amqp_show prints it, and a link."""
-    browser.run("globalThis.said = []; navigator.clipboard.writeText = async (it) => { said.push(it) }")
     browser.type("00000003016156")
     browser.choose("form", "table")
-    browser.run(
-        "for (const it of ['hexadecimal', 'tree', 'JSON', 'link']) document.getElementById(`copy-${it}`).click()"
-    )
-    digits, tree, json, link = browser.run("return said")
+    browser.wait(lambda: json_is(browser, '{"a":null}'))
+    digits, tree, json, link = copied(browser, "hexadecimal", "tree", "JSON", "link")
     assert (digits, tree, json) == ("00000003016156", 'FieldTable\n  "a": Void', '{"a":null}')
     assert link.endswith("#table:00000003016156")
 
 
 def test_copy_of_long_json(browser: Browser) -> None:
     """Of long JSON a part is shown, but all of it is copied."""
-    browser.run("globalThis.said = []; navigator.clipboard.writeText = async (it) => { said.push(it) }")
     browser.run("amqp.put(Uint8Array.from([0x53, 0, 1, 0, 0, ...Array(65536).fill(0x61)]))")
     browser.wait(lambda: json_is(browser, f'"{65535 * "a"} ..'))
-    browser.run("document.getElementById('copy-JSON').click()")
-    assert browser.run("return said") == [f'"{65536 * "a"}"']
+    assert copied(browser, "JSON") == [f'"{65536 * "a"}"']
 
 
 def test_modules_are_plain() -> None:
@@ -372,6 +369,11 @@ def test_limits(browser: Browser) -> None:
     assert browser.text("failure") == "offset 0: containers nest deeper than --depth 0 allows"
     browser.choose("frame", -1)
     assert browser.text("failure") == "offset 0: the value has 5 bytes, more than --max-bytes 0 allows"
+    for frame, failure in ((5, "the value has 6 bytes, more than --max-bytes 5 allows"), (6, "")):
+        browser.choose("frame", frame)
+        browser.choose("depth", 1)
+        browser.type("4100000001 56")
+        assert browser.text("failure").partition(": ")[2] == failure
 
 
 @pytest.mark.parametrize("width", (360, 1600))
@@ -399,36 +401,7 @@ def test_a_browser_without_64_bit_addresses(page: Path, tmp_path: Path) -> None:
         assert browser.run("return document.querySelector('#bits [value=\"64\"]').disabled")
 
 
-def pixels(path: Path) -> Iterator[bytes]:
-    """The colours of a PNG of 8 bits a channel, pixel by pixel."""
-    data, at, packed, width, step = path.read_bytes(), 8, b"", 0, 0
-    while at < len(data):
-        length, kind = struct.unpack(">I4s", data[at : at + 8])
-        part = data[at + 8 : at + 8 + length]
-        if kind == b"IHDR":
-            width, step = int.from_bytes(part[:4], "big"), {2: 3, 6: 4}[part[9]]
-        packed += part if kind == b"IDAT" else b""
-        at += length + 12
-    raw, stride = zlib.decompress(packed), width * step
-    above = bytes(stride)
-    for line in range(0, len(raw), stride + 1):
-        kind, row = raw[line], bytearray(raw[line + 1 : line + 1 + stride])
-        for it in range(stride):
-            left, up, corner = (row[it - step], above[it], above[it - step]) if it >= step else (0, above[it], 0)
-            row[it] = (row[it] + predicted(kind, left, up, corner)) % 256
-        above = bytes(row)
-        yield from (bytes(row[it : it + 3]) for it in range(0, stride, step))
-
-
-def predicted(kind: int, left: int, up: int, corner: int) -> int:
-    """What a filter of PNG predicts of a byte."""
-    if kind < 4:
-        return (0, left, up, (left + up) // 2)[kind]
-    ways = {left: abs(up - corner), up: abs(left - corner), corner: abs(left + up - 2 * corner)}
-    return min((left, up, corner), key=lambda it: ways[it])
-
-
-def test_firefox_shows_it(page: Path, tmp_path: Path) -> None:
+def test_firefox_shows_it(browser: Browser, page: Path, tmp_path: Path) -> None:
     """Its picture has what is drawn of tags, and of what is wrong, in the colours of these."""
     picture, profile = tmp_path / "page.png", tmp_path / "profile"
     profile.mkdir()
@@ -436,5 +409,6 @@ def test_firefox_shows_it(page: Path, tmp_path: Path) -> None:
     words += ["--screenshot", str(picture), f"{page.as_uri()}#4600000003016149"]
     environment = {**os.environ, "HOME": str(tmp_path), "MOZ_CRASHREPORTER_DISABLE": "1"}
     subprocess.run(words, env=environment, capture_output=True, timeout=120, check=True)
-    counts = Counter(pixels(picture))
-    assert counts[bytes.fromhex("8250df")] > 50 and counts[bytes.fromhex("b3141f")] > 200, counts.most_common(9)
+    browser.driver.get("about:blank")
+    counts = browser.driver.execute_async_script(PIXELS, b64encode(picture.read_bytes()).decode())
+    assert counts["8250df"] > 50 and counts["b3141f"] > 200, counts

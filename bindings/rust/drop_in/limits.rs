@@ -3,10 +3,7 @@
 //! They are of the process, since the parsers take none.
 
 use crate::{AMQPValue, FieldTable, ShortString};
-use std::{
-    fmt,
-    sync::{PoisonError, RwLock},
-};
+use std::sync::{PoisonError, RwLock};
 
 static LIMITS: RwLock<Limits> = RwLock::new(Limits::DEFAULT);
 
@@ -82,17 +79,6 @@ impl Refusal {
         let mut table = FieldTable::default();
         table.insert(ShortString::from(self.key()), AMQPValue::Void);
         table
-    }
-}
-
-impl fmt::Display for Refusal {
-    fn fmt(&self, f: &mut fmt::Formatter<'_>) -> fmt::Result {
-        f.write_str(match self {
-            Self::TooLarge => "too large",
-            Self::TooDeep => "too deep",
-            Self::TooManyValues => "too many values",
-            Self::Malformed => "malformed",
-        })
     }
 }
 

@@ -8,28 +8,35 @@ fn table(bytes: &[u8]) -> TableRef<'_> {
     table
 }
 
-/// A table with a value of each type, and with those of another table.
+/// A value of each type, at its type tag.
+fn values() -> [(&'static str, ValueRef<'static>); 15] {
+    [
+        ("t", true.into()),
+        ("b", (-2_i8).into()),
+        ("B", 254_u8.into()),
+        ("s", i16::MIN.into()),
+        ("u", u16::MAX.into()),
+        ("I", (-53).into()),
+        ("i", u32::MAX.into()),
+        ("l", i64::MIN.into()),
+        ("f", 1.5_f32.into()),
+        ("d", f64::NEG_INFINITY.into()),
+        ("D", ValueRef::DecimalValue(DecimalValue { scale: 255, value: u32::MAX })),
+        ("S", "text".into()),
+        ("x", ValueRef::ByteArray(b"\xff\0")),
+        ("T", ValueRef::Timestamp(u64::MAX)),
+        ("V", ValueRef::Void),
+    ]
+}
+
+/// A table with these values, and with those of another table.
 fn build<'b>(buffer: &'b mut [u8], other: TableRef<'_>) -> Result<&'b [u8], WriteError> {
     let mut table = TableBuilder::new(buffer)?;
-    table.put("t", true)?;
-    table.put("b", -2_i8)?;
-    table.put("B", 254_u8)?;
-    table.put("s", i16::MIN)?;
-    table.put("u", u16::MAX)?;
-    table.put("I", -53)?;
-    table.put("i", u32::MAX)?;
-    table.put("l", i64::MIN)?;
-    table.put("f", 1.5_f32)?;
-    table.put("d", f64::NEG_INFINITY)?;
-    table.put("D", ValueRef::DecimalValue(DecimalValue { scale: 255, value: u32::MAX }))?;
-    table.put("S", "text")?;
-    table.put("x", ValueRef::ByteArray(b"\xff\0"))?;
-    table.put("T", ValueRef::Timestamp(u64::MAX))?;
-    table.put("", ValueRef::Void)?;
+    values().into_iter().try_for_each(|(key, value)| table.put(key, value))?;
     table.put_array("A", |array| {
         array.push(7)?;
         array.push_array(|empty| empty.push_table(|_| Ok(())))?;
-        array.push_table(|table| table.put("k", "v"))
+        array.push_table(|table| table.put("", "v"))
     })?;
     table.put_table("F", |table| other.iter().try_for_each(|(key, value)| table.put(key, value)))?;
     table.put("F", ValueRef::FieldTable(other))?;
@@ -46,30 +53,15 @@ fn what_is_built_is_read_again() {
     let mut buffer = [0; 512];
     let built = build(&mut buffer, table(other)).unwrap();
     let read = table(built);
-    let kinds: String = read.iter().map(|(key, _)| key).collect();
-    assert_eq!(kinds, "tbBsuIilfdDSxTAFF");
-    for (key, value) in [
-        ("t", ValueRef::Boolean(true)),
-        ("b", ValueRef::ShortShortInt(-2)),
-        ("B", ValueRef::ShortShortUInt(254)),
-        ("s", ValueRef::ShortInt(i16::MIN)),
-        ("u", ValueRef::ShortUInt(u16::MAX)),
-        ("I", ValueRef::LongInt(-53)),
-        ("i", ValueRef::LongUInt(u32::MAX)),
-        ("l", ValueRef::LongLongInt(i64::MIN)),
-        ("f", ValueRef::Float(1.5)),
-        ("d", ValueRef::Double(f64::NEG_INFINITY)),
-        ("D", ValueRef::DecimalValue(DecimalValue { scale: 255, value: u32::MAX })),
-        ("S", ValueRef::LongString(b"text")),
-        ("x", ValueRef::ByteArray(b"\xff\0")),
-        ("T", ValueRef::Timestamp(u64::MAX)),
-        ("", ValueRef::Void),
-    ] {
+    assert_eq!(read.iter().map(|(key, _)| key).collect::<String>(), "tbBsuIilfdDSxTVAFF");
+    for (key, value) in values() {
+        let tag = key.as_bytes()[0];
+        assert!(built.windows(3).any(|it| it == [1, tag, tag]), "{key}");
         assert_eq!(read.get(key), Some(value));
     }
     assert_eq!(read.get("F"), Some(ValueRef::FieldTable(table(other))));
     assert_eq!(read.get_first("F"), Some(ValueRef::FieldTable(table(other))));
-    let array = b"A\0\0\0\x1cI\0\0\0\x07A\0\0\0\x05F\0\0\0\0F\0\0\0\x08\x01kS\0\0\0\x01v";
+    let array = b"A\0\0\0\x1bI\0\0\0\x07A\0\0\0\x05F\0\0\0\0F\0\0\0\x07\0S\0\0\0\x01v";
     assert!(built.windows(array.len()).any(|it| it == array), "{built:02x?}");
 }
 
