@@ -44,8 +44,7 @@ from crates import Crates, said_by  # noqa: E402
 from steps import Judged, Step, Steps, by_last_line, print_counts  # noqa: E402
 
 from tests.oracle.crate import is_at_hand  # noqa: E402
-from tests.rabbitmq.broker import DEBIAN_13, ROOTS, SERVERS  # noqa: E402
-from tests.rabbitmq.clients import PYTHON  # noqa: E402
+from tests.rabbitmq.broker import DEBIAN_13, PYTHON, ROOTS, SERVERS  # noqa: E402
 
 # The program logic in which all of this is proved: `rt version` ends with it, whatever the kit is called.
 LOGIC = "logic dac8208d650f15bf"

@@ -40,7 +40,9 @@ class Counted(int):
 def table_of(make: Random) -> bytes:
     """A table without its type tag, or bytes that are none."""
     data = raw(random_table(make)) if make.random() < 0.5 else odd_table(make)
-    return (damaged(make, data) if make.random() < 0.2 else data)[1:]
+    data = (damaged(make, data) if make.random() < 0.4 else data)[1:]
+    # (of some that are damaged the length fits again)
+    return len(data[4:]).to_bytes(4, "big") + data[4:] if make.random() < 0.5 else data
 
 
 # Reading
@@ -64,7 +66,8 @@ def test_what_is_read(client: Client, seed: int) -> None:
         assert isinstance(found, Headers) and found.raw == whole[len(before) : end] and stop == end
         if problem:
             counts["refused"] += 1
-            assert isinstance(found, Refused) and not len(found)
+            # (where headers are false clients put an empty dict in their place)
+            assert isinstance(found, Refused) and found and not len(found)
             assert found.problem.offset == len(before) + max(problem[0] - 1, 0)
             continue
         counts["read"] += 1

@@ -1,1 +1,1 @@
-"""The calls for C against a running RabbitMQ and its clients."""
+"""The Python package, its adapters, and what comes before librabbitmq, with a running RabbitMQ and its clients."""

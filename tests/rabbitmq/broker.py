@@ -17,6 +17,8 @@ from tests.rabbitmq.wire import Closed, Connection
 # The tested versions: Debian 12's, and Debian 13's in the root that `make setup` makes; and the program that starts each.
 DEBIAN_12, DEBIAN_13 = "3.10.8", "4.0.5"
 ROOTS = {DEBIAN_12: Path("/"), DEBIAN_13: Path("/var/lib/maolkint/trixie")}
+# Debian's own Python, which has Debian's modules.
+PYTHON = "/usr/bin/python3"
 SERVER = "usr/lib/rabbitmq/bin/rabbitmq-server"
 SERVERS = {version: str(root / SERVER) for version, root in ROOTS.items()}
 # Runs a program in a root, where the folder of the broker is mounted for this process alone. The process isn't root's.
@@ -56,25 +58,18 @@ def ends_with_us() -> None:
 def definitions(port: int) -> dict[str, Any]:
     """What the broker begins with: its virtual hosts, one user, a shovel, and an exchange that is federated."""
     uri = f"amqp://127.0.0.1:{port}"
-    shovel = {"src-protocol": "amqp091", "src-uri": uri, "src-queue": "shovel from"}
+    shovel: dict[str, Any] = {"src-protocol": "amqp091", "src-uri": uri, "src-queue": "shovel from"}
     shovel |= {"dest-protocol": "amqp091", "dest-uri": uri, "dest-queue": "shovel to"}
-    headers = {"dest-add-forward-headers": True, "dest-add-timestamp-header": True}
+    shovel |= {"dest-add-forward-headers": True, "dest-add-timestamp-header": True, "reconnect-delay": 1}
     upstream = {"uri": uri, "exchange": "upstream", "reconnect-delay": 1}
+    parameters = (("federation-upstream", "up", upstream), ("shovel", "moving", shovel))
     anything = {"configure": ".*", "write": ".*", "read": ".*"}
     federated = {"vhost": "/", "name": "federated", "pattern": "^downstream$", "apply-to": "exchanges"}
     return {
         "vhosts": [{"name": it} for it in ("/", TRACED)],
         "users": [{"name": "guest", "password": "guest", "tags": "administrator"}],
         "permissions": [{"user": "guest", "vhost": it, **anything} for it in ("/", TRACED)],
-        "parameters": [
-            {"vhost": "/", "component": "federation-upstream", "name": "up", "value": upstream},
-            {
-                "vhost": "/",
-                "component": "shovel",
-                "name": "moving",
-                "value": {**shovel, **headers, "reconnect-delay": 1},
-            },
-        ],
+        "parameters": [{"vhost": "/", "component": kind, "name": name, "value": it} for kind, name, it in parameters],
         "policies": [{**federated, "definition": {"federation-upstream": "up"}}],
     }
 

@@ -90,13 +90,11 @@ Child = Callable[..., Any]
 
 
 @pytest.fixture
-def child(request: pytest.FixtureRequest, debian: Debian) -> Child:
+def child(broker: Broker, debian: Debian) -> Child:
     def run(job: str, client: str, adapter: str, **given: object) -> Any:
-        port = request.getfixturevalue("broker").port if "broker" in request.fixturenames else 0
-        words = [*debian.words, "-m", adapted.__name__, job, client, adapter, f"{port}"]
-        done = subprocess.run(
-            words, input=json.dumps(given), capture_output=True, text=True, env=debian.env, cwd=TOP, timeout=120
-        )
+        words = [*debian.words, "-m", adapted.__name__, job, client, adapter, f"{broker.port}"]
+        how: dict[str, Any] = {"env": debian.env, "cwd": TOP, "capture_output": True, "text": True, "timeout": 120}
+        done = subprocess.run(words, input=json.dumps(given), **how)
         assert not done.returncode, done.stderr[-3000:]
         return json.loads(done.stdout)
 
@@ -106,9 +104,9 @@ def child(request: pytest.FixtureRequest, debian: Debian) -> Child:
 @pytest.fixture(scope="session")
 def versions(debian: Debian) -> dict[str, str]:
     """The versions of the clients that the Debian has, as seen.py names them."""
-    script = "import importlib.metadata as it; print(*(f'{name} {it.version(name)}' for name in ('pika', 'amqp', 'pamqp')), sep=',')"
+    script = "import importlib.metadata as it; [print(name, it.version(name)) for name in ('pika', 'amqp', 'pamqp')]"
     done = subprocess.run([*debian.words, "-c", script], capture_output=True, text=True, env=debian.env, check=True)
-    return dict(zip(adapted.CLIENTS, done.stdout.strip().split(","), strict=True))
+    return dict(zip(adapted.CLIENTS, done.stdout.splitlines(), strict=True))
 
 
 @pytest.fixture

@@ -33,6 +33,12 @@ def arguments(**entries: Value) -> bytes:
     return built(table(**entries))
 
 
+def of(*pairs: tuple[bytes, bytes | Value]) -> bytes:
+    """A table of these keys, in this order, and values or encodings."""
+    encodings = [(key, it if isinstance(it, bytes) else raw(it)) for key, it in pairs]
+    return field(b"F", b"".join(bytes([len(key)]) + key + it for key, it in encodings))
+
+
 def dying(to: str, after: int = 0) -> dict[str, Value]:
     """The arguments of a queue whose messages expire, and go to another."""
     return {"x_message_ttl": number("I", after), **dead_lettered(to)}
@@ -43,9 +49,9 @@ def dead_lettered(to: str, exchange: str = "") -> dict[str, Value]:
     return {"x_dead_letter_exchange": text(exchange), "x_dead_letter_routing_key": text(to)}
 
 
-def value_at(data: bytes, *path: bytes | int, **options: Any) -> Value | None:
-    """The value at a path, of equal keys by the last unless the options say otherwise; None if there is none."""
-    found = own.find(data, *path, text="bytes", frame=FRAME, default=NOTHING, **options)
+def value_at(data: bytes, *path: bytes | int) -> Value | None:
+    """The value at a path, of equal keys by the last; None if there is none."""
+    found = own.find(data, *path, text="bytes", frame=FRAME, default=NOTHING)
     return None if found is NOTHING else form(found)
 
 

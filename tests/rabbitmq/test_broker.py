@@ -5,53 +5,40 @@ brokers and the clients.
 
 - Random tables come back equal, by the package and by the reader of the model: untouched, and read and written by the broker's
   own codec, which a header BCC and dead-lettering have it do. --tables sets their number.
-- What the broker and its clients write is read as meant: the server's properties, x-death, a quorum queue, a trace, a
-  shovel, a federation link, pika, py-amqp, amqp-publish. What the package writes the broker sees as meant: client-properties,
-  and the arguments of queues, bindings and consumers.
-- The broker closes the connection for the tables in which the calls for C and the model find something, and for no others.
+- What the broker and its clients write is read as meant: x-death, a quorum queue, a trace, a shovel, a federation link,
+  amqp-publish. What the package writes the broker sees as meant: client-properties, and the arguments of queues, bindings and
+  consumers.
+- The broker closes the connection for the tables in which the package and the model find something, and for no others.
   What it does with the others is as docs/INTEROP.md states for each version, predicted by VERSIONS of the model's tables.py.
 """
 
-import json
 import subprocess
 import time
 from collections import Counter
-from collections.abc import Callable, Iterator, Sequence
+from collections.abc import Callable, Sequence
 from concurrent.futures import ThreadPoolExecutor
-from decimal import Decimal
 from random import Random
-from typing import Any, NamedTuple
+from typing import Any
 
 import amqp_values as own
 import pytest
-from crates import TOP
 
-from tests import calls_for_c as calls
 from tests.model.printed import Unread, Value, extent, field, nested, read, write
 from tests.model.tables import CHANGES, EVERY_TYPE, INFINITY, INTEGERS, NAN, NO_TAG, PLAIN, ROWS, VERSIONS
 from tests.model.tables import Problem, Version
 from tests.model.tables import container_of, decimal, delivered, erlang, first_problem, float_of, integer_of, is_read
 from tests.model.tables import matches, mutated_table, number, odd_table, parts, random_key, random_table, random_value
 from tests.model.tables import raw, rewritten, row_of, sorted_by_key, streamed, table, text, types_in
-from tests.rabbitmq import clients
 from tests.rabbitmq.broker import TRACED, Broker
 from tests.rabbitmq.found import PATIENCE, arguments, awaited, built, closed_by, dead_lettered, dying
-from tests.rabbitmq.found import is_now, loaded, value_at, without
+from tests.rabbitmq.found import is_now, loaded, of, value_at, without
 from tests.rabbitmq.wire import EMPTY, FRAME_MAX, Closed, Connection, Message
 from tests.values import form
 
 BATCH, ODD, ROUTED, STREAMED, ELSEWHERE = 200, 2000, 300, 500, 200
-EMPTY_TEXT, VOID = text(""), ("V", b"")
+EMPTY_TEXT, VOID, EVERY = text(""), ("V", b""), built(EVERY_TYPE)
 # Notes a row of what a version does.
 Saw = Callable[[str, object], None]
-# The values of EVERY_TYPE, as an application has them.
-EVERY = {
-    "boolean": True, "byte": own.ShortShortInt(-2), "unsigned-byte": own.ShortShortUInt(254), "short": own.ShortInt(-300),
-    "unsigned-short": own.ShortUInt(65000), "int": own.LongInt(-70000), "unsigned-int": own.LongUInt(4 * 10**9),
-    "long": -(2**40), "float": own.Float(1.5), "double": -0.25, "decimal": Decimal("3.14"), "text": "grüß 漢",
-    "bytes": b"\0\xff", "time": own.Timestamp(1_800_000_000), "nothing": None, "list": [own.LongInt(1), {"inner": []}],
-    "table": {"z": "", "a": {}},
-}  # fmt: skip
 
 
 def none_of(wrong: Sequence[Any]) -> str:
@@ -62,30 +49,19 @@ def none_of(wrong: Sequence[Any]) -> str:
 # Random tables
 
 
-class Way(NamedTuple):
-    """How a table is sent: what is made of it, the queue to which it goes, and those to which it comes."""
-
-    make: Callable[[Random, Value, bytes], bytes]
-    queue: str
-    back: tuple[str, ...]
-
-
-def as_built(_: Random, value: Value, data: bytes) -> bytes:
-    return data
+# How a table is sent: the queue to which it goes, and those to which it comes.
+WAYS = {
+    "as built": ("as built", ["as built"]),
+    "with BCC": ("as built", ["as built", "copied"]),
+    "dead-lettered": ("dead", ["back"]),
+}
 
 
-def with_copy(make: Random, value: Value, data: bytes) -> bytes:
+def with_copy(make: Random, value: Value) -> bytes:
     """The table, and in it a header that has the broker send a copy to a queue."""
     entries = [*value[1].items()]
     entries.insert(make.randrange(len(entries) + 1), (b"BCC", ("A", [text("copied")])))
     return built(("F", dict(entries)))
-
-
-WAYS = {
-    "as built": Way(as_built, "as built", ("as built",)),
-    "with BCC": Way(with_copy, "as built", ("as built", "copied")),
-    "dead-lettered": Way(as_built, "dead", ("back",)),
-}
 
 
 @pytest.fixture(scope="session")
@@ -105,33 +81,22 @@ def consumers(connection: Connection) -> dict[bytes, str]:
     return {connection.consume(it): it for it in ("as built", "copied", "back")}
 
 
-def come_back(connection: Connection, consumers: dict[bytes, str], way: Way, count: int) -> Iterator[list[Message]]:
-    """The next messages of each queue to which they come."""
-    came: dict[str, list[Message]] = {it: [] for it in way.back}
-    for _ in range(count * len(way.back)):
-        message = connection.delivery()
-        came[consumers[message.consumer]].append(message)
-    yield from came.values()
-
-
 @pytest.mark.parametrize("name", WAYS)
 def test_tables_come_back_equal(
-    name: str,
-    broker: Broker,
-    connection: Connection,
-    consumers: dict[bytes, str],
-    tables: list[tuple[Value, bytes]],
-    make: Random,
-    notes: list[str],
-) -> None:
-    way, tried = WAYS[name], 0
-    wrong: list[str] = []
+    name: str, broker: Broker, connection: Connection, consumers: dict[bytes, str], tables: list[tuple[Value, bytes]],
+    make: Random, notes: list[str],
+) -> None:  # fmt: skip
+    (queue, back), tried, wrong = WAYS[name], 0, list[str]()
     for begin in range(0, len(tables), BATCH):
         batch = tables[begin : begin + BATCH]
-        sent = [way.make(make, value, data) for value, data in batch]
-        frames = [connection.message("", way.queue, it, {"message_id": f"{at}"}) for at, it in enumerate(sent)]
+        sent = [with_copy(make, value) if name == "with BCC" else data for value, data in batch]
+        frames = [connection.message("", queue, it, {"message_id": f"{at}"}) for at, it in enumerate(sent)]
         connection.write(b"".join(frames))
-        for messages in come_back(connection, consumers, way, len(batch)):
+        came: dict[str, list[Message]] = {it: [] for it in back}
+        for _ in range(len(batch) * len(back)):
+            message = connection.delivery()
+            came[consumers[message.consumer]].append(message)
+        for messages in came.values():
             tried += len(messages)
             for at, ((value, data), message) in enumerate(zip(batch, messages, strict=True)):
                 is_mine = message.properties["message_id"] == b"%d" % at
@@ -243,7 +208,7 @@ def test_trace(broker: Broker) -> None:
     connection.queue("reports")
     for key in ("publish.#", "deliver.plain"):
         connection.bind("reports", "amq.rabbitmq.trace", key)
-    connection.publish("", "plain", built(EVERY_TYPE), {"priority": 3, "content_type": "text/plain"})
+    connection.publish("", "plain", EVERY, {"priority": 3, "content_type": "text/plain"})
     connection.get("plain")
     for wanted in ("publish.", "deliver.plain"):
         message = awaited(connection, "reports")
@@ -261,7 +226,7 @@ def test_trace(broker: Broker) -> None:
 def test_shovel(connection: Connection) -> None:
     for name in ("shovel from", "shovel to"):
         connection.queue(name, is_durable=True)
-    connection.publish("", "shovel from", built(EVERY_TYPE))
+    connection.publish("", "shovel from", EVERY)
     moved = awaited(connection, "shovel to").headers
     names = (b"src-queue", b"dest-queue", b"shovel-type", b"shovel-name")
     found = [value_at(moved, b"x-shovelled", 0, it) for it in names]
@@ -275,7 +240,7 @@ def test_federation(connection: Connection) -> None:
         connection.exchange(name, "fanout")
     connection.queue("federated")
     connection.bind("federated", "downstream")
-    again = lambda: connection.publish("upstream", "", built(EVERY_TYPE))
+    again = lambda: connection.publish("upstream", "", EVERY)
     moved = awaited(connection, "federated", repeats=again).headers
     found = [value_at(moved, b"x-received-from", 0, it) for it in (b"exchange", b"redelivered", b"vhost")]
     assert found == [text("downstream"), number("t", 0), text("/")]
@@ -298,8 +263,7 @@ SEEN = """
 
 def test_what_is_built_is_seen(broker: Broker, rules: Version) -> None:
     """The properties of both sides, and the arguments of queues, bindings and consumers, as the broker sees them."""
-    every = own.dumps(EVERY)
-    connection = broker.connection(client_properties=every)
+    connection = broker.connection(client_properties=EVERY)
     queues: dict[str, Value] = {}
     for tag in INTEGERS:
         for at, key in enumerate((b"x-max-length", b"x-max-length-bytes", b"x-message-ttl", b"x-max-priority")):
@@ -307,8 +271,8 @@ def test_what_is_built_is_seen(broker: Broker, rules: Version) -> None:
             queues[connection.queue(f"seen {tag} {key.decode()}", built(("F", given)))] = "F", given | rules.queue
     connection.exchange("seen", "headers")
     connection.queue("bound")
-    connection.bind("bound", "seen", "", every)
-    connection.consume("bound", every, "seen")
+    connection.bind("bound", "seen", "", EVERY)
+    connection.consume("bound", EVERY, "seen")
     of_clients, of_queues, of_bindings, of_consumers = broker.asked(" ".join(SEEN.split())).split("\n")
     assert of_clients == f"[{erlang(EVERY_TYPE)}]"
     named = [f"{{{erlang(text(name))},{erlang(value)}}}" for name, value in sorted(queues.items())]
@@ -327,10 +291,8 @@ def test_arguments_of_every_integer_type(connection: Connection) -> None:
         name = f"at most 3, by {tag}"
         connection.queue(name, arguments(x_max_length=number(tag, 3)))
         connection.bind(name, "by number", "", arguments(k=number(tag, 5)))
-    connection.confirms()
     for count in range(5):
         connection.publish("by number", "", arguments(k=number("I", 5), count=number("I", count)))
-        connection.confirmed()
     for tag in INTEGERS:
         left = []
         while message := connection.get(f"at most 3, by {tag}"):
@@ -359,48 +321,34 @@ def test_other_types_are_no_length(tag: str, broker: Broker) -> None:
 class Publisher:
     """Publishes tables as headers, over a new connection if the broker has closed the one before."""
 
-    def __init__(self, broker: Broker, queue: str, exchange: str = "") -> None:
-        self.broker, self.queue, self.exchange = broker, queue, exchange
+    def __init__(self, broker: Broker, queue: str, exchange: str = "", is_stream: bool = False) -> None:
+        self.broker, self.queue, self.exchange, self.is_stream = broker, queue, exchange, is_stream
         self.connection: Connection | None = None
 
     def opened(self) -> Connection:
         connection = self.broker.connection()
-        connection.confirms()
+        if self.is_stream:
+            connection.consume(self.queue, arguments(x_stream_offset=text("next")), at_once=1)
         return connection
-
-    def came(self, connection: Connection) -> bytes:
-        """The headers of the message."""
-        return awaited(connection, self.queue).headers
 
     def outcome(self, data: bytes) -> tuple[str, int] | bytes:
         """What the broker closes, and why, when a table is published; or else the headers that it delivers."""
         self.connection = self.connection or self.opened()
         try:
             self.connection.publish(self.exchange, self.queue, data)
-            self.connection.confirmed()
         except Closed as why:
             self.connection.drop()
             self.connection = None
             return why.what, why.code
-        return self.came(self.connection)
+        if not self.is_stream:
+            return awaited(self.connection, self.queue).headers
+        message = self.connection.delivery()
+        self.connection.acknowledge(message)
+        return without(message.headers, b"x-stream-offset")
 
     def close(self) -> None:
         if self.connection:
             self.connection.close()
-
-
-class StreamPublisher(Publisher):
-    """Publishes to a stream, and consumes from it."""
-
-    def opened(self) -> Connection:
-        connection = super().opened()
-        connection.follow(self.queue, "next")
-        return connection
-
-    def came(self, connection: Connection) -> bytes:
-        message = connection.delivery()
-        connection.acknowledge(message)
-        return without(message.headers, b"x-stream-offset")
 
 
 def row_in(data: bytes, problem: Problem | None) -> str:
@@ -439,35 +387,28 @@ MADE = {
 }
 
 
-@pytest.mark.usefixtures("library")
 @pytest.mark.parametrize("name", MADE)
-def test_odd_tables_as_headers(
-    name: str, broker: Broker, connection: Connection, make: Random, notes: list[str]
-) -> None:
-    """What the calls for C and the model call a problem closes the connection. What they pass is delivered as the model
-    predicts. The connection is also closed for a table that bytes follow, which is no problem of the table's.
+def test_odd_headers(name: str, broker: Broker, connection: Connection, make: Random, notes: list[str]) -> None:
+    """What the package and the model call a problem closes the connection. What they pass is delivered as the model predicts.
+    The connection is also closed for a table that bytes follow, which is no problem of the table's.
     """
     connection.exchange(name, "fanout")
     for queue in (f"{name} delivered", f"{name} kept"):
         connection.bind(connection.queue(queue), name)
     made, kinds = MADE[name]
     publisher, rows = Publisher(broker, f"{name} delivered", name), Counter[str]()
-    of_broker, of_calls, of_package = [], [], []
+    of_broker, of_package = list[str](), list[str]()
     for _ in range(ODD):
         data = made(make)
         problem, follows = first_problem(data), extent(data[:5]) < len(data)
         wanted = ("connection", 541) if problem or follows else delivered(broker.version, data)
-        if (found := publisher.outcome(data)) != wanted:
-            of_broker.append(f"{data.hex()}: {found!r}, not {wanted!r}")
-        without_tag = problem and (max(0, problem[0] - 1), *problem[1:])
-        if (judged := (calls.first_problem(data), calls.first_problem(data[1:], table=True))) != (problem, without_tag):
-            of_calls.append(f"{data.hex()}: {judged}, not {problem}")
-        if wrong_reading(data, problem):
-            of_package.append(data.hex())
+        found = publisher.outcome(data)
+        of_broker += [f"{data.hex()}: {found!r}, not {wanted!r}"] if found != wanted else []
+        of_package += [data.hex()] if wrong_reading(data, problem) else []
         rows["none, but bytes follow" if follows and not problem else row_in(data, problem)] += 1
     publisher.close()
     notes.append(f"{name} tables by their first problem: " + ", ".join(f"{it} {rows[it]}" for it in sorted(rows)))
-    assert (none_of(of_broker), none_of(of_calls), none_of(of_package)) == ("", "", "")
+    assert (none_of(of_broker), none_of(of_package)) == ("", "")
     assert not [it for it in kinds if rows[it] < ODD / 200]
     # as many as the broker took
     assert connection.count(f"{name} kept") == rows["none"] + rows["none, unread here"]
@@ -479,58 +420,33 @@ ACTS: dict[str, Callable[[Connection, bytes], object]] = {
     "queue.bind": lambda connection, data: connection.bind("closing", "closing", "", data),
     "basic.consume": lambda connection, data: connection.consume("closing", data),
 }
+# Tables with something wrong in them; and one with L, another true and a key that isn't UTF-8, which the broker takes.
+WRONG = [field(b"F", b"\1a" + it) for it in (*NAN, *INFINITY, b"U\0\1", *NO_TAG, b"I\0", b"")]
+TAKEN = field(b"F", b"\1aL" + b"\xff" * 8 + b"\1bt\7\1\xffV")
 
 
-@pytest.fixture
-def closing(connection: Connection) -> Connection:
-    """A connection, and what odd tables are passed to."""
+@pytest.mark.parametrize("name", ACTS)
+def test_odd_tables_in_methods(name: str, broker: Broker, connection: Connection, make: Random) -> None:
+    """The socket is closed with no reason. If a table's length counts other bytes than are there, the method is cut or too
+    long, which closes the connection.
+    """
     connection.queue("closing")
     connection.exchange("closing", "headers")
-    return connection
-
-
-@pytest.mark.usefixtures("closing")
-def test_odd_tables_elsewhere(broker: Broker) -> None:
-    """The socket is closed for them in methods and client-properties, with no reason."""
-    odd = [field(b"F", b"\1a" + it) for it in (*NAN, *INFINITY, b"U\0\1", *NO_TAG, b"I\0", b"")]
-    tried = [(name, data) for data in odd for name in (*ACTS, "client-properties")]
-
-    def closed(name: str, data: bytes) -> tuple[str, int] | None:
-        if name in ACTS:
-            return closed_by(broker, lambda it: ACTS[name](it, data))
-        return closed_by(broker, lambda it: None, client_properties=data)
-
-    # of client-properties the broker closes the socket three seconds later
-    with ThreadPoolExecutor(len(odd)) as pool:
-        found = pool.map(closed, *zip(*tried))
-    assert (
-        none_of([f"{data.hex()} in {name}: {it}" for (name, data), it in zip(tried, found) if it != ("socket", 0)])
-        == ""
-    )
-
-
-@pytest.mark.usefixtures("closing")
-@pytest.mark.parametrize("name", ACTS)
-def test_mutated_tables_elsewhere(name: str, broker: Broker, make: Random) -> None:
-    """Of a table whose length counts other bytes than are there the method is cut or too long, which closes the connection."""
+    assert all(map(first_problem, WRONG)) and not first_problem(TAKEN)
     wrong = []
-    for _ in range(ELSEWHERE):
-        data = mutated(make)
-        wanted = (
-            ("connection", 501) if extent(data[:5]) != len(data) else ("socket", 0) if first_problem(data) else None
-        )
+    for data in (*WRONG, TAKEN, *(mutated(make) for _ in range(ELSEWHERE))):
+        is_cut = extent(data[:5]) != len(data)
+        wanted = ("connection", 501) if is_cut else ("socket", 0) if first_problem(data) else None
         found = closed_by(broker, lambda it: ACTS[name](it, data))
-        if found != wanted:
-            wrong.append(f"{data.hex()}: {found}, not {wanted}")
+        wrong += [f"{data.hex()}: {found}, not {wanted}"] if found != wanted else []
     assert none_of(wrong) == ""
 
 
-@pytest.mark.usefixtures("closing")
-@pytest.mark.parametrize("name", ACTS)
-def test_what_is_taken_elsewhere(name: str, broker: Broker) -> None:
-    """L, another true and a key that isn't UTF-8."""
-    data = field(b"F", b"\1aL" + b"\xff" * 8 + b"\1bt\7\1\xffV")
-    assert closed_by(broker, lambda it: ACTS[name](it, data)) is None
+def test_wrong_client_properties(broker: Broker) -> None:
+    """The socket is closed with no reason, three seconds later."""
+    with ThreadPoolExecutor(len(WRONG)) as pool:
+        found = pool.map(lambda it: closed_by(broker, lambda _: None, client_properties=it), WRONG)
+        assert [*found] == [("socket", 0)] * len(WRONG)
 
 
 # What it does otherwise
@@ -551,17 +467,15 @@ def test_repeated_headers_are_routed(connection: Connection, rules: Version, mak
     for it in numbers:
         connection.queue(f"first {it}")
         connection.bind(f"first {it}", "first", "", arguments(k=number("I", it)))
-    connection.confirms()
     wanted: dict[int, list[int]] = {it: [] for it in numbers}
     for at in range(ROUTED):
         pairs = [(make.choice([b"k", b"k", b"a", b"z"]), make.randrange(5)) for _ in range(make.randrange(1, 6))]
-        data = field(b"F", b"".join(bytes([len(key)]) + key + write(number("I", it)) for key, it in pairs))
+        data = of(*((key, number("I", it)) for key, it in pairs))
         if "k" in loaded(data):
             found = own.find(data, "k", equal_keys="first"), own.find(data, "k")
             wanted[found[rules.routes_by]].append(at)
             repeated += found[0] != found[1]
         connection.publish("first", "", data, {"message_id": f"{at}"})
-        connection.confirmed()
     for it in numbers:
         assert sorted(received(connection, f"first {it}")) == wanted[it]
     assert repeated >= ROUTED / 5
@@ -573,35 +487,28 @@ def test_repeated_arguments_of_a_binding(connection: Connection, rules: Version,
     connection.exchange("any", "headers")
     connection.queue("bound by any")
     numbers = [1, 2, 3]
-    given = b"".join(b"\1k" + write(number("I", it)) for it in numbers) + b"\7x-match" + write(text("any"))
-    connection.bind("bound by any", "any", "", field(b"F", given))
-    connection.confirms()
+    given = [*((b"k", number("I", it)) for it in numbers), (b"x-match", text("any"))]
+    connection.bind("bound by any", "any", "", of(*given))
     for it in numbers:
         connection.publish("any", "", arguments(k=number("I", it)), {"message_id": f"{it}"})
-        connection.confirmed()
     found = received(connection, "bound by any")
     saw("k: 1, k: 2, k: 3 in a binding, x-match any, matches", found)
     assert found == numbers[rules.compares]
 
 
 def test_the_first_of_equal_arguments(connection: Connection, saw: Saw) -> None:
-    connection.confirms()
-    connection.queue("two", field(b"F", b"".join(b"\x0cx-max-length" + write(number("I", it)) for it in (2, 3))))
+    connection.queue("two", of(*((b"x-max-length", number("I", it)) for it in (2, 3))))
     for _ in range(5):
         connection.publish("", "two")
-        connection.confirmed()
     saw("x-max-length 2 and 3 of a queue with 5 messages leaves", connection.count("two"))
     assert connection.count("two") == 2
 
 
 def test_the_first_of_equal_headers(connection: Connection, saw: Saw) -> None:
-    connection.confirms()
     queues = ("sent to", "copied first", "copied last")
     for it in queues:
         connection.queue(it)
-    both = b"".join(b"\3BCC" + write(("A", [text(it)])) for it in queues[1:])
-    connection.publish("", "sent to", field(b"F", both))
-    connection.confirmed()
+    connection.publish("", "sent to", of(*((b"BCC", ("A", [text(it)])) for it in queues[1:])))
     found = [connection.count(it) for it in queues]
     saw("BCC twice, messages in the queue and in both copies", found)
     assert found == [1, 1, 0]
@@ -633,13 +540,11 @@ def test_equality(broker: Broker, connection: Connection, notes: list[str], saw:
     """Which values a headers exchange takes for equal."""
     values, wrong, equal_here, seen = compared(), [], 0, set()
     connection.exchange("equal", "headers")
-    connection.confirms()
     for at, value in enumerate(values):
         connection.queue(f"equal {at}")
         connection.bind(f"equal {at}", "equal", "", arguments(k=value))
     for at, value in enumerate(values):
         connection.publish("equal", "", arguments(k=value), {"message_id": f"{at}"})
-        connection.confirmed()
     for at, argument in enumerate(values):
         found = {*received(connection, f"equal {at}")}
         wanted = {it for it, header in enumerate(values) if matches(broker.version, argument, header)}
@@ -708,55 +613,42 @@ def test_deaths_of_a_client(connection: Connection, rules: Version, saw: Saw) ->
     assert awaited(connection, "dead again").headers == headers
 
 
-def of_pairs(*pairs: tuple[bytes, bytes]) -> bytes:
-    """A table of keys and encodings."""
-    return field(b"F", b"".join(bytes([len(key)]) + key + it for key, it in pairs))
-
-
 FILTER = b"x-stream-filter-value"
 # Of Timestamps, the last that 64 bits have in milliseconds, and others at edges.
-TIMES = (
-    0,
-    (2**63 - 1) // 1000,
-    2**63 // 1000 + 1,
-    (2**64 - 1) // 1000,
-    2**63 - 1,
-    2**63,
-    2**64 - 2**63 // 1000,
-    2**64 - 1,
-)
+MOST = 2**63 // 1000
+TIMES = (0, MOST, MOST + 1, (2**64 - 1) // 1000, 2**63 - 1, 2**63, 2**64 - MOST, 2**64 - 1)
 
 
 def for_streams() -> list[bytes]:
     """Tables with what streams treat otherwise."""
     values = [raw(it) for it in (*EVERY_TYPE[1].values(), number("t", 7), ("S", b"\xff"), ("x", b""))]
     values += [b"L" + b"\xff" * 8, *(raw(number("T", it)) for it in TIMES)]
-    tried = [of_pairs((key, it)) for it in values for key in (b"k", b"x-k", FILTER)]
+    tried = [of((key, it)) for it in values for key in (b"k", b"x-k", FILTER)]
     values += [raw(("A", [decimal(2, 314)])), raw(table(k=decimal(0, 0), t=number("T", 2**63 - 1)))]
-    tried += [of_pairs((key, field(b"A", it))) for it in values for key in (b"x-k", b"x-death", b"CC")]
-    tried += [of_pairs((key, field(b"F", b"\1k" + it))) for it in values for key in (b"k", b"x-k")]
-    tried += [of_pairs((b"z", it), (b"a", raw(VOID)), (b"z", raw(number("I", 1)))) for it in values]
-    tried += [of_pairs((FILTER, raw(it))) for it in (text("a\0"), text("ä" * 2048), text("ä" * 2048 + "a"))]
-    tried += [of_pairs((FILTER, raw(a)), (FILTER, raw(b))) for a, b in [(text("a"), VOID), (VOID, text("a"))]]
-    return [*tried, field(b"F", PAIRS + b"\1\xffV\3x-aV"), of_pairs((b"x-death", raw(VOID)))]
+    tried += [of((key, field(b"A", it))) for it in values for key in (b"x-k", b"x-death", b"CC")]
+    tried += [of((key, field(b"F", b"\1k" + it))) for it in values for key in (b"k", b"x-k")]
+    tried += [of((b"z", it), (b"a", VOID), (b"z", number("I", 1))) for it in values]
+    tried += [of((FILTER, it)) for it in (text("a\0"), text("ä" * 2048), text("ä" * 2048 + "a"))]
+    tried += [of((FILTER, a), (FILTER, b)) for a, b in [(text("a"), VOID), (VOID, text("a"))]]
+    return [*tried, field(b"F", PAIRS + b"\1\xffV\3x-aV"), of((b"x-death", VOID))]
 
 
 # Headers of one or two pairs, by what is said of them.
 NAMED = {
-    "a decimal": of_pairs((b"k", raw(decimal(2, 314)))),
-    "an array": of_pairs((b"k", field(b"A", b"V"))),
-    "a table": of_pairs((b"k", field(b"F", b"\1aV"))),
-    "an array of x-k": of_pairs((b"x-k", field(b"A", b"V"))),
-    "an array of CC": of_pairs((b"CC", field(b"A", b"V"))),
-    "an array of x-death": of_pairs((b"x-death", field(b"A", b"V"))),
-    "a decimal in an array of x-k": of_pairs((b"x-k", field(b"A", raw(decimal(2, 314))))),
-    "a decimal in an array of k": of_pairs((b"k", field(b"A", raw(decimal(2, 314))))),
-    "a Byte Array": of_pairs((b"k", raw(("x", b"a")))),
-    "a key twice": of_pairs((b"k", raw(text("a"))), (b"k", raw(text("b")))),
-    "a Timestamp": of_pairs((b"k", raw(number("T", (2**63 - 1) // 1000)))),
-    "a later Timestamp": of_pairs((b"k", raw(number("T", 2**63 // 1000 + 1)))),
-    "x-stream-filter-value that is text": of_pairs((FILTER, raw(text("a")))),
-    "x-stream-filter-value that isn't": of_pairs((FILTER, raw(number("I", 1)))),
+    "a decimal": of((b"k", decimal(2, 314))),
+    "an array": of((b"k", ("A", [VOID]))),
+    "a table": of((b"k", table(a=VOID))),
+    "an array of x-k": of((b"x-k", ("A", [VOID]))),
+    "an array of CC": of((b"CC", ("A", [VOID]))),
+    "an array of x-death": of((b"x-death", ("A", [VOID]))),
+    "a decimal in an array of x-k": of((b"x-k", ("A", [decimal(2, 314)]))),
+    "a decimal in an array of k": of((b"k", ("A", [decimal(2, 314)]))),
+    "a Byte Array": of((b"k", ("x", b"a"))),
+    "a key twice": of((b"k", text("a")), (b"k", text("b"))),
+    "a Timestamp": of((b"k", number("T", TIMES[1]))),
+    "a later Timestamp": of((b"k", number("T", TIMES[2]))),
+    "x-stream-filter-value that is text": of((FILTER, text("a"))),
+    "x-stream-filter-value that isn't": of((FILTER, number("I", 1))),
 }
 
 
@@ -768,20 +660,19 @@ def annotated_table(make: Random) -> bytes:
     if make.random() < 0.2:
         value: Value = ("A", [random_value(make, 1)]) if (key := make.choice(known)) == b"CC" else random_value(make, 1)
         pairs.insert(make.randrange(len(pairs) + 1), (key, raw(value)))
-    return of_pairs(*pairs)
+    return of(*pairs)
 
 
 def test_streams(broker: Broker, connection: Connection, make: Random, notes: list[str], saw: Saw) -> None:
     """What a stream drops and rewrites, and closes the connection for."""
     queue = connection.queue("stream", arguments(x_queue_type=text("stream")), is_durable=True)
-    publisher = StreamPublisher(broker, queue)
+    publisher = Publisher(broker, queue, is_stream=True)
     tried, wrong, closes = [*NAMED.values(), *for_streams(), *(annotated_table(make) for _ in range(STREAMED))], [], 0
     names = {data: name for name, data in NAMED.items()}
     for data in tried:
         found, wanted = publisher.outcome(data), streamed(broker.version, data) or ("connection", 541)
         closes += found == ("connection", 541)
-        if found != wanted:
-            wrong.append(f"{data.hex()}: {found!r}, not {wanted!r}")
+        wrong += [f"{data.hex()}: {found!r}, not {wanted!r}"] if found != wanted else []
         if name := names.pop(data, ""):
             seen = found.hex() if isinstance(found, bytes) else f"{found[0]} closed, {found[1]}"
             saw(f"stream, {name}", "kept" if found == data else "dropped" if found == EMPTY else seen)
@@ -793,12 +684,10 @@ def test_streams(broker: Broker, connection: Connection, make: Random, notes: li
 def test_streams_keep_messages(broker: Broker, connection: Connection) -> None:
     """A consumer from the first message on gets it each time."""
     queue = connection.queue("kept", arguments(x_queue_type=text("stream")), is_durable=True)
-    connection.confirms()
     connection.publish("", queue)
-    connection.confirmed()
     for _ in range(3):
         again = broker.connection()
-        again.follow(queue, "first")
+        again.consume(queue, arguments(x_stream_offset=text("first")), at_once=1)
         assert value_at(again.delivery().headers, b"x-stream-offset") == number("l", 0)
         again.drop()
 
@@ -842,29 +731,7 @@ def test_frames(connection: Connection, rules: Version, notes: list[str]) -> Non
     assert own.dumps(loaded(without(back, *rules.deaths))) == data
 
 
-# Its clients
-
-
-@pytest.mark.parametrize("client", clients.CLIENTS)
-def test_client(client: str, connection: Connection, broker: Broker) -> None:
-    """What a client writes is read as it means it, and it reads what is built here, as known."""
-    sent, received_from = f"from {client}", f"to {client}"
-    for it in (sent, received_from):
-        connection.queue(it)
-    # py-amqp takes s for a short string, and then fails
-    left_out = "s" if client == "py-amqp" else ""
-    headers = "F", {key: it for key, it in EVERY_TYPE[1].items() if it[0] != left_out}
-    connection.confirms()
-    connection.publish("", received_from, built(headers))
-    connection.confirmed()
-    words = [clients.PYTHON, "-B", "-m", clients.__name__, client, f"{broker.port}", sent, received_from]
-    done = subprocess.run(words, cwd=TOP, capture_output=True, text=True, timeout=100)
-    assert not done.returncode, done.stderr[-600:]
-    printed = json.loads(done.stdout)
-    assert printed["server"] == own.loads(connection.server_properties, plain=True)
-    assert value_at(awaited(connection, sent).headers) == clients.meant(client)[0]
-    known = clients.READS | clients.OTHERWISE[client]
-    assert printed["read"] == {key: it for key, it in known.items() if key.encode() in headers[1]}
+# A client of it
 
 
 def published(connection: Connection, broker: Broker, *headers: bytes) -> bytes:
@@ -878,8 +745,7 @@ def test_amqp_publish(connection: Connection, broker: Broker) -> None:
     """It writes strings, a key twice, and a key in Latin-1."""
     connection.queue("from a command")
     data = published(connection, broker, b"k: 1", "other: ä".encode(), b"k: 2")
-    pairs = [("k", text("1")), ("other", text("ä")), ("k", text("2"))]
-    sent = field(b"F", b"".join(bytes([len(key)]) + key.encode() + write(it) for key, it in pairs))
+    sent = of((b"k", text("1")), (b"other", text("ä")), (b"k", text("2")))
     assert data == delivered(broker.version, sent)
     with pytest.raises(own.Error, match="key not UTF-8"):
         own.loads(published(connection, broker, b"gr\xf6\xdfe: 5"))

@@ -21,15 +21,12 @@ Method = tuple[int, int]
 EMPTY = b"F\0\0\0\0"
 FRAME_MAX, SECONDS = 131072, 60
 METHOD, HEADER, BODY, HEARTBEAT, END = 1, 2, 3, 8, b"\xce"
-# Methods by class and number.
-START, START_OK, TUNE, TUNE_OK, OPEN, OPEN_OK = (10, 10), (10, 11), (10, 30), (10, 31), (10, 40), (10, 41)
-CLOSE, CLOSE_OK, CHANNEL_OPEN, CHANNEL_OPEN_OK, CHANNEL_CLOSE = (10, 50), (10, 51), (20, 10), (20, 11), (20, 40)
-EXCHANGE_DECLARE, EXCHANGE_DECLARE_OK = (40, 10), (40, 11)
-QUEUE_DECLARE, QUEUE_DECLARE_OK, BIND, BIND_OK = (50, 10), (50, 11), (50, 20), (50, 21)
-QOS, QOS_OK = (60, 10), (60, 11)
-CONSUME, CONSUME_OK, CANCEL, CANCEL_OK, PUBLISH, DELIVER = (60, 20), (60, 21), (60, 30), (60, 31), (60, 40), (60, 60)
+# Methods by class and number. The reply to most has the number after.
+START, START_OK, TUNE, TUNE_OK, OPEN, CLOSE = (10, 10), (10, 11), (10, 30), (10, 31), (10, 40), (10, 50)
+CHANNEL_OPEN, CHANNEL_CLOSE, EXCHANGE_DECLARE, QUEUE_DECLARE, BIND = (20, 10), (20, 40), (40, 10), (50, 10), (50, 20)
+QOS, CONSUME, CANCEL, PUBLISH, DELIVER = (60, 10), (60, 20), (60, 30), (60, 40), (60, 60)
 GET, GET_OK, GET_EMPTY, ACK, REJECT, NACK = (60, 70), (60, 71), (60, 72), (60, 80), (60, 90), (60, 120)
-CONFIRM, CONFIRM_OK = (85, 10), (85, 11)
+CONFIRM = (85, 10)
 
 
 class Closed(Exception):
@@ -101,28 +98,19 @@ def header_of(size: int, properties: Mapping[str, Property]) -> bytes:
 
 
 class Message:
-    """A message as it came, to a consumer or since it was asked for."""
+    """A message as it came, to a consumer or since it was asked for. `frame` is the size of its content header's frame."""
 
-    def __init__(self, method: bytes, header: "Header", body: bytes) -> None:
-        fields = Arguments(method)
-        self.consumer = fields.short() if header.is_delivery else b""
+    def __init__(self, method: Method, fields: Arguments, header: bytes, body: bytes) -> None:
+        self.consumer = fields.short() if method == DELIVER else b""
         self.tag, self.is_again = fields.number("Q"), fields.number("B")
-        self.exchange, self.key, self.properties, self.body = fields.short(), fields.short(), header.properties, body
-        self.frame = header.frame
+        self.exchange, self.key, self.body = fields.short(), fields.short(), body
+        self.properties, self.frame = Arguments(header).properties()[1], len(header) + 8
 
     @property
     def headers(self) -> bytes:
         found = self.properties.get("headers", EMPTY)
         assert isinstance(found, bytes)
         return found
-
-
-class Header:
-    """A content header, and how many bytes its frame had."""
-
-    def __init__(self, payload: bytes, is_delivery: bool) -> None:
-        self.is_delivery, self.frame = is_delivery, len(payload) + 8
-        self.size, self.properties = Arguments(payload).properties()
 
 
 class Connection:
@@ -133,6 +121,7 @@ class Connection:
         self.socket.setsockopt(socket.IPPROTO_TCP, socket.TCP_NODELAY, 1)
         self.file = self.socket.makefile("rb")
         self.inbox: list[tuple[Method, Any]] = []
+        self.has_confirms = False
         self.socket.sendall(b"AMQP\0\0\x09\x01")
         start = Arguments(self.wait(START))
         start.take(2)
@@ -140,8 +129,8 @@ class Connection:
         log_in = short("PLAIN") + long(b"\0guest\0guest") + short("en_US")
         self.call(START_OK, bare(client_properties) + log_in, TUNE, channel=0)
         self.send(TUNE_OK, struct.pack(">HIH", 8, FRAME_MAX, 0), channel=0)
-        self.call(OPEN, short(vhost) + short("") + b"\0", OPEN_OK, channel=0)
-        self.call(CHANNEL_OPEN, short(""), CHANNEL_OPEN_OK)
+        self.call(OPEN, short(vhost) + short("") + b"\0", channel=0)
+        self.call(CHANNEL_OPEN, short(""))
 
     # Frames
 
@@ -176,16 +165,17 @@ class Connection:
         kind, payload = self.read_frame()
         assert kind == METHOD, kind
         fields = Arguments(payload)
-        method, rest = (fields.number("H"), fields.number("H")), payload[4:]
+        method = fields.number("H"), fields.number("H")
         if method in (CLOSE, CHANNEL_CLOSE):
             what = "connection" if method == CLOSE else "channel"
             raise Closed(what, fields.number("H"), fields.short().decode(errors="replace"))
         if method not in (DELIVER, GET_OK):
-            return method, rest
-        header, body = Header(self.read_frame()[1], method == DELIVER), b""
-        while len(body) < header.size:
+            return method, payload[4:]
+        header, body = self.read_frame()[1], b""
+        size, _ = Arguments(header).properties()
+        while len(body) < size:
             body += self.read_frame()[1]
-        return method, Message(rest, header, body)
+        return method, Message(method, fields, header, body)
 
     def wait(self, *methods: Method) -> Any:
         """The arguments of the next of these methods, or its message."""
@@ -200,12 +190,13 @@ class Connection:
             self.inbox.append((method, rest))
 
     def call(self, method: Method, arguments: bytes, *replies: Method, channel: int = 1) -> Any:
+        """Sends a method, and returns what comes with its reply."""
         self.send(method, arguments, channel)
-        return self.wait(*replies)
+        return self.wait(*(replies or [(method[0], method[1] + 1)]))
 
     def close(self) -> None:
         with suppress(Closed, OSError):
-            self.call(CLOSE, struct.pack(">H", 200) + short("") + struct.pack(">HH", 0, 0), CLOSE_OK, channel=0)
+            self.call(CLOSE, struct.pack(">H", 200) + short("") + struct.pack(">HH", 0, 0), channel=0)
         self.drop()
 
     def drop(self) -> None:
@@ -217,29 +208,22 @@ class Connection:
 
     def exchange(self, name: str, kind: str, arguments: bytes = EMPTY) -> None:
         fields = b"\0\0" + short(name) + short(kind) + b"\0" + bare(arguments)
-        self.call(EXCHANGE_DECLARE, fields, EXCHANGE_DECLARE_OK)
+        self.call(EXCHANGE_DECLARE, fields)
 
     def queue(self, name: str = "", arguments: bytes = EMPTY, is_durable: bool = False) -> str:
         """Declares a queue that goes with the broker, and returns its name."""
         fields = b"\0\0" + short(name) + bytes([2 * is_durable]) + bare(arguments)
-        return Arguments(self.call(QUEUE_DECLARE, fields, QUEUE_DECLARE_OK)).short().decode()
+        return Arguments(self.call(QUEUE_DECLARE, fields)).short().decode()
 
     def count(self, queue: str) -> int:
         """How many messages are ready in a queue (which has to be there)."""
-        fields = Arguments(self.call(QUEUE_DECLARE, b"\0\0" + short(queue) + b"\1" + bare(EMPTY), QUEUE_DECLARE_OK))
+        fields = Arguments(self.call(QUEUE_DECLARE, b"\0\0" + short(queue) + b"\1" + bare(EMPTY)))
         fields.short()
         return fields.number("I")
 
     def bind(self, queue: str, exchange: str, key: str = "", arguments: bytes = EMPTY) -> None:
         fields = b"\0\0" + short(queue) + short(exchange) + short(key) + b"\0" + bare(arguments)
-        self.call(BIND, fields, BIND_OK)
-
-    def confirms(self) -> None:
-        """Has the broker confirm each message that is published from now on."""
-        self.call(CONFIRM, b"\0", CONFIRM_OK)
-
-    def confirmed(self) -> None:
-        self.wait(ACK)
+        self.call(BIND, fields)
 
     def message(
         self,
@@ -255,26 +239,27 @@ class Connection:
         return self.frame(METHOD, method) + self.frame(HEADER, header) + (self.frame(BODY, body) if body else b"")
 
     def publish(self, *message: Any, **more: Any) -> None:
+        """Publishes a message, and waits until the broker confirms it."""
+        if not self.has_confirms:
+            self.call(CONFIRM, b"\0")
+            self.has_confirms = True
         self.write(self.message(*message, **more))
+        self.wait(ACK)
 
     def get(self, queue: str, keeps: bool = False) -> Message | None:
         """A message, or None; if it is kept, it has to be acknowledged or rejected."""
         found = self.call(GET, b"\0\0" + short(queue) + bytes([not keeps]), GET_OK, GET_EMPTY)
         return found if isinstance(found, Message) else None
 
-    def follow(self, stream: str, offset: str) -> None:
-        """Has the messages of a stream delivered from an offset on, each after the one before is acknowledged."""
-        self.call(QOS, struct.pack(">IHB", 0, 1, 0), QOS_OK)
-        arguments = long(short("x-stream-offset") + b"S" + long(offset.encode()))
-        self.call(CONSUME, b"\0\0" + short(stream) + short("") + b"\0" + arguments, CONSUME_OK)
-
-    def consume(self, queue: str, arguments: bytes = EMPTY, consumer: str = "") -> bytes:
-        """Has the messages of a queue delivered, which are acknowledged by that."""
-        fields = b"\0\0" + short(queue) + short(consumer) + b"\2" + bare(arguments)
-        return Arguments(self.call(CONSUME, fields, CONSUME_OK)).short()
+    def consume(self, queue: str, arguments: bytes = EMPTY, consumer: str = "", at_once: int = 0) -> bytes:
+        """Has the messages of a queue delivered: so many before one is acknowledged, or all, without that."""
+        if at_once:
+            self.call(QOS, struct.pack(">IHB", 0, at_once, 0))
+        fields = b"\0\0" + short(queue) + short(consumer) + (b"\0" if at_once else b"\2") + bare(arguments)
+        return Arguments(self.call(CONSUME, fields)).short()
 
     def cancel(self, consumer: bytes) -> None:
-        self.call(CANCEL, short(consumer) + b"\0", CANCEL_OK)
+        self.call(CANCEL, short(consumer) + b"\0")
 
     def delivery(self) -> Message:
         found = self.wait(DELIVER)
