@@ -4,21 +4,14 @@ import re
 import sys
 from collections.abc import Sequence
 
-# What is between these lines of the page is written anew, as all its tables are but the one of the page in a browser.
+# What is between these lines of the page is written anew, as all its tables are.
 BEGIN, END = "<!-- run: bench/run -->\n", "<!-- end of run -->\n"
 TABLE = re.compile(r"(?m)(?:^\|.*\n)+")
-# The first head of the table of the page in a browser, which isn't measured anew.
-BY_THE_PAGE = "1 MiB"
 
 
 def head_of(table: str) -> str:
     """What the first column of a table is headed by."""
     return table.partition("|")[2].partition("|")[0].strip()
-
-
-def left_of(table: str) -> str:
-    """What is left of a table that wasn't measured: its heads, if bench/run makes it."""
-    return table if head_of(table) == BY_THE_PAGE else "".join(table.splitlines(True)[:2])
 
 
 class Page:
@@ -44,6 +37,6 @@ class Page:
         """The page with what was found; a table that wasn't measured loses its rows."""
         if missing := self.tables.keys() - {head_of(it) for it in TABLE.findall(old)}:
             sys.exit(f"bench: docs/SPEED.md has no table for: {', '.join(missing)}")
-        text = TABLE.sub(lambda it: self.tables.get(head_of(it[0]), left_of(it[0])), old)
+        text = TABLE.sub(lambda it: self.tables.get(head_of(it[0]), "".join(it[0].splitlines(True)[:2])), old)
         before, _, rest = text.partition(BEGIN)
         return before + BEGIN + "\n" + "\n".join(self.lines) + "\n\n" + END + rest.partition(END)[2]
