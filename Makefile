@@ -16,13 +16,13 @@ setup: ## install what `make check` needs, as root (WITHOUT=broker leaves Rabbit
 test: ## run the tests that need only the kit, python3, make and git (about 5 minutes)
 	@python3 .ci/gate.py test
 
-check: ## run everything else a change must pass (20 to 80 minutes; WITHOUT="broker crate" skips steps)
+check: ## run everything else a change must pass (5 to 60 minutes; WITHOUT="broker crate" skips steps)
 	@python3 .ci/gate.py check
 
 lint: ## check the types and the layout of what is written in Python (a minute)
 	@tests/lint
 
-wrong-bodies: ## try wrong bodies, which the prover must refuse (30 minutes; later only of what changed)
+wrong-bodies: ## try wrong bodies, which the prover must refuse (15 minutes; later only of what changed)
 	@tests/wrong_bodies
 
 all: $(FOLDER)/checksums ## prove and build the C library and amqp_show (40 minutes; plain `make` does this)
