@@ -122,7 +122,7 @@ class Text:
         return ("A", self.items(levels - 1)) if mark == b"[" else self.members(levels - 1)
 
     def goes_on(self, end: bytes) -> bool:
-        """Whether a comma is next, or the end of what is open, which are passed."""
+        """Passes a comma or the closing bracket, and returns whether it was a comma."""
         if self.take(end):
             return False
         if not self.take(b","):

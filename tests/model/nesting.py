@@ -86,7 +86,7 @@ Make = Callable[[str, int], bytes]
 
 
 class Call(NamedTuple):
-    """The word that has a program make it, what it is made on, and how deep; JSON has a limit by itself."""
+    """The request, what it is made on, and how deep that nests; JSON has its own limit."""
 
     word: str
     makes: dict[str, Make]
@@ -121,7 +121,7 @@ NOT_CANONICAL = {"": flagged(0, not_canonical), **UNTAGGED, **WRONG}
 
 
 def calls(*groups: tuple[str, dict[str, Make], tuple[int, ...]]) -> dict[str, Call]:
-    """Calls by their words, which those of a group have in a line."""
+    """The calls by name; a line has those of one group."""
     return {word: Call(word, makes, depths) for words, makes, depths in groups for word in words.split()}
 
 

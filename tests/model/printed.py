@@ -479,7 +479,7 @@ def instead(data: bytes, subject: str) -> Printed | None:
 def printed(
     data: bytes, form: str = "tree", asks_notes: bool = False, subject: str = "value", start: int | None = None
 ) -> Printed:
-    """Of `amqp_show --tree` or `--bytes`, with `--canonical` and with `--table`, or without them; or in a stream."""
+    """The output of `amqp_show --tree` or `--bytes`, also with `--canonical` and `--table`, or of a value of a stream."""
     found = Dissection(data, subject, start or 0)
     lines = [*(part_lines(found, asks_notes) if form == "bytes" else tree(found.parts, asks_notes)), *repeated(found)]
     lines += [f"! {found.failed()}"] if found.failure else []
@@ -498,7 +498,7 @@ def printed_json(data: bytes, subject: str = "value", start: int = 0) -> Printed
 
 
 def streamed(data: bytes) -> dict[str, Printed]:
-    """Of `amqp_show --stream`, by the form: all values up to the first that fails."""
+    """The output of `amqp_show --stream` in a form: all values up to the first that fails."""
     shown, said, status, offset = dict.fromkeys(("tree", "bytes", "JSON"), ""), "", 0, 0
     while offset < len(data) and not status:
         value = data[offset : offset + Dissection(data[offset:]).end]
@@ -546,7 +546,7 @@ def judged(found: Dissection, version: str = "4.3") -> str:
 
 
 class Inner(NamedTuple):
-    """A value that is taken: its offset, type tag and key, in how many containers it is, and the offset of the innermost."""
+    """A value that RabbitMQ takes: its offset, type tag, key and level, and the offset of the innermost container around it."""
 
     at: int
     tag: str

@@ -93,7 +93,7 @@ def test_model_agrees_with_each_row(file: str) -> None:
 
 @pytest.mark.parametrize("mutant", MUTANTS, ids=[it.rule for it in MUTANTS])
 def test_broken_rule_is_found_out(mutant: Mutant) -> None:
-    # (a broken model may never end, which then ends the process)
+    # (a broken model may never end: the alarm then ends the process)
     signal.alarm(30)
     assert first_wrong(mutant.file, mutated(mutant)) != ""
     signal.alarm(0)

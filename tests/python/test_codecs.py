@@ -41,7 +41,7 @@ def table_of(make: Random) -> bytes:
     """A table without its type tag, or bytes that are none."""
     data = raw(random_table(make)) if make.random() < 0.5 else odd_table(make)
     data = (damaged(make, data) if make.random() < 0.4 else data)[1:]
-    # (of some that are damaged the length fits again)
+    # (some damaged tables get a length that fits again)
     return len(data[4:]).to_bytes(4, "big") + data[4:] if make.random() < 0.5 else data
 
 
@@ -66,7 +66,7 @@ def test_what_is_read(client: Client, seed: int) -> None:
         assert isinstance(found, Headers) and found.raw == whole[len(before) : end] and stop == end
         if problem:
             counts["refused"] += 1
-            # (where headers are false clients put an empty dict in their place)
+            # (clients replace headers that are false by an empty dict)
             assert isinstance(found, Refused) and found and not len(found)
             assert found.problem.offset == len(before) + max(problem[0] - 1, 0)
             continue

@@ -242,7 +242,7 @@ def wrong(session: Session, given: Any) -> Any:
     calls = {it: partial(client.publish, "", to, WRONG[it]) for it in given["names"]}
     if given.get("more"):
         calls |= {"declared": partial(client.declare, to, {"k": object()})}
-        # (nor has a routing key of more than 255 bytes an encoding)
+        # (a routing key of more than 255 bytes has no encoding either)
         calls |= {"key": partial(client.publish, "", "漢" * 100, {"right": 0})}
     calls["right"] = partial(client.publish, "", to, {"right": 1})
     return {name: error for name, call in calls.items() if (error := error_of(call))}

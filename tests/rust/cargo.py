@@ -17,7 +17,7 @@ RUST = TOP / "bindings/rust"
 CRATES, DROP_IN = ("amqp-values-sys", "amqp-values"), RUST / "drop_in"
 TARGET, COPIES = OUT / "target", OUT / "crates"
 NAME, VERSION = "amq-protocol-types", "10.6.3"
-# What names the folder of the archive, if that isn't in the crate.
+# The variable that names the archive's folder, if the archive isn't in the crate.
 NAMED_BY = "AMQP_VALUES_LIB_DIR"
 TRIPLE = "x86_64-unknown-linux-gnu"
 # What cargo calls the two ways to build, and the words that ask for them.
@@ -33,7 +33,7 @@ Done = subprocess.CompletedProcess[str]
 def run(
     words: Sequence[str | Path], cwd: Path | None = None, env: Mapping[str, str] | None = None, seconds: int = 600
 ) -> Done:
-    """Runs a command, which may not take longer."""
+    """Runs a command, and fails if it takes longer."""
     typed = [str(it) for it in words]
     return subprocess.run(typed, cwd=cwd, env=env, capture_output=True, text=True, errors="replace", timeout=seconds)
 

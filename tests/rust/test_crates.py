@@ -23,7 +23,7 @@ pytestmark = pytest.mark.needs("--library", "cargo")
 
 
 def test_archive(archive: Path) -> None:
-    """Without one amqp-values-sys isn't built, unless its folder is named."""
+    """Without an archive amqp-values-sys isn't built, unless a variable names its folder."""
     without = copied(RUST / CRATES[0], COPIES.with_name("without-archive"))
     done = cargo(without, "build")
     assert done.returncode and f"{NAMED_BY} names its folder" in done.stderr, done.stderr

@@ -27,7 +27,7 @@ path = "{HERE}/refused.rs"
 default = []
 verbose-errors = ["original/verbose-errors", "drop-in/verbose-errors"]
 """
-# Changes of the crate's sources that the drop-in doesn't know: the file, what becomes of what, and what is named then.
+# Changes of the crate's sources that the drop-in doesn't know: the file, the old and the new text, and what the error names.
 UNKNOWN = (
     ("Cargo.toml", 'version = "10.6.3"', 'version = "10.7.0"', ""),
     ("src/parsing.rs", "pub fn parse_field_table<", "pub fn parse_table<", "parse_field_table"),
