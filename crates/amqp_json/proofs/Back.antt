@@ -1,5 +1,5 @@
 -- What is written for a value means the value.
-use Rattle.std.proofs.Common.{◌≡◌, ℕ, ℤ, pos, negsuc, zero, suc, ◌+◌, ◌^◌, ◌<◌, ◌≤◌, ◌==◌, nat_lt, length, drop, take, get_or, List, [], ◌∷◌, ◌++◌, Bool, true, false, Option, Some, option_map, option_and_then, refl, ap, ◌∙◌, arith, le-ltb}
+use Rattle.std.proofs.Common.{◌≡◌, ℕ, ℤ, pos, negsuc, zero, suc, ◌+◌, ◌^◌, ◌<◌, ◌≤◌, ◌==◌, nat_lt, length, drop, take, get_or, List, [], ◌∷◌, ◌++◌, Bool, true, false, Option, Some, option_map, refl, ap, ◌∙◌, arith, le-ltb}
 use Rattle.std.specs.Prelude.{if◌then◌else◌, decimal as digits}
 use Rattle.std.specs.Char.{digit_value}
 use Rattle.std.specs.Fmt.{signed_decimal}
@@ -8,78 +8,56 @@ use Rattle.std.specs.Result.{result_ok}
 use Rattle.std.specs.Str.Parse.{AllDigits}
 use Rattle.std.specs.Int.{Width, w8, w16, w32, w64, cast_signed, cast_unsigned, to_be_bytes, from_be_bytes, bytes_high_first, byte_at}
 use Rattle.std.specs.Str.{is_utf8}
-use mir.Val.{bits, hbits, SFits}
+use mir.Val.{bits, hbits}
 use Rattle.std.proofs.Math.Facts.{sfits_to_z}
 use Rattle.std.proofs.lemmas.Fmt.{decimal_is_IsNumeral}
-use Rattle.std.proofs.lemmas.Slice.Eq.{bytes_eq-Decides}
-use Rattle.std.specs.Str.{bytes_eq}
 use Rattle.std.proofs.lemmas.Int.{of_z-to_z}
 use Rattle.std.proofs.lemmas.Nat.{from_be_bytes-to_be_bytes_4, from_be_bytes-to_be_bytes_8}
 use Rattle.hex.specs.Hex.{encode_lower, decode_of, IsBytes}
 use Rattle.hex.proofs.HexLemmas.{decode_of-encode_lower, decode_sized-encode_lower}
 use Rattle.json.specs.Json.{Json, number, string}
-use Rattle.serde_json.specs.Data as dt
-use Rattle.serde_json.specs.Find.{of_integer}
-use Rattle.serde_json.specs.Read.{number_of}
-use Rattle.serde_json.proofs.Numbers.{number_of-decimal, number_of-negative}
 use Rattle.amqp_value_core.specs.declared.types.amqp_type.AMQPType.{AMQPType}
 use Rattle.amqp_value_core.specs.declared.types.amqp_type.AMQPType.TheVariants as amqp
 use Rattle.amqp_value_core.specs.Strings.{IsShort}
 use Rattle.amqp_value_core.specs.Values as values
 use Rattle.amqp_value_core.specs.Values.{Scalar, decimal, void, Tree, scalar, short, long, octets, array, table, Trees, no_trees, tree, Entries, no_entries, entry}
 use Rattle.amqp_value_core.specs.InMemory.{IsNumber, IsScalar}
-use Rattle.amqp_value_core.specs.Json as core
-use Rattle.amqp_value_core.specs.Json.{is_within, signed_within, unsigned_below}
+use Rattle.amqp_value_core.specs.Json.{is_within}
 use Rattle.amqp_value_core.proofs.GrammarLaws.{rising_pairs}
 use Rattle.amqp_value_core.specs.Names.{name_of}
 use Rattle.amqp_json.specs.Names.{type_named}
-use Rattle.amqp_json.specs.Meaning.{is_name, entry_key, is_e, number_in, natural_in, decimal_in, named, with_entry, object_in, table_of, meaning, meanings, pairs_in}
+use Rattle.amqp_json.specs.Meaning.{is_type_key, entry_key, is_e, signed_of, signed_in, unsigned_in, decimal_of, value_as, with_entry, object_of, table_of, meaning, meanings, pairs_of}
+use Rattle.amqp_json.proofs.Integers.{fits_within, signed_read, unsigned_read}
 use Rattle.amqp_json.specs.Written.{under, signed, number_written, long_written, scalar_written, written_key, written, items_written, members_written, HasJson, AllHaveJson, EntriesHaveJson}
 
 -- what is under the name of a type is read as of that type
-under_back : (type : AMQPType) (j : Json) → is_name (36 ∷ name_of type) ≡ true → type_named (name_of type) ≡ Some type → meaning (under type j) ≡ named type j
+under_back : (type : AMQPType) (j : Json) → is_type_key (36 ∷ name_of type) ≡ true → type_named (name_of type) ≡ Some type → meaning (under type j) ≡ value_as type j
 under_back type j name known = rw (name, known) refl
 
 -- ---- integers
 
-below : (limit n : ℕ) → n < limit → unsigned_below limit (dt.number (dt.unsigned n)) ≡ Some n
-below limit n h = let e : nat_lt n limit ≡ true = grind (arith) in rw e refl
+unsigned_back : (limit n : ℕ) → n < limit → limit ≤ 2 ^ 64 → unsigned_in limit (digits n) ≡ Some n
+unsigned_back limit n h few = let low : nat_lt n limit ≡ true = grind (arith) in rw (unsigned_read n (omega (arith, h, few)), low) refl
 
-natural_back : (limit n : ℕ) → n < limit → limit ≤ 2 ^ 64 → natural_in limit (digits n) ≡ Some n
-natural_back limit n h few =
-    let low : nat_lt n limit ≡ true = grind (arith) in
-    let same : bytes_eq (digits n) (digits n) ≡ true = (bytes_eq-Decides (digits n) (digits n)).1 refl in
-    rw (number_of-decimal n (omega (arith, h, few)), same, low) refl
+natural_back : (type : AMQPType) (limit n : ℕ) → n < limit → limit ≤ 2 ^ 64 → option_map (λ m. scalar (values.number type m)) (unsigned_in limit (digits n)) ≡ Some (scalar (values.number type n))
+natural_back type limit n h few = ap (option_map (λ m. scalar (values.number type m))) (unsigned_back limit n h few)
 
-unsigned_back : (type : AMQPType) (n : ℕ) → n < 2 ^ 64 → number_in type (digits n) ≡ core.json (dt.number (dt.unsigned n)) type
-unsigned_back type n h = ap (option_and_then (λ x. core.json (dt.number x) type)) (number_of-decimal n h)
+wider : (half : ℕ) (z : ℤ) → half ≤ 2 ^ 63 → is_within half z ≡ true → is_within (2 ^ 63) z ≡ true
+wider half (pos n) few h = grind (arith)
+wider half (negsuc n) few h = grind (arith)
 
-known : (w : Width) (z : ℤ) → SFits w z → is_within (2 ^ hbits w) z ≡ true
-known w (pos n) h = let low : n < 2 ^ hbits w = h.sfits in grind (arith)
-known w (negsuc n) h = let low : n < 2 ^ hbits w = h.sfits in grind (arith)
-
-text_back : (half : ℕ) (z : ℤ) → half ≤ 2 ^ 63 → is_within half z ≡ true → number_of (signed_decimal z) ≡ Some (of_integer z)
-text_back half (pos n) few h = let low : n < 2 ^ 64 = grind (arith) in number_of-decimal n low
-text_back half (negsuc n) few h = let low : n < 2 ^ 63 = grind (arith) in number_of-negative n low
-
-within_signed : (half : ℕ) (z : ℤ) → half ≤ 2 ^ 63 → is_within half z ≡ true → signed_within half (dt.number (of_integer z)) ≡ Some z
-within_signed half (pos n) h e = let f : nat_lt n (2 ^ 63) ≡ true = grind (arith) in rw (f, e) refl
-within_signed half (negsuc n) h e = rw e refl
-
-signed_back : (type : AMQPType) (w : Width) (n : ℕ) → 2 ^ hbits w ≤ 2 ^ 63 → n < 2 ^ bits w → ((z : ℤ) → is_within (2 ^ hbits w) z ≡ true → core.json (dt.number (of_integer z)) type ≡ Some (scalar (values.number type (cast_unsigned w z))))
-    → number_in type (signed_decimal (cast_signed w n)) ≡ Some (scalar (values.number type n))
-signed_back type w n narrow h read =
+text_back : (w : Width) (n : ℕ) → 2 ^ hbits w ≤ 2 ^ 63 → n < 2 ^ bits w → (signed_of (signed_decimal (cast_signed w n)) ≡ Some (cast_signed w n)) × (is_within (2 ^ hbits w) (cast_signed w n) ≡ true)
+text_back w n few h =
     let z = cast_signed w n in
-    let is = known w z (sfits_to_z (record { fits = h })) in
-    ap (option_and_then (λ x. core.json (dt.number x) type)) (text_back (2 ^ hbits w) z narrow is) ∙ read z is ∙ ap (λ m. Some (scalar (values.number type m))) (of_z-to_z w n h)
+    let is = fits_within w z (sfits_to_z (record { fits = h })) in
+    (signed_read z (wider (2 ^ hbits w) z few is), is)
 
-narrow_read : (type : AMQPType) (w : Width) (z : ℤ) → 2 ^ hbits w ≤ 2 ^ 63 → is_within (2 ^ hbits w) z ≡ true
-    → option_map (λ y. scalar (values.number type (cast_unsigned w y))) (signed_within (2 ^ hbits w) (dt.number (of_integer z))) ≡ Some (scalar (values.number type (cast_unsigned w z)))
-narrow_read type w z few is = ap (option_map (λ y. scalar (values.number type (cast_unsigned w y)))) (within_signed (2 ^ hbits w) z few is)
-
-long_read : (z : ℤ) → is_within (2 ^ 63) z ≡ true → core.json (dt.number (of_integer z)) amqp.LongLongInt ≡ Some (scalar (values.number amqp.LongLongInt (cast_unsigned w64 z)))
-long_read (pos n) e = let f : nat_lt n (2 ^ 63) ≡ true = grind (arith) in rw f refl
-long_read (negsuc n) e = refl
+signed_back : (type : AMQPType) (w : Width) (n : ℕ) → 2 ^ hbits w ≤ 2 ^ 63 → n < 2 ^ bits w
+    → option_map (λ z. scalar (values.number type (cast_unsigned w z))) (signed_in (2 ^ hbits w) (signed_decimal (cast_signed w n))) ≡ Some (scalar (values.number type n))
+signed_back type w n few h =
+    let text = text_back w n few h in
+    let read : signed_in (2 ^ hbits w) (signed_decimal (cast_signed w n)) ≡ Some (cast_signed w n) = rw (text.0, text.1) refl in
+    ap (option_map (λ z. scalar (values.number type (cast_unsigned w z)))) read ∙ ap (λ m. Some (scalar (values.number type m))) (of_z-to_z w n h)
 
 -- ---- hexadecimal digits
 
@@ -118,26 +96,27 @@ after : (ds rest : List ℕ) → drop (length ds + 1) (ds ++ 101 ∷ rest) ≡ r
 after [] rest = refl
 after (c ∷ ds) rest = let next : length (c ∷ ds) + 1 ≡ suc (length ds + 1) = omega arith in ap (λ k. drop k (c ∷ (ds ++ 101 ∷ rest))) next ∙ after ds rest
 
-decimal_back : (scale n : ℕ) → scale < 2 ^ 8 → n < 2 ^ 32 → decimal_in (digits n ++ 101 ∷ 45 ∷ digits scale) ≡ Some (scalar (decimal scale n))
+decimal_back : (scale n : ℕ) → scale < 2 ^ 8 → n < 2 ^ 32 → decimal_of (digits n ++ 101 ∷ 45 ∷ digits scale) ≡ Some (scalar (decimal scale n))
 decimal_back scale n few less =
     let ds = digits n in
     let rest = 45 ∷ digits scale in
     let at = cut ds rest (decimal_is_IsNumeral n (omega (arith, less))).0.1 in
     let first : before_first is_e (ds ++ 101 ∷ rest) ≡ ds = ap (λ k. take k (ds ++ 101 ∷ rest)) at ∙ before ds rest in
     let second : after_first is_e (ds ++ 101 ∷ rest) ≡ rest = ap (λ k. drop (k + 1) (ds ++ 101 ∷ rest)) at ∙ after ds rest in
-    rw (first, second, natural_back (2 ^ 32) n less (omega arith), natural_back (2 ^ 8) scale few (omega arith)) refl
+    rw (first, second, unsigned_back (2 ^ 32) n less (omega arith), unsigned_back (2 ^ 8) scale few (omega arith)) refl
 
 -- ---- values
 
 number_back : (type : AMQPType) (n : ℕ) → IsNumber type n → meaning (number_written type n) ≡ Some (scalar (values.number type n))
-number_back amqp.LongLongInt n h = signed_back amqp.LongLongInt w64 n (omega arith) h long_read
-number_back amqp.ShortShortInt n h = under_back amqp.ShortShortInt (signed w8 n) refl refl ∙ signed_back amqp.ShortShortInt w8 n (omega arith) h (λ z is. narrow_read amqp.ShortShortInt w8 z (omega arith) is)
-number_back amqp.ShortInt n h = under_back amqp.ShortInt (signed w16 n) refl refl ∙ signed_back amqp.ShortInt w16 n (omega arith) h (λ z is. narrow_read amqp.ShortInt w16 z (omega arith) is)
-number_back amqp.LongInt n h = under_back amqp.LongInt (signed w32 n) refl refl ∙ signed_back amqp.LongInt w32 n (omega arith) h (λ z is. narrow_read amqp.LongInt w32 z (omega arith) is)
-number_back amqp.ShortShortUInt n h = under_back amqp.ShortShortUInt (number (digits n)) refl refl ∙ unsigned_back amqp.ShortShortUInt n (omega (arith, h)) ∙ ap (option_map (λ m. scalar (values.number amqp.ShortShortUInt m))) (below (2 ^ 8) n h)
-number_back amqp.ShortUInt n h = under_back amqp.ShortUInt (number (digits n)) refl refl ∙ unsigned_back amqp.ShortUInt n (omega (arith, h)) ∙ ap (option_map (λ m. scalar (values.number amqp.ShortUInt m))) (below (2 ^ 16) n h)
-number_back amqp.LongUInt n h = under_back amqp.LongUInt (number (digits n)) refl refl ∙ unsigned_back amqp.LongUInt n (omega (arith, h)) ∙ ap (option_map (λ m. scalar (values.number amqp.LongUInt m))) (below (2 ^ 32) n h)
-number_back amqp.Timestamp n h = under_back amqp.Timestamp (number (digits n)) refl refl ∙ unsigned_back amqp.Timestamp n h
+number_back amqp.LongLongInt n h =
+    ap (option_map (λ z. scalar (values.number amqp.LongLongInt (cast_unsigned w64 z)))) (text_back w64 n (omega arith) h).0 ∙ ap (λ m. Some (scalar (values.number amqp.LongLongInt m))) (of_z-to_z w64 n h)
+number_back amqp.ShortShortInt n h = under_back amqp.ShortShortInt (signed w8 n) refl refl ∙ signed_back amqp.ShortShortInt w8 n (omega arith) h
+number_back amqp.ShortInt n h = under_back amqp.ShortInt (signed w16 n) refl refl ∙ signed_back amqp.ShortInt w16 n (omega arith) h
+number_back amqp.LongInt n h = under_back amqp.LongInt (signed w32 n) refl refl ∙ signed_back amqp.LongInt w32 n (omega arith) h
+number_back amqp.ShortShortUInt n h = under_back amqp.ShortShortUInt (number (digits n)) refl refl ∙ natural_back amqp.ShortShortUInt (2 ^ 8) n h (omega arith)
+number_back amqp.ShortUInt n h = under_back amqp.ShortUInt (number (digits n)) refl refl ∙ natural_back amqp.ShortUInt (2 ^ 16) n h (omega arith)
+number_back amqp.LongUInt n h = under_back amqp.LongUInt (number (digits n)) refl refl ∙ natural_back amqp.LongUInt (2 ^ 32) n h (omega arith)
+number_back amqp.Timestamp n h = under_back amqp.Timestamp (number (digits n)) refl refl ∙ ap (option_map (λ m. scalar (values.number amqp.Timestamp m))) (unsigned_read n h)
 number_back amqp.Float n h =
     under_back amqp.Float (string (encode_lower (to_be_bytes w32 n))) refl refl ∙ ap (λ r. option_map (λ b. scalar (values.number amqp.Float (from_be_bytes w32 b))) (result_ok r)) (decode_sized-encode_lower (to_be_bytes w32 n) 4 refl (bytes_high 4 n))
     ∙ ap (λ m. Some (scalar (values.number amqp.Float m))) (from_be_bytes-to_be_bytes_4 n h)
@@ -165,7 +144,7 @@ long_back s true e h = rw e refl
 long_back s false e h =
     ap (λ (c : Bool). meaning (if c then string s else under amqp.LongString (string (encode_lower s)))) e ∙ under_back amqp.LongString (string (encode_lower s)) refl refl ∙ digits_back s h long
 
-key_back : (k : List ℕ) (b : Bool) → (get_or k 0 0 == 36) ≡ b → (is_name (written_key k) ≡ false) × (entry_key (written_key k) ≡ k)
+key_back : (k : List ℕ) (b : Bool) → (get_or k 0 0 == 36) ≡ b → (is_type_key (written_key k) ≡ false) × (entry_key (written_key k) ≡ k)
 key_back k true e = rw (e, e) (refl, refl)
 key_back k false e = rw (e, e) (refl, refl)
 
@@ -175,7 +154,7 @@ entry_back k v es h =
     let few : nat_lt 255 (length k) ≡ false = le-ltb _ _ h.few in
     rw (key.0, key.1, few) refl
 
-object_back : (es ps : Entries) (o : Option Entries) → object_in (members_written es) o ≡ option_map table_of o
+object_back : (es ps : Entries) (o : Option Entries) → object_of (members_written es) o ≡ option_map table_of o
 object_back no_entries ps o = refl
 object_back (entry k v no_entries) ps o = let key = key_back k _ refl in rw key.0 refl
 object_back (entry k v (entry j u es)) ps o = refl
@@ -187,12 +166,12 @@ mutual
   read_back (long s) h = long_back s _ refl h
   read_back (octets s) h = under_back amqp.ByteArray (string (encode_lower s)) refl refl ∙ digits_back s h octets
   read_back (array vs) h = ap (option_map array) (items_back vs h)
-  read_back (table es) h = object_back es es (pairs_in (members_written es)) ∙ ap (option_map table_of) (pairs_back es h.1) ∙ ap (λ ps. Some (table ps)) (rising_pairs es h.0)
+  read_back (table es) h = object_back es es (pairs_of (members_written es)) ∙ ap (option_map table_of) (pairs_back es h.1) ∙ ap (λ ps. Some (table ps)) (rising_pairs es h.0)
 
   items_back : (vs : Trees) → AllHaveJson vs → meanings (items_written vs) ≡ Some vs
   items_back no_trees h = refl
   items_back (tree v vs) h = rw (read_back v h.0, items_back vs h.1) refl
 
-  pairs_back : (es : Entries) → EntriesHaveJson es → pairs_in (members_written es) ≡ Some es
+  pairs_back : (es : Entries) → EntriesHaveJson es → pairs_of (members_written es) ≡ Some es
   pairs_back no_entries h = refl
   pairs_back (entry k v es) h = rw (read_back v h.1, pairs_back es h.2) (entry_back k v es h.0)

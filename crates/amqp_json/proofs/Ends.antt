@@ -3,7 +3,6 @@ use Rattle.std.proofs.Common.{◌≡◌, ◌≢◌, ℕ, List, [], ◌∷◌, Op
 use Rattle.json.specs.Token.{Token}
 use Rattle.json.specs.Lex.{tokens}
 use Rattle.json.specs.Json.{Json, value, if_last}
-use Rattle.serde_json.specs.Read.{converted}
 use Rattle.amq_protocol_types.specs.declared.parsing.limits.Limits.{Limits}
 use Rattle.amqp_in_place.specs.Canonicals.{IsReadAsWritten}
 use Rattle.amqp_value_core.specs.Values.{Tree}
@@ -14,7 +13,7 @@ use Rattle.amqp_value_core.specs.Outcomes.{Reading, found, more, unknown, malfor
 use Rattle.amqp_value_core.proofs.GrammarLaws.{one_outcome, one_reading, prefix_within, wire_found, text_is_wire, what_is_read, wire_of}
 use Rattle.amqp_json.specs.Conversions.{IsEncodingOf, IsRefused}
 use Rattle.amqp_json.specs.Meaning.{meaning, meant}
-use Rattle.amqp_json.specs.Puts.{IsEncodedAsItComes, OnRefusal}
+use Rattle.amqp_json.specs.Puts.{IsEncodedAsItComes, OnRefusal, converted}
 use Rattle.amqp_json.specs.declared.error.JsonError.{JsonError}
 use Rattle.amqp_json.specs.declared.error.JsonError.TheVariants.{OutOfMemory, TooLarge, Syntax, NotAValue}
 

@@ -4,6 +4,7 @@ pub mod Loops
 pub mod Refusals
 pub mod Soles
 pub mod Scalars
+pub mod Integers
 pub mod Ends
 pub mod Back
 pub mod ReadBack

@@ -6,15 +6,14 @@ use Rattle.json.specs.Token.{Token}
 use Rattle.json.specs.Json as json
 use Rattle.json.specs.Json.{Parse, parse_map, after_end_array, read_key, items, members}
 use Rattle.json.proofs.Grammar.{read_key-shorter}
-use Rattle.serde_json.specs.Read.{converted}
 use Rattle.amqp_value_core.specs.Values.{Tree, scalar, long, octets, array, Trees, no_trees, tree, Entries, no_entries, entry}
 use Rattle.amqp_value_core.specs.Inserting.{insert_all}
 use Rattle.amqp_value_core.specs.Grammar.{Wire, wire, raw_array, raw_table, raw_long, raw_octets, ArrayBody, no_values, value, TableBody, no_pairs, pair, short_field, long_field}
 use Rattle.amqp_value_core.specs.Strings.{IsShort}
 use Rattle.amqp_value_core.specs.Texts.{text}
 use Rattle.amqp_value_core.proofs.GrammarLaws.{put_mean, text_is_wire}
-use Rattle.amqp_json.specs.Meaning.{entry_key, with_entry, meaning, meanings, pairs_in, table_of}
-use Rattle.amqp_json.specs.Puts.{PutsEncodingOf, PutsValues, PutsPairs, PutsScalar, next_token, pairs_read}
+use Rattle.amqp_json.specs.Meaning.{entry_key, with_entry, meaning, meanings, pairs_of, table_of}
+use Rattle.amqp_json.specs.Puts.{PutsEncodingOf, PutsValues, PutsPairs, PutsScalar, next_token, pairs_read, converted}
 use Rattle.amqp_json.proofs.Turns.{map_twice, map_same, item_read, item_refused, items_over, member_read, member_refused, members_over, key_refused, next_is}
 
 -- ---- an array
@@ -78,7 +77,7 @@ pub record PairsLeft (p : Parse json.Json) (start : List Token) (next : Option (
   pub put : new ≡ old ++ body
   pub ahead : Entries → Entries
   pub rest : (tail : List ℕ) (ps : Entries) → TableBody tail ps → TableBody (body ++ tail) (ahead ps)
-  pub read : pairs_read p start ≡ parse_map ahead (converted pairs_in (members p count (next_token next ∷ now)))
+  pub read : pairs_read p start ≡ parse_map ahead (converted pairs_of (members p count (next_token next ∷ now)))
 
 module _ (p : Parse json.Json) (start : List Token) (old : List ℕ) where
   pub pairs_first : (next : Option (List ℕ)) (now : List Token) → start ≡ next_token next ∷ now → PairsLeft p start next now old old
@@ -89,7 +88,7 @@ module _ (p : Parse json.Json) (start : List Token) (old : List ℕ) where
     put = sym (append-nil old);
     ahead = λ ps. ps;
     rest = λ tail ps all. all;
-    read = map_same _ ∙ ap (λ ts. parse_map (λ ps. ps) (converted pairs_in (members p (length start) ts))) is;
+    read = map_same _ ∙ ap (λ ts. parse_map (λ ps. ps) (converted pairs_of (members p (length start) ts))) is;
   }
 
   pub pairs_next : (k : List ℕ) (next : Option (List ℕ)) (now r s : List Token) (mid keyed new : List ℕ) → PairsLeft p start (Some k) now old mid → IsShort (entry_key k)
@@ -109,7 +108,7 @@ module _ (p : Parse json.Json) (start : List Token) (old : List ℕ) where
             let joined : (l.body ++ more) ++ tail ≡ l.body ++ (short_field (entry_key k) ++ (w ++ tail)) = append_assoc l.body more tail ∙ ap (λ b. l.body ++ b) (append_assoc (short_field (entry_key k)) w tail) in
             subst (λ (b : List ℕ). TableBody b (l.ahead (entry (entry_key k) v ps))) (sym joined) (l.rest (short_field (entry_key k) ++ (w ++ tail)) (entry (entry_key k) v ps) (pair (entry_key k) w tail v ps is_key is all));
         read = l.read ∙ ap (parse_map l.ahead) (member_read p l.count k now r v some (fits v) found) ∙ map_twice l.ahead (entry (entry_key k) v) _
-            ∙ ap (λ ts. parse_map (λ ps. l.ahead (entry (entry_key k) v ps)) (converted pairs_in (members p (l.count - 1) ts))) (next_is r next s after);
+            ∙ ap (λ ts. parse_map (λ ps. l.ahead (entry (entry_key k) v ps)) (converted pairs_of (members p (l.count - 1) ts))) (next_is r next s after);
       }
 
   pub pairs_done : (now : List Token) (new : List ℕ) → PairsLeft p start None now old new → PutsPairs (λ ps. pairs_read p start ≡ Some (ps, now)) old new

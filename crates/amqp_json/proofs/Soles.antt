@@ -8,24 +8,23 @@ use Rattle.json.specs.Reads.{token_of}
 use Rattle.json.specs.declared.token.Token.{Token as KitToken}
 use Rattle.json.specs.declared.token.Token.TheVariants as kit
 use Rattle.json.proofs.Grammar.{value_is, members_end, members_more, members_no_key}
-use Rattle.serde_json.specs.Read.{converted}
 use Rattle.amqp_value_core.specs.declared.types.amqp_type.AMQPType.{AMQPType}
 use Rattle.amqp_value_core.specs.Values.{Tree}
 use Rattle.amqp_json.specs.Names.{type_named}
-use Rattle.amqp_json.specs.Meaning.{is_name, meaning, pairs_in, object_in, named, number_in, string_in}
-use Rattle.amqp_json.specs.Puts.{object_read, IsLeaf, IsNoLeaf}
+use Rattle.amqp_json.specs.Meaning.{is_type_key, meaning, pairs_of, object_of, value_as, number_as, string_as}
+use Rattle.amqp_json.specs.Puts.{object_read, IsLeaf, IsNoLeaf, converted}
 
 abbrev obj : json.Members → Option Tree
-obj ms = object_in ms (pairs_in ms)
+obj ms = object_of ms (pairs_of ms)
 
 -- beside another member it is none of a table
-beside : (k l : List ℕ) (j i : json.Json) (ms : json.Members) → is_name k ≡ true → obj (json.member k j (json.member l i ms)) ≡ None
+beside : (k l : List ℕ) (j i : json.Json) (ms : json.Members) → is_type_key k ≡ true → obj (json.member k j (json.member l i ms)) ≡ None
 beside k l j i ms e = rw e refl
 
-alone : (k : List ℕ) (j : json.Json) (type : Option AMQPType) → is_name k ≡ true → type_named (drop 1 k) ≡ type → obj (json.member k j json.no_members) ≡ option_and_then (λ t. named t j) type
+alone : (k : List ℕ) (j : json.Json) (type : Option AMQPType) → is_type_key k ≡ true → type_named (drop 1 k) ≡ type → obj (json.member k j json.no_members) ≡ option_and_then (λ t. value_as t j) type
 alone k j type e known = rw (e, known) refl
 
-module _ (depth : ℕ) (k : List ℕ) (is : is_name k ≡ true) where
+module _ (depth : ℕ) (k : List ℕ) (is : is_type_key k ≡ true) where
   abbrev p : Parse json.Json
   p = value depth
 
@@ -62,17 +61,17 @@ module _ (depth : ℕ) (k : List ℕ) (is : is_name k ≡ true) where
       let size = suc (length ts) in
       ap (converted obj) (members_more p (suc size) k (key k ∷ t ∷ ts) (t ∷ ts) ts j (omega arith) refl (at depth ts)) ∙ next_member l j (suc size - 1) ts s next
 
-  without : (type : Option AMQPType) (j : json.Json) (o : Option (json.Members × List Token)) → type_named (drop 1 k) ≡ type → option_and_then (λ t. named t j) type ≡ None → converted obj (parse_map (json.member k j) o) ≡ None
+  without : (type : Option AMQPType) (j : json.Json) (o : Option (json.Members × List Token)) → type_named (drop 1 k) ≡ type → option_and_then (λ t. value_as t j) type ≡ None → converted obj (parse_map (json.member k j) o) ≡ None
   without type j None known none = refl
   without type j (Some (json.no_members, r)) known none = ap (option_map (λ v. (v, r))) (alone k j type is known ∙ none)
   without type j (Some (json.member l i ms, r)) known none = ap (option_map (λ v. (v, r))) (beside k l j i ms is)
 
   -- what follows is no value of the type
-  pub no_named : (us : List Token) (type : Option AMQPType) → type_named (drop 1 k) ≡ type → ((j : json.Json) (r : List Token) → p us ≡ Some (j, r) → option_and_then (λ t. named t j) type ≡ None) → object_read p (key k ∷ us) ≡ None
+  pub no_named : (us : List Token) (type : Option AMQPType) → type_named (drop 1 k) ≡ type → ((j : json.Json) (r : List Token) → p us ≡ Some (j, r) → option_and_then (λ t. value_as t j) type ≡ None) → object_read p (key k ∷ us) ≡ None
   unfolding members
   no_named us type known none = by (p us) none
     where
-      by : (o : Option (json.Json × List Token)) → ((j : json.Json) (r : List Token) → o ≡ Some (j, r) → option_and_then (λ t. named t j) type ≡ None)
+      by : (o : Option (json.Json × List Token)) → ((j : json.Json) (r : List Token) → o ≡ Some (j, r) → option_and_then (λ t. value_as t j) type ≡ None)
           → converted obj (option_and_then (λ q. parse_map (json.member k q.0) (members p (length us) q.1)) o) ≡ None
       by None h = refl
       by (Some q) h = without type q.0 (members p (length us) q.1) known (h q.0 q.1 refl)
@@ -83,19 +82,19 @@ abbrev pick : json.Json → Option (json.Json × List Token) → json.Json
 pick d None = d
 pick d (Some a) = a.0
 
-unread : (type : AMQPType) (t : Token) (depth : ℕ) (ts r : List Token) (j : json.Json) → value depth (t ∷ ts) ≡ None → value depth (t ∷ ts) ≡ Some (j, r) → named type j ≡ None
+unread : (type : AMQPType) (t : Token) (depth : ℕ) (ts r : List Token) (j : json.Json) → value depth (t ∷ ts) ≡ None → value depth (t ∷ ts) ≡ Some (j, r) → value_as type j ≡ None
 unread type t depth ts r j none e = absurd (cc (none, e))
 
-mapped : (type : AMQPType) (A : Type 0) (f : A → json.Json) → ((a : A) → named type (f a) ≡ None) → (o : Option (A × List Token)) (j : json.Json) (r : List Token) → parse_map f o ≡ Some (j, r) → named type j ≡ None
+mapped : (type : AMQPType) (A : Type 0) (f : A → json.Json) → ((a : A) → value_as type (f a) ≡ None) → (o : Option (A × List Token)) (j : json.Json) (r : List Token) → parse_map f o ≡ Some (j, r) → value_as type j ≡ None
 mapped type A f none None j r e = absurd (cc)
-mapped type A f none (Some q) j r e = ap (named type) (sym (ap (pick j) e)) ∙ none q.0
+mapped type A f none (Some q) j r e = ap (value_as type) (sym (ap (pick j) e)) ∙ none q.0
 
-opened_array : (type : AMQPType) (depth : ℕ) (ts r : List Token) (j : json.Json) → value depth (spec.begin_array ∷ ts) ≡ Some (j, r) → named type j ≡ None
+opened_array : (type : AMQPType) (depth : ℕ) (ts r : List Token) (j : json.Json) → value depth (spec.begin_array ∷ ts) ≡ Some (j, r) → value_as type j ≡ None
 unfolding value
 opened_array type zero ts r j e = absurd (cc)
 opened_array type (suc d) ts r j e = mapped type json.Items json.array (λ ms. refl) (items (value d) (length ts) ts) j r e
 
-opened_object : (type : AMQPType) (depth : ℕ) (ts r : List Token) (j : json.Json) → value depth (spec.begin_object ∷ ts) ≡ Some (j, r) → named type j ≡ None
+opened_object : (type : AMQPType) (depth : ℕ) (ts r : List Token) (j : json.Json) → value depth (spec.begin_object ∷ ts) ≡ Some (j, r) → value_as type j ≡ None
 unfolding value
 opened_object type zero ts r j e = absurd (cc)
 opened_object type (suc d) ts r j e = mapped type json.Members json.object (λ ms. refl) (members (value d) (length ts) ts) j r e
@@ -103,17 +102,17 @@ opened_object type (suc d) ts r j e = mapped type json.Members json.object (λ m
 is_read : (t u : Token) (depth : ℕ) (ts r : List Token) (j i : json.Json) → t ≡ u → value depth (u ∷ ts) ≡ Some (i, ts) → value depth (t ∷ ts) ≡ Some (j, r) → i ≡ j
 is_read t u depth ts r j i is at e = ap (pick j) (sym (ap (λ k. value depth (k ∷ ts)) is ∙ at) ∙ e)
 
-pub number_leaf : (type : AMQPType) (t : Token) (x : List ℕ) (v : Tree) → t ≡ number x → number_in type x ≡ Some v → IsLeaf type t v
+pub number_leaf : (type : AMQPType) (t : Token) (x : List ℕ) (v : Tree) → t ≡ number x → number_as type x ≡ Some v → IsLeaf type t v
 number_leaf type t x v is h = (json.number x, λ depth ts. ap (λ k. value depth (k ∷ ts)) is ∙ value_is depth (number x ∷ ts), h)
 
-pub number_none : (type : AMQPType) (t : Token) (x : List ℕ) → t ≡ number x → number_in type x ≡ None → IsNoLeaf type t
-number_none type t x is none depth ts r j e = ap (named type) (sym (is_read t (number x) depth ts r j (json.number x) is (value_is depth (number x ∷ ts)) e)) ∙ none
+pub number_none : (type : AMQPType) (t : Token) (x : List ℕ) → t ≡ number x → number_as type x ≡ None → IsNoLeaf type t
+number_none type t x is none depth ts r j e = ap (value_as type) (sym (is_read t (number x) depth ts r j (json.number x) is (value_is depth (number x ∷ ts)) e)) ∙ none
 
-pub string_leaf : (type : AMQPType) (t : Token) (x : List ℕ) (v : Tree) → t ≡ string x → string_in type x ≡ Some v → IsLeaf type t v
+pub string_leaf : (type : AMQPType) (t : Token) (x : List ℕ) (v : Tree) → t ≡ string x → string_as type x ≡ Some v → IsLeaf type t v
 string_leaf type t x v is h = (json.string x, λ depth ts. ap (λ k. value depth (k ∷ ts)) is ∙ value_is depth (string x ∷ ts), h)
 
-pub string_none : (type : AMQPType) (t : Token) (x : List ℕ) → t ≡ string x → string_in type x ≡ None → IsNoLeaf type t
-string_none type t x is none depth ts r j e = ap (named type) (sym (is_read t (string x) depth ts r j (json.string x) is (value_is depth (string x ∷ ts)) e)) ∙ none
+pub string_none : (type : AMQPType) (t : Token) (x : List ℕ) → t ≡ string x → string_as type x ≡ None → IsNoLeaf type t
+string_none type t x is none depth ts r j e = ap (value_as type) (sym (is_read t (string x) depth ts r j (json.string x) is (value_is depth (string x ∷ ts)) e)) ∙ none
 
 pub no_leaf : (type : AMQPType) (t : KitToken) → ((x : Bor (List ℕ)) → t ≡ kit.Number x → ⊥) → ((x : Bor (List ℕ)) → t ≡ kit.String x → ⊥) → IsNoLeaf type (token_of t)
 no_leaf type kit.BeginObject a b depth ts r j e = opened_object type depth ts r j e
@@ -123,8 +122,8 @@ no_leaf type kit.EndArray a b depth ts r j e = unread type spec.end_array depth 
 no_leaf type (kit.Key s) a b depth ts r j e = unread type (spec.key s.now) depth ts r j (value_is depth (spec.key s.now ∷ ts)) e
 no_leaf type (kit.String s) a b depth ts r j e = absurd (b s refl)
 no_leaf type (kit.Number s) a b depth ts r j e = absurd (a s refl)
-no_leaf type (kit.Bool x) a b depth ts r j e = ap (named type) (sym (ap (pick j) (sym (value_is depth (spec.boolean x ∷ ts)) ∙ e)))
-no_leaf type kit.Null a b depth ts r j e = ap (named type) (sym (ap (pick j) (sym (value_is depth (spec.null ∷ ts)) ∙ e)))
+no_leaf type (kit.Bool x) a b depth ts r j e = ap (value_as type) (sym (ap (pick j) (sym (value_is depth (spec.boolean x ∷ ts)) ∙ e)))
+no_leaf type kit.Null a b depth ts r j e = ap (value_as type) (sym (ap (pick j) (sym (value_is depth (spec.null ∷ ts)) ∙ e)))
 no_leaf type kit.Bad a b depth ts r j e = unread type spec.bad depth ts r j (value_is depth (spec.bad ∷ ts)) e
 
 pub no_token : {P : Type 0} (depth : ℕ) (ts r : List Token) (j : json.Json) → ts ≡ [] → value depth ts ≡ Some (j, r) → P

@@ -4,10 +4,9 @@ use Rattle.json.specs.Token.{Token, key}
 use Rattle.json.specs.Json as json
 use Rattle.json.specs.Json.{Parse, parse_map, after_end_array, read_key, items_step, items, members}
 use Rattle.json.proofs.Grammar.{items_end, items_more, members_no_key, members_more, read_key_is}
-use Rattle.serde_json.specs.Read.{converted}
 use Rattle.amqp_value_core.specs.Values.{Tree, array, no_trees, tree, Entries, no_entries, entry}
-use Rattle.amqp_json.specs.Meaning.{is_name, entry_key, with_entry, meaning, meanings, pairs_in, object_in, table_of}
-use Rattle.amqp_json.specs.Puts.{next_token, object_read, pairs_read}
+use Rattle.amqp_json.specs.Meaning.{is_type_key, entry_key, with_entry, meaning, meanings, pairs_of, object_of, table_of}
+use Rattle.amqp_json.specs.Puts.{next_token, object_read, pairs_read, converted}
 
 abbrev pick : {A : Type 0} → A → Option A → A
 pick d None = d
@@ -42,7 +41,7 @@ pub converted-array : (o : Option (json.Items × List Token)) → converted mean
 converted-array None = refl
 converted-array (Some p) = twice array p.1 (meanings p.0)
 
-pub converted-object : (o : Option (json.Members × List Token)) → converted meaning (parse_map json.object o) ≡ converted (λ ms. object_in ms (pairs_in ms)) o
+pub converted-object : (o : Option (json.Members × List Token)) → converted meaning (parse_map json.object o) ≡ converted (λ ms. object_of ms (pairs_of ms)) o
 converted-object None = refl
 converted-object (Some p) = refl
 
@@ -56,13 +55,13 @@ without_item j e (Some p) = rw e refl
 
 -- a key that is no name, and short enough, and its value
 with_member : (k : List ℕ) (j : json.Json) (v : Tree) → ((ps : Option Entries) → with_entry k (Some v) ps ≡ option_map (entry (entry_key k) v) ps) → meaning j ≡ Some v → (o : Option (json.Members × List Token))
-    → converted pairs_in (parse_map (json.member k j) o) ≡ parse_map (entry (entry_key k) v) (converted pairs_in o)
+    → converted pairs_of (parse_map (json.member k j) o) ≡ parse_map (entry (entry_key k) v) (converted pairs_of o)
 with_member k j v put e None = refl
-with_member k j v put e (Some p) = rw e (ap (option_map (λ ps. (ps, p.1))) (put (pairs_in p.0)) ∙ twice (entry (entry_key k) v) p.1 (pairs_in p.0))
+with_member k j v put e (Some p) = rw e (ap (option_map (λ ps. (ps, p.1))) (put (pairs_of p.0)) ∙ twice (entry (entry_key k) v) p.1 (pairs_of p.0))
 
-without_member : (k : List ℕ) (j : json.Json) → ((ps : Option Entries) → with_entry k (meaning j) ps ≡ None) → (o : Option (json.Members × List Token)) → converted pairs_in (parse_map (json.member k j) o) ≡ None
+without_member : (k : List ℕ) (j : json.Json) → ((ps : Option Entries) → with_entry k (meaning j) ps ≡ None) → (o : Option (json.Members × List Token)) → converted pairs_of (parse_map (json.member k j) o) ≡ None
 without_member k j e None = refl
-without_member k j e (Some p) = ap (option_map (λ ps. (ps, p.1))) (e (pairs_in p.0))
+without_member k j e (Some p) = ap (option_map (λ ps. (ps, p.1))) (e (pairs_of p.0))
 
 pub next_is : (ts : List Token) (o : Option (List ℕ)) (r : List Token) → read_key ts ≡ Some (o, r) → ts ≡ next_token o ∷ r
 next_is ts None r e = read_key_is ts None r e
@@ -86,51 +85,51 @@ module _ (p : Parse json.Json) where
   items_over n ts r enough e = ap (converted meanings) (items_end p n ts r enough e)
 
   pub member_read : (n : ℕ) (k : List ℕ) (s r : List Token) (v : Tree) → 0 < n → ((ps : Option Entries) → with_entry k (Some v) ps ≡ option_map (entry (entry_key k) v) ps) → converted meaning (p s) ≡ Some (v, r)
-      → converted pairs_in (members p n (key k ∷ s)) ≡ parse_map (entry (entry_key k) v) (converted pairs_in (members p (n - 1) r))
+      → converted pairs_of (members p n (key k ∷ s)) ≡ parse_map (entry (entry_key k) v) (converted pairs_of (members p (n - 1) r))
   member_read n k s r v some put e =
       let j = converted_some meaning (p s) v r e in
-      ap (converted pairs_in) (members_more p n k (key k ∷ s) s r j.0 some refl j.1) ∙ with_member k j.0 v put j.2 _
+      ap (converted pairs_of) (members_more p n k (key k ∷ s) s r j.0 some refl j.1) ∙ with_member k j.0 v put j.2 _
 
   no_member : (k : List ℕ) (more : Parse json.Members) (o : Option (json.Json × List Token)) → ((j : json.Json) (r : List Token) → o ≡ Some (j, r) → (ps : Option Entries) → with_entry k (meaning j) ps ≡ None)
-      → converted pairs_in (option_and_then (λ q. parse_map (json.member k q.0) (more q.1)) o) ≡ None
+      → converted pairs_of (option_and_then (λ q. parse_map (json.member k q.0) (more q.1)) o) ≡ None
   no_member k more None e = refl
   no_member k more (Some q) e = without_member k q.0 (e q.0 q.1 refl) (more q.1)
 
   -- a key or a value is none of a table
   pub member_refused : (n : ℕ) (k : List ℕ) (s : List Token) → ((j : json.Json) (r : List Token) → p s ≡ Some (j, r) → (ps : Option Entries) → with_entry k (meaning j) ps ≡ None)
-      → converted pairs_in (members p n (key k ∷ s)) ≡ None
+      → converted pairs_of (members p n (key k ∷ s)) ≡ None
   unfolding members
   member_refused zero k s e = refl
   member_refused (suc n) k s e = no_member k (members p n) (p s) e
 
-  pub members_over : (n : ℕ) (r : List Token) → 0 < n → converted pairs_in (members p n (next_token None ∷ r)) ≡ Some (no_entries, r)
+  pub members_over : (n : ℕ) (r : List Token) → 0 < n → converted pairs_of (members p n (next_token None ∷ r)) ≡ Some (no_entries, r)
   unfolding members
   members_over zero r some = let never : ⊥ = omega (arith, some) in absurd never
   members_over (suc n) r some = refl
 
-  pub key_refused : (n : ℕ) (ts : List Token) → read_key ts ≡ None → converted pairs_in (members p n ts) ≡ None
-  key_refused n ts e = ap (converted pairs_in) (members_no_key p n ts e)
+  pub key_refused : (n : ℕ) (ts : List Token) → read_key ts ≡ None → converted pairs_of (members p n ts) ≡ None
+  key_refused n ts e = ap (converted pairs_of) (members_no_key p n ts e)
 
-  pub no_object : (n : ℕ) (ts : List Token) → read_key ts ≡ None → converted (λ ms. object_in ms (pairs_in ms)) (members p n ts) ≡ None
-  no_object n ts e = ap (converted (λ ms. object_in ms (pairs_in ms))) (members_no_key p n ts e)
+  pub no_object : (n : ℕ) (ts : List Token) → read_key ts ≡ None → converted (λ ms. object_of ms (pairs_of ms)) (members p n ts) ≡ None
+  no_object n ts e = ap (converted (λ ms. object_of ms (pairs_of ms))) (members_no_key p n ts e)
 
   -- ---- an object whose first key is no name is a table
 
-  entries_of_object : (k : List ℕ) (j : json.Json) (ms : json.Members) (o : Option Entries) → is_name k ≡ false → object_in (json.member k j ms) o ≡ option_map table_of o
+  entries_of_object : (k : List ℕ) (j : json.Json) (ms : json.Members) (o : Option Entries) → is_type_key k ≡ false → object_of (json.member k j ms) o ≡ option_map table_of o
   entries_of_object k j json.no_members o e = rw e refl
   entries_of_object k j (json.member l i ms) o e = refl
 
-  as_table : (k : List ℕ) (j : json.Json) (o : Option (json.Members × List Token)) → is_name k ≡ false
-      → converted (λ ms. object_in ms (pairs_in ms)) (parse_map (json.member k j) o) ≡ parse_map table_of (converted pairs_in (parse_map (json.member k j) o))
+  as_table : (k : List ℕ) (j : json.Json) (o : Option (json.Members × List Token)) → is_type_key k ≡ false
+      → converted (λ ms. object_of ms (pairs_of ms)) (parse_map (json.member k j) o) ≡ parse_map table_of (converted pairs_of (parse_map (json.member k j) o))
   as_table k j None e = refl
-  as_table k j (Some q) e = ap (option_map (λ v. (v, q.1))) (entries_of_object k j q.0 (pairs_in (json.member k j q.0)) e) ∙ twice table_of q.1 (pairs_in (json.member k j q.0))
+  as_table k j (Some q) e = ap (option_map (λ v. (v, q.1))) (entries_of_object k j q.0 (pairs_of (json.member k j q.0)) e) ∙ twice table_of q.1 (pairs_of (json.member k j q.0))
 
-  as_tables : (k : List ℕ) (more : Parse json.Members) (o : Option (json.Json × List Token)) → is_name k ≡ false
-      → converted (λ ms. object_in ms (pairs_in ms)) (option_and_then (λ q. parse_map (json.member k q.0) (more q.1)) o) ≡ parse_map table_of (converted pairs_in (option_and_then (λ q. parse_map (json.member k q.0) (more q.1)) o))
+  as_tables : (k : List ℕ) (more : Parse json.Members) (o : Option (json.Json × List Token)) → is_type_key k ≡ false
+      → converted (λ ms. object_of ms (pairs_of ms)) (option_and_then (λ q. parse_map (json.member k q.0) (more q.1)) o) ≡ parse_map table_of (converted pairs_of (option_and_then (λ q. parse_map (json.member k q.0) (more q.1)) o))
   as_tables k more None e = refl
   as_tables k more (Some q) e = as_table k q.0 (more q.1) e
 
-  pub table_first : (o : Option (List ℕ)) (r : List Token) → ((k : List ℕ) → o ≡ Some k → is_name k ≡ false) → object_read p (next_token o ∷ r) ≡ parse_map table_of (pairs_read p (next_token o ∷ r))
+  pub table_first : (o : Option (List ℕ)) (r : List Token) → ((k : List ℕ) → o ≡ Some k → is_type_key k ≡ false) → object_read p (next_token o ∷ r) ≡ parse_map table_of (pairs_read p (next_token o ∷ r))
   unfolding members
   table_first None r plain = refl
   table_first (Some k) r plain = as_tables k (members p (length r)) (p r) (plain k refl)

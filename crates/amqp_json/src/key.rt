@@ -1,7 +1,7 @@
 //! Keys of objects.
 
 ghost use Rattle.std.specs.Prelude.{◌≡◌, true, false, drop};
-ghost use Rattle.amqp_json.specs.Meaning.{is_name, entry_key};
+ghost use Rattle.amqp_json.specs.Meaning.{is_type_key, entry_key};
 ghost use Rattle.amqp_json.specs.Puts.{IsKey};
 
 /// What a key of an object says.

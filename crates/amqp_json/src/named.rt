@@ -4,15 +4,14 @@ ghost use Rattle.std.specs.Prelude.{◌≡◌, Some, None, OnOk, IfOk, IfErr, Ma
 ghost use Rattle.std.specs.Result.{result_ok};
 ghost use Rattle.hex.specs.Hex.{decode_of};
 ghost use Rattle.amqp_value_core.specs.Values.{scalar, decimal};
-ghost use Rattle.amqp_json.specs.Meaning.{number_in, string_in, natural_of, decimal_in};
+ghost use Rattle.amqp_json.specs.Meaning.{number_as, string_as, decimal_of};
 ghost use Rattle.amqp_json.specs.Puts.{PutsEncodingOf, OnRefusal};
 
 use crate::error::{JsonError, Mismatch};
-use crate::numerals::number;
+use crate::numerals::unsigned;
 use crate::put::{put, put_counted, put_decimal, put_integer};
 use amqp_value_core::types::{AMQPType, DecimalValue};
 use hex::{FromHex, FromHexError};
-use itoa::Buffer;
 use std::alloc::Global;
 
 /// A number.
@@ -22,14 +21,11 @@ pub(crate) fn put_number(
     text: &str,
     at: usize,
 ) -> Result<(), JsonError>
-    ensures ok { OnOk result (PutsEncodingOf (λ v. number_in amqp_type text.now ≡ Some v)
+    ensures ok { OnOk result (PutsEncodingOf (λ v. number_as amqp_type text.now ≡ Some v)
         out.old.items out.new.items) }
-    ensures refused { IfErr result (λ e. OnRefusal e (number_in amqp_type text.now ≡ None)) }
+    ensures refused { IfErr result (λ e. OnRefusal e (number_as amqp_type text.now ≡ None)) }
 {
-    let Some(n) = number(text) else {
-        return Err(JsonError::NotAValue(at, Mismatch::OutOfRange));
-    };
-    match put_integer(out, amqp_type, n) {
+    match put_integer(out, amqp_type, text) {
         Some(done) => done,
         None => Err(JsonError::NotAValue(at, not_this_number(amqp_type))),
     }
@@ -63,9 +59,9 @@ pub(crate) fn put_string(
     text: &str,
     at: usize,
 ) -> Result<(), JsonError>
-    ensures ok { OnOk result (PutsEncodingOf (λ v. string_in amqp_type text.now ≡ Some v)
+    ensures ok { OnOk result (PutsEncodingOf (λ v. string_as amqp_type text.now ≡ Some v)
         out.old.items out.new.items) }
-    ensures refused { IfErr result (λ e. OnRefusal e (string_in amqp_type text.now ≡ None)) }
+    ensures refused { IfErr result (λ e. OnRefusal e (string_as amqp_type text.now ≡ None)) }
 {
     match amqp_type {
         AMQPType::DecimalValue => match decimal(text) {
@@ -113,24 +109,10 @@ fn digits_error(error: FromHexError, at: usize) -> JsonError {
 
 // A decimal: `314e-2` has the number 314 and the scale 2.
 fn decimal(text: &str) -> Option<DecimalValue>
-    ensures { option_map (λ d. scalar (decimal d.scale d.value)) result ≡ decimal_in text.now }
+    ensures { option_map (λ d. scalar (decimal d.scale d.value)) result ≡ decimal_of text.now }
 {
     let (value, exponent) = text.split_once('e')?;
-    let scale = natural(exponent.strip_prefix('-')?)?;
-    let scale = u8::try_from(scale).ok()?;
-    let value = u32::try_from(natural(value)?).ok()?;
+    let scale = u8::try_from(unsigned(exponent.strip_prefix('-')?)?).ok()?;
+    let value = u32::try_from(unsigned(value)?).ok()?;
     Some(DecimalValue { scale, value })
-}
-
-// A number of digits alone, without a zero before others.
-fn natural(text: &str) -> Option<u64>
-    ensures { result ≡ natural_of text.now }
-{
-    let n = number(text)?.as_u64()?;
-    let mut digits = Buffer::new();
-    if digits.format(n) == text {
-        Some(n)
-    } else {
-        None
-    }
 }

@@ -2,19 +2,16 @@
 
 ghost use Rattle.std.specs.Prelude.{◌≡◌, ◌+◌, ◌-◌, ◌<◌, ◌^◌, ◌∷◌, [], ◌++◌, length, take, drop, false, None, Option, OnOk, IfErr, IfSome, MatchOption};
 ghost use Rattle.std.specs.Int.{w32, to_be_bytes};
-ghost use Rattle.serde_json.specs.Data.{number};
-ghost use Rattle.serde_json.specs.View.{number_view};
 ghost use Rattle.amqp_value_core.specs.Grammar.{short_field, long_field};
 ghost use Rattle.amqp_value_core.specs.Strings.{IsShort};
 ghost use Rattle.amqp_value_core.specs.Values.{Tree, Entries, scalar, decimal as decimal_tree};
-ghost use Rattle.amqp_value_core.specs.Json.{json};
-ghost use Rattle.amqp_json.specs.Meaning.{is_name, entry_key, with_entry};
+ghost use Rattle.amqp_json.specs.Meaning.{is_type_key, entry_key, with_entry, number_as};
 ghost use Rattle.amqp_json.specs.Puts.{OnRefusal, PutsScalar, PutsInteger};
 
 use crate::error::{JsonError, Mismatch};
 use crate::key::{Key, key_of};
+use crate::numerals::{signed, unsigned};
 use amqp_value_core::types::{AMQPType, DecimalValue};
-use serde_json::Number;
 
 /// A type tag, and bytes.
 pub(crate) fn put(out: &mut Vec<u8>, tag: u8, bytes: &[u8]) -> Result<(), JsonError>
@@ -41,7 +38,7 @@ pub(crate) fn put_counted(out: &mut Vec<u8>, tag: u8, bytes: &[u8]) -> Result<()
 /// The key of an entry, after its length.
 pub(crate) fn put_key(out: &mut Vec<u8>, key: &str, at: usize) -> Result<(), JsonError>
     ensures ok { OnOk result ((out.new.items ≡ out.old.items ++ short_field (entry_key key.now))
-        × (is_name key.now ≡ false) × IsShort (entry_key key.now)) }
+        × (is_type_key key.now ≡ false) × IsShort (entry_key key.now)) }
     ensures refused { IfErr result (λ e. OnRefusal e ((v : Option Tree) (ps : Option Entries)
         → with_entry key.now v ps ≡ None)) }
 {
@@ -79,27 +76,38 @@ pub(crate) fn fill_length(out: &mut Vec<u8>, at: usize) -> Result<(), JsonError>
     Ok(())
 }
 
-/// A number, as an integer of the type; `None` if it isn't one.
+/// A number, as a value of the type; `None` if it isn't one.
 pub(crate) fn put_integer(
     out: &mut Vec<u8>,
     amqp_type: AMQPType,
-    n: Number,
+    text: &str,
 ) -> Option<Result<(), JsonError>>
     ensures value { MatchOption result
-        (json (number (number_view n)) amqp_type ≡ None)
-        (λ done. OnOk done (PutsInteger (json (number (number_view n)) amqp_type) out.old.items out.new.items)) }
+        (number_as amqp_type text.now ≡ None)
+        (λ done. OnOk done (PutsInteger (number_as amqp_type text.now) out.old.items out.new.items)) }
     ensures refused { IfSome result (λ done. IfErr done (λ e. OnRefusal e ⊥)) }
 {
     let done = match amqp_type {
-        AMQPType::ShortShortInt => put(out, b'b', &i8::try_from(n.as_i64()?).ok()?.to_be_bytes()),
-        AMQPType::ShortShortUInt => put(out, b'B', &u8::try_from(n.as_u64()?).ok()?.to_be_bytes()),
-        AMQPType::ShortInt => put(out, b's', &i16::try_from(n.as_i64()?).ok()?.to_be_bytes()),
-        AMQPType::ShortUInt => put(out, b'u', &u16::try_from(n.as_u64()?).ok()?.to_be_bytes()),
-        AMQPType::LongInt => put(out, b'I', &i32::try_from(n.as_i64()?).ok()?.to_be_bytes()),
-        AMQPType::LongUInt => put(out, b'i', &u32::try_from(n.as_u64()?).ok()?.to_be_bytes()),
-        AMQPType::LongLongInt => put(out, b'l', &n.as_i64()?.to_be_bytes()),
-        AMQPType::LongLongUInt => put(out, b'l', &n.as_u64()?.to_be_bytes()),
-        AMQPType::Timestamp => put(out, b'T', &n.as_u64()?.to_be_bytes()),
+        AMQPType::ShortShortInt => put(out, b'b', &i8::try_from(signed(text)?).ok()?.to_be_bytes()),
+        AMQPType::ShortShortUInt => put(
+            out,
+            b'B',
+            &u8::try_from(unsigned(text)?).ok()?.to_be_bytes(),
+        ),
+        AMQPType::ShortInt => put(out, b's', &i16::try_from(signed(text)?).ok()?.to_be_bytes()),
+        AMQPType::ShortUInt => put(
+            out,
+            b'u',
+            &u16::try_from(unsigned(text)?).ok()?.to_be_bytes(),
+        ),
+        AMQPType::LongInt => put(out, b'I', &i32::try_from(signed(text)?).ok()?.to_be_bytes()),
+        AMQPType::LongUInt => put(
+            out,
+            b'i',
+            &u32::try_from(unsigned(text)?).ok()?.to_be_bytes(),
+        ),
+        AMQPType::LongLongInt => put(out, b'l', &signed(text)?.to_be_bytes()),
+        AMQPType::Timestamp => put(out, b'T', &unsigned(text)?.to_be_bytes()),
         _ => return None,
     };
     Some(done)

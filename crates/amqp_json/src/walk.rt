@@ -3,10 +3,9 @@
 ghost use Rattle.std.specs.Prelude.{◌≡◌, ◌≢◌, ◌<◌, ◌≤◌, ◌∷◌, [], length, Some, None, option_map, OnOk, IfErr, MatchResult, MatchOption, List, ℕ, drop, true, false};
 ghost use Rattle.json.specs.Reads.{token_of};
 ghost use Rattle.json.specs.Json.{value, items, parse_map, read_key};
-ghost use Rattle.serde_json.specs.Read.{converted};
 ghost use Rattle.amqp_value_core.specs.Values.{Tree, array};
-ghost use Rattle.amqp_json.specs.Meaning.{meaning, meanings, is_name};
-ghost use Rattle.amqp_json.specs.Puts.{OnRefusal, PutsEncodingOf, PutsValues, PutsPairs, IsNamedRead, IsLeaf, IsNoLeaf, object_read, pairs_read, next_token};
+ghost use Rattle.amqp_json.specs.Meaning.{meaning, meanings, is_type_key};
+ghost use Rattle.amqp_json.specs.Puts.{OnRefusal, PutsEncodingOf, PutsValues, PutsPairs, IsNamedRead, IsLeaf, IsNoLeaf, object_read, pairs_read, next_token, converted};
 
 use crate::error::{JsonError, Mismatch};
 use crate::key::{Key, key_of};
@@ -145,8 +144,8 @@ fn put_object(
 // The name of a type that is the first key of an object.
 fn name_in<'a>(first: Option<&'a str>) -> Option<&'a str>
     ensures { MatchOption result
-        ((k : List ℕ) → option_map (λ s. s.now) first.entry ≡ Some k → is_name k ≡ false)
-        (λ name. (k : List ℕ) × (option_map (λ s. s.now) first.entry ≡ Some k) × (is_name k ≡ true) × (name.now ≡ drop 1 k)) }
+        ((k : List ℕ) → option_map (λ s. s.now) first.entry ≡ Some k → is_type_key k ≡ false)
+        (λ name. (k : List ℕ) × (option_map (λ s. s.now) first.entry ≡ Some k) × (is_type_key k ≡ true) × (name.now ≡ drop 1 k)) }
 {
     let key = first?;
     match key_of(key) {

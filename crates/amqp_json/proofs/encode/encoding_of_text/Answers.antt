@@ -1,10 +1,9 @@
 use Rattle.std.proofs.Common.{rules, ◌≢◌, [], Some}
 use Rattle.json.specs.Lex.{tokens}
 use Rattle.json.specs.Json.{value}
-use Rattle.serde_json.specs.Read.{converted}
 use Rattle.amqp_value_core.specs.Values.{Tree}
 use Rattle.amqp_json.specs.Meaning.{meaning}
-use Rattle.amqp_json.specs.Puts.{OnRefusal}
+use Rattle.amqp_json.specs.Puts.{OnRefusal, converted}
 use Rattle.amqp_json.proofs.Ends.{refused}
 use Rattle.amqp_json.proofs.encode.encoding_of_text.Goals as goal
 

@@ -3,13 +3,12 @@ use Rattle.std.proofs.lemmas.Result.{on_ok_weaker}
 use Rattle.json.specs.Token.{Token}
 use Rattle.json.specs.Json.{value, items, members, parse_map, after_end_array, read_key}
 use Rattle.json.proofs.Grammar.{value_is, value-begin_array, value-begin_object, read_key-shorter}
-use Rattle.serde_json.specs.Read.{converted}
 use Rattle.amqp_value_core.specs.declared.types.amqp_type.AMQPType.TheVariants as amqp
 use Rattle.amqp_value_core.specs.Values.{array, scalar, void, boolean}
 use Rattle.amqp_value_core.specs.Grammar.{long_field}
 use Rattle.amqp_value_core.specs.Texts.{text}
-use Rattle.amqp_json.specs.Meaning.{meaning, meanings, number_in, table_of, is_name}
-use Rattle.amqp_json.specs.Puts.{PutsEncodingOf, object_read, pairs_read, next_token}
+use Rattle.amqp_json.specs.Meaning.{meaning, meanings, number_as, table_of, is_type_key}
+use Rattle.amqp_json.specs.Puts.{PutsEncodingOf, object_read, pairs_read, next_token, converted}
 use Rattle.amqp_json.proofs.Keys.{entry_fits, no_entry}
 use Rattle.amqp_json.proofs.Turns.{converted-array, converted-object, next_is, no_object, table_first, none_is}
 use Rattle.amqp_json.proofs.Loops.{PairsLeft, items_first, items_next, items_done, items_none, pairs_first, pairs_next, pairs_done, pair_none, key_none, array_put, table_put, puts_weaker, scalar_put, long_put}
@@ -170,7 +169,7 @@ put_value-returns-in-Number-clause-ok t c =
     let x = c.in-Number.text.now in
     let is : c.args.reader.now ≡ Token.number x ∷ s = search rules in
     let read = ap (λ ts. converted meaning (value d ts)) is ∙ ap (converted meaning) (value_is d (Token.number x ∷ s)) in
-    on_ok_weaker c.put_number.result (puts_weaker (λ v. number_in amqp.LongLongInt x ≡ Some v) (λ v. converted meaning (value d c.args.reader.now) ≡ Some (v, s)) _ _ (λ v h. read ∙ ap (option_map (λ u. (u, s))) h)) c.put_number.ensures.ok
+    on_ok_weaker c.put_number.result (puts_weaker (λ v. number_as amqp.LongLongInt x ≡ Some v) (λ v. converted meaning (value d c.args.reader.now) ≡ Some (v, s)) _ _ (λ v h. read ∙ ap (option_map (λ u. (u, s))) h)) c.put_number.ensures.ok
 
 pub put_value-returns-in-Number-clause-refused : goal.put_value-returns-in-Number-clause-refused
 put_value-returns-in-Number-clause-refused t c =
@@ -179,7 +178,7 @@ put_value-returns-in-Number-clause-refused t c =
     let x = c.in-Number.text.now in
     let is : c.args.reader.now ≡ Token.number x ∷ s = search rules in
     let read = ap (λ ts. converted meaning (value d ts)) is ∙ ap (converted meaning) (value_is d (Token.number x ∷ s)) in
-    refused_on c.put_number.result (number_in amqp.LongLongInt x ≡ None) _ (λ h. read ∙ ap (option_map (λ u. (u, s))) h) c.put_number.ensures.refused
+    refused_on c.put_number.result (number_as amqp.LongLongInt x ≡ None) _ (λ h. read ∙ ap (option_map (λ u. (u, s))) h) c.put_number.ensures.refused
 
 pub put_value-returns-in-String-clause-ok : goal.put_value-returns-in-String-clause-ok
 put_value-returns-in-String-clause-ok t c =
@@ -228,7 +227,7 @@ put_object-returns-in_err-put_pairs-clause-refused t c =
     let p = value c.args.depth in
     let o = option_map (λ (b : Bor (List ℕ)). b.now) c.in_ok-first.first in
     let mid = c.next_key.new.reader in
-    let plain : (k : List ℕ) → o ≡ Some k → is_name k ≡ false = c.in_default.ensures in
+    let plain : (k : List ℕ) → o ≡ Some k → is_type_key k ≡ false = c.in_default.ensures in
     let table = ap (object_read p) (next_is c.args.reader.now o mid c.in_ok-first.ensures.value) ∙ table_first p o mid plain in
     let refused = refusal_on c.in_err-put_pairs.field-0.0 (pairs_read p (next_token o ∷ mid) ≡ None) (object_read p c.args.reader.now ≡ None) (λ none. table ∙ ap (parse_map table_of) none) c.in_err-put_pairs.ensures.refused in
     search (rules, refused)
@@ -239,7 +238,7 @@ put_object-returns-clause-ok t c =
     let o = option_map (λ (b : Bor (List ℕ)). b.now) c.in_ok-first.first in
     let mid = c.next_key.new.reader in
     let r = c.put_pairs.new.reader in
-    let plain : (k : List ℕ) → o ≡ Some k → is_name k ≡ false = c.in_default.ensures in
+    let plain : (k : List ℕ) → o ≡ Some k → is_type_key k ≡ false = c.in_default.ensures in
     let table = ap (object_read p) (next_is c.args.reader.now o mid c.in_ok-first.ensures.value) ∙ table_first p o mid plain in
     let place : c.len-at.result + 1 ≡ length c.args.out.now.items + 1 = grind arith in
     on_ok_weaker c.fill_length.result (λ done. table_put (c.len-at.result + 1) _ _ _ _ place done.0 done.1 (λ ps. pairs_read p (next_token o ∷ mid) ≡ Some (ps, r)) (λ v. object_read p c.args.reader.now ≡ Some (v, r)) (λ ps h. table ∙ ap (parse_map table_of) h)

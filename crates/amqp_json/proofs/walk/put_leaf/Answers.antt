@@ -2,7 +2,7 @@ use Rattle.std.proofs.Common.{arith, ◌≡◌, Some}
 use Rattle.std.proofs.lemmas.Result.{on_ok_weaker}
 use Rattle.json.specs.Token.{number, string}
 use Rattle.json.specs.Reads.{token_of}
-use Rattle.amqp_json.specs.Meaning.{number_in, string_in}
+use Rattle.amqp_json.specs.Meaning.{number_as, string_as}
 use Rattle.amqp_json.specs.Puts.{IsLeaf, IsNoLeaf}
 use Rattle.amqp_json.proofs.Loops.{puts_weaker}
 use Rattle.amqp_json.proofs.Refusals.{refusal_of, refused_on}
@@ -15,7 +15,7 @@ returns-in-Number-clause-ok c =
     let t = token_of c.args.token in
     let x = c.in-Number.text.now in
     let is : t ≡ number x = grind arith in
-    on_ok_weaker c.put_number.result (puts_weaker (λ v. number_in type x ≡ Some v) (IsLeaf type t) _ _ (λ v h. number_leaf type t x v is h)) c.put_number.ensures.ok
+    on_ok_weaker c.put_number.result (puts_weaker (λ v. number_as type x ≡ Some v) (IsLeaf type t) _ _ (λ v h. number_leaf type t x v is h)) c.put_number.ensures.ok
 
 pub returns-in-Number-clause-refused : goal.returns-in-Number-clause-refused
 returns-in-Number-clause-refused c =
@@ -29,7 +29,7 @@ returns-in-String-clause-ok c =
     let t = token_of c.args.token in
     let x = c.in-String.text.now in
     let is : t ≡ string x = grind arith in
-    on_ok_weaker c.put_string.result (puts_weaker (λ v. string_in type x ≡ Some v) (IsLeaf type t) _ _ (λ v h. string_leaf type t x v is h)) c.put_string.ensures.ok
+    on_ok_weaker c.put_string.result (puts_weaker (λ v. string_as type x ≡ Some v) (IsLeaf type t) _ _ (λ v h. string_leaf type t x v is h)) c.put_string.ensures.ok
 
 pub returns-in-String-clause-refused : goal.returns-in-String-clause-refused
 returns-in-String-clause-refused c =
