@@ -4,7 +4,6 @@ The reader and the writer share nothing with the crates.
 """
 
 import json
-import math
 import re
 from collections.abc import Iterable, Iterator
 from contextlib import suppress
@@ -188,8 +187,7 @@ def of_type(name: str, at: int, content: Any) -> Value:
             raise Rejected(at, "OutOfRange" if is_number else "NotANumber")
         return tag, number
     if is_number or not isinstance(content, str):
-        # (a number that no float holds is out of each type's range)
-        raise Rejected(at, "OutOfRange" if is_number and math.isinf(float(content)) else "NotAString")
+        raise Rejected(at, "NotAString")
     if name == "DecimalValue":
         value, _, scale = content.partition("e-")
         number, exponent = integer(value, 4, False), integer(scale, 1, False)
