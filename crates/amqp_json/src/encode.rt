@@ -1,5 +1,7 @@
 //! From a JSON text to the canonical encoding, and to a value.
 
+// The tactics at the functions name the lemmas that clauses are proved by.
+
 ghost use Rattle.std.specs.Prelude.{◌≡◌, Some, IfOk, IfErr, List, ℕ, length};
 ghost use Rattle.amqp_value_core.specs.Grammar.{Wire};
 ghost use Rattle.amqp_value_core.specs.Texts.{text};
@@ -50,6 +52,7 @@ pub fn from_json(alloc: Global, json: &str) -> Result<AMQPValue, JsonError>
 }
 
 // The canonical encoding of the value of an encoding.
+#[tactic(auto, using(crate::proofs::Ends::encoded_again))]
 fn canonical_of(alloc: Global, bytes: Vec<u8>) -> Result<Vec<u8>, JsonError>
     ensures ok { IfOk result (λ out. (v : Tree) → Wire bytes.items v → out.items ≡ text v) }
     ensures encodes { IfOk result (λ out. (v : Tree) → Wire bytes.items v → Wire out.items v) }
@@ -66,6 +69,7 @@ fn canonical_of(alloc: Global, bytes: Vec<u8>) -> Result<Vec<u8>, JsonError>
 }
 
 // The value of an encoding.
+#[tactic(auto, using(crate::proofs::Ends::same_value))]
 fn value_of(alloc: Global, bytes: Vec<u8>) -> Result<AMQPValue, JsonError>
     ensures ok { IfOk result (λ u. (v : Tree) → Wire bytes.items v → v ≡ view u) }
     ensures refused { IfErr result (λ e. (t : List ℕ) → IsRefused e t) }
@@ -78,6 +82,7 @@ fn value_of(alloc: Global, bytes: Vec<u8>) -> Result<AMQPValue, JsonError>
 }
 
 // An encoding, with pairs in the order of the text.
+#[tactic(auto, using(crate::proofs::Ends::refused))]
 fn encoding_of_text(alloc: Global, text: &str) -> Result<Vec<u8>, JsonError>
     ensures ok { IfOk result (λ bytes. IsEncodedAsItComes text.now bytes.items) }
     ensures refused { IfErr result (λ e. IsRefused e text.now) }

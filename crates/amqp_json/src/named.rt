@@ -1,5 +1,7 @@
 //! Numbers and strings, as values of named types.
 
+// The tactic at the function names the lemma that a clause is proved by.
+
 ghost use Rattle.std.specs.Prelude.{◌≡◌, Some, None, OnOk, IfOk, IfErr, MatchOption, option_map};
 ghost use Rattle.std.specs.Result.{result_ok};
 ghost use Rattle.hex.specs.Hex.{decode_of};
@@ -15,6 +17,7 @@ use hex::{FromHex, FromHexError};
 use std::alloc::Global;
 
 /// A number.
+#[tactic(auto, using(crate::proofs::Scalars::number_put))]
 pub(crate) fn put_number(
     out: &mut Vec<u8>,
     amqp_type: AMQPType,

@@ -1,5 +1,7 @@
 //! From the tokens of a text to an encoding: the pairs of a table are in the order of the text.
 
+// The tactic at the function names the lemmas that clauses are proved by.
+
 ghost use Rattle.std.specs.Prelude.{◌≡◌, ◌≢◌, ◌<◌, ◌≤◌, ◌∷◌, [], length, Some, None, option_map, OnOk, IfErr, MatchResult, MatchOption, List, ℕ, drop, true, false};
 ghost use Rattle.json.specs.Reads.{token_of};
 ghost use Rattle.json.specs.Json.{value, items, parse_map, read_key};
@@ -213,6 +215,7 @@ fn put_named(
 }
 
 // A number or a string, as a value of the type.
+#[tactic(auto, using(crate::proofs::Soles::number_none, crate::proofs::Soles::string_none, crate::proofs::Soles::no_leaf))]
 fn put_leaf(
     alloc: Global,
     out: &mut Vec<u8>,

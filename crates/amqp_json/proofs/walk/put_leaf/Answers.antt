@@ -3,10 +3,9 @@ use Rattle.std.proofs.lemmas.Result.{on_ok_weaker}
 use Rattle.json.specs.Token.{number, string}
 use Rattle.json.specs.Reads.{token_of}
 use Rattle.amqp_json.specs.Meaning.{number_as, string_as}
-use Rattle.amqp_json.specs.Puts.{IsLeaf, IsNoLeaf}
+use Rattle.amqp_json.specs.Puts.{IsLeaf}
 use Rattle.amqp_json.proofs.Loops.{puts_weaker}
-use Rattle.amqp_json.proofs.Refusals.{refusal_of, refused_on}
-use Rattle.amqp_json.proofs.Soles.{no_leaf, number_leaf, number_none, string_leaf, string_none}
+use Rattle.amqp_json.proofs.Soles.{number_leaf, string_leaf}
 use Rattle.amqp_json.proofs.walk.put_leaf.Goals as goal
 
 pub returns-in-Number-clause-ok : goal.returns-in-Number-clause-ok
@@ -17,12 +16,6 @@ returns-in-Number-clause-ok c =
     let is : t ≡ number x = grind arith in
     on_ok_weaker c.put_number.result (puts_weaker (λ v. number_as type x ≡ Some v) (IsLeaf type t) _ _ (λ v h. number_leaf type t x v is h)) c.put_number.ensures.ok
 
-pub returns-in-Number-clause-refused : goal.returns-in-Number-clause-refused
-returns-in-Number-clause-refused c =
-    let x = c.in-Number.text.now in
-    let is : token_of c.args.token ≡ number x = grind arith in
-    refused_on c.put_number.result _ (IsNoLeaf c.args.amqp_type (token_of c.args.token)) (number_none c.args.amqp_type (token_of c.args.token) x is) c.put_number.ensures.refused
-
 pub returns-in-String-clause-ok : goal.returns-in-String-clause-ok
 returns-in-String-clause-ok c =
     let type = c.args.amqp_type in
@@ -30,12 +23,3 @@ returns-in-String-clause-ok c =
     let x = c.in-String.text.now in
     let is : t ≡ string x = grind arith in
     on_ok_weaker c.put_string.result (puts_weaker (λ v. string_as type x ≡ Some v) (IsLeaf type t) _ _ (λ v h. string_leaf type t x v is h)) c.put_string.ensures.ok
-
-pub returns-in-String-clause-refused : goal.returns-in-String-clause-refused
-returns-in-String-clause-refused c =
-    let x = c.in-String.text.now in
-    let is : token_of c.args.token ≡ string x = grind arith in
-    refused_on c.put_string.result _ (IsNoLeaf c.args.amqp_type (token_of c.args.token)) (string_none c.args.amqp_type (token_of c.args.token) x is) c.put_string.ensures.refused
-
-pub returns-in_default : goal.returns-in_default
-returns-in_default c = record { ok = tt; refused = refusal_of _ _ (no_leaf c.args.amqp_type c.args.token c.in_default.not-Number c.in_default.not-String) }
