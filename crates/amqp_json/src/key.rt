@@ -13,6 +13,7 @@ pub(crate) enum Key<'a> {
     Name(&'a str),
 }
 
+#[inline(always)]
 pub(crate) fn key_of(key: &str) -> Key<'_>
     ensures { IsKey key.now result }
 {

@@ -144,6 +144,7 @@ fn put_object(
 }
 
 // The name of a type that is the first key of an object.
+#[inline(always)]
 fn name_in<'a>(first: Option<&'a str>) -> Option<&'a str>
     ensures { MatchOption result
         ((k : List ℕ) → option_map (λ s. s.now) first.entry ≡ Some k → is_type_key k ≡ false)
