@@ -281,7 +281,10 @@ def some_value(make: Random, levels: int) -> Value:
     if tag in "Sx":
         return tag, make.choice([make.randbytes(make.randrange(6)), make.choice(WORDS).encode()])
     width = WIDTHS[tag]
-    return tag, make.choice([make.randbytes(width), bytes(width), b"\xff" * width, (b"\x80" + bytes(width))[:width]])
+    # (of any number of digits)
+    number = make.getrandbits(8 * width) >> make.randrange(8 * width + 1)
+    others = [bytes(width), b"\xff" * width, (b"\x80" + bytes(width))[:width]]
+    return tag, make.choice([number.to_bytes(width, "big"), make.randbytes(width), *others])
 
 
 def container(make: Random, tag: str, content: list[Value]) -> Value:

@@ -2,13 +2,14 @@
 
 // The tactics at the functions name the lemmas that clauses are proved by.
 
-ghost use Rattle.std.specs.Prelude.{◌≡◌, Some, IfOk, IfErr, List, ℕ, length};
+ghost use Rattle.std.specs.Prelude.{◌≡◌, ◌≢◌, Some, IfOk, IfErr, List, ℕ, length};
 ghost use Rattle.amqp_value_core.specs.Grammar.{Wire};
-ghost use Rattle.amqp_value_core.specs.Texts.{text};
+ghost use Rattle.amqp_value_core.specs.Texts.{text, Fits};
 ghost use Rattle.amqp_value_core.specs.Values.{Tree};
 ghost use Rattle.amqp_value_core.specs.View.{view};
 ghost use Rattle.amqp_json.specs.Conversions.{IsEncodingOf, IsRefused, IsWithin};
 ghost use Rattle.amqp_json.specs.Meaning.{meant};
+ghost use Rattle.amqp_json.specs.declared.error.JsonError.TheVariants.{TooLarge};
 ghost use Rattle.amqp_json.specs.Puts.{IsEncodedAsItComes};
 
 use crate::error::JsonError;
@@ -56,6 +57,7 @@ pub fn from_json(alloc: Global, json: &str) -> Result<AMQPValue, JsonError>
 fn canonical_of(alloc: Global, bytes: Vec<u8>) -> Result<Vec<u8>, JsonError>
     ensures ok { IfOk result (λ out. (v : Tree) → Wire bytes.items v → out.items ≡ text v) }
     ensures encodes { IfOk result (λ out. (v : Tree) → Wire bytes.items v → Wire out.items v) }
+    ensures size { IfErr result (λ e. e ≡ TooLarge → (v : Tree) → Wire bytes.items v → Fits v → ⊥) }
     ensures refused { IfErr result (λ e. (t : List ℕ) → IsRefused e t) }
     ensures within { IfErr result (λ e. (len : ℕ) → IsWithin e len) }
 {
@@ -73,6 +75,7 @@ fn canonical_of(alloc: Global, bytes: Vec<u8>) -> Result<Vec<u8>, JsonError>
 fn value_of(alloc: Global, bytes: Vec<u8>) -> Result<AMQPValue, JsonError>
     ensures ok { IfOk result (λ u. (v : Tree) → Wire bytes.items v → v ≡ view u) }
     ensures refused { IfErr result (λ e. (t : List ℕ) → IsRefused e t) }
+    ensures size { IfErr result (λ e. e ≢ TooLarge) }
     ensures within { IfErr result (λ e. (len : ℕ) → IsWithin e len) }
 {
     match parse_value(alloc, SliceInput::new(bytes.as_slice())) {

@@ -2,12 +2,13 @@
 
 // The tactic at the function names the lemma that a clause is proved by.
 
-ghost use Rattle.std.specs.Prelude.{◌≡◌, Some, None, OnOk, IfOk, IfErr, MatchOption, option_map};
+ghost use Rattle.std.specs.Prelude.{◌≡◌, ◌≢◌, Some, None, OnOk, IfOk, IfErr, MatchOption, option_map};
 ghost use Rattle.std.specs.Result.{result_ok};
 ghost use Rattle.hex.specs.Hex.{decode_of};
 ghost use Rattle.amqp_value_core.specs.Values.{scalar, decimal};
 ghost use Rattle.amqp_json.specs.Meaning.{number_as, string_as, decimal_of};
 ghost use Rattle.amqp_json.specs.Puts.{PutsEncodingOf, OnRefusal};
+ghost use Rattle.amqp_json.specs.declared.error.JsonError.TheVariants.{TooLarge};
 
 use crate::error::{JsonError, Mismatch};
 use crate::numerals::unsigned;
@@ -27,6 +28,7 @@ pub(crate) fn put_number(
     ensures ok { OnOk result (PutsEncodingOf (λ v. number_as amqp_type text.now ≡ Some v)
         out.old.items out.new.items) }
     ensures refused { IfErr result (λ e. OnRefusal e (number_as amqp_type text.now ≡ None)) }
+    ensures size { IfErr result (λ e. e ≢ TooLarge) }
 {
     match put_integer(out, amqp_type, text) {
         Some(done) => done,

@@ -6,6 +6,7 @@ ghost use Rattle.amqp_value_core.specs.Grammar.{short_field, long_field};
 ghost use Rattle.amqp_value_core.specs.Strings.{IsShort};
 ghost use Rattle.amqp_value_core.specs.Values.{Tree, Entries, scalar, decimal as decimal_tree};
 ghost use Rattle.amqp_json.specs.Meaning.{is_type_key, entry_key, with_entry, number_as};
+ghost use Rattle.amqp_json.specs.declared.error.JsonError.TheVariants.{OutOfMemory};
 ghost use Rattle.amqp_json.specs.Puts.{OnRefusal, PutsScalar, PutsInteger};
 
 use crate::error::{JsonError, Mismatch};
@@ -16,7 +17,7 @@ use amqp_value_core::types::{AMQPType, DecimalValue};
 /// A type tag, and bytes.
 pub(crate) fn put(out: &mut Vec<u8>, tag: u8, bytes: &[u8]) -> Result<(), JsonError>
     ensures ok { OnOk result (out.new.items ≡ out.old.items ++ tag ∷ bytes.now) }
-    ensures refused { IfErr result (λ e. OnRefusal e ⊥) }
+    ensures refused { IfErr result (λ e. e ≡ OutOfMemory) }
 {
     out.extend_from_slice(&[tag])?;
     Ok(out.extend_from_slice(bytes)?)
@@ -54,7 +55,7 @@ pub(crate) fn put_key(out: &mut Vec<u8>, key: &str, at: usize) -> Result<(), Jso
 /// A container's type tag, and four bytes for its length, which `fill_length` fills in.
 pub(crate) fn put_head(out: &mut Vec<u8>, tag: u8) -> Result<(), JsonError>
     ensures ok { OnOk result (out.new.items ≡ out.old.items ++ tag ∷ 0 ∷ 0 ∷ 0 ∷ 0 ∷ []) }
-    ensures refused { IfErr result (λ e. OnRefusal e ⊥) }
+    ensures refused { IfErr result (λ e. e ≡ OutOfMemory) }
 {
     put(out, tag, &[0, 0, 0, 0])
 }
@@ -85,7 +86,7 @@ pub(crate) fn put_integer(
     ensures value { MatchOption result
         (number_as amqp_type text.now ≡ None)
         (λ done. OnOk done (PutsInteger (number_as amqp_type text.now) out.old.items out.new.items)) }
-    ensures refused { IfSome result (λ done. IfErr done (λ e. OnRefusal e ⊥)) }
+    ensures refused { IfSome result (λ done. IfErr done (λ e. e ≡ OutOfMemory)) }
 {
     let done = match amqp_type {
         AMQPType::ShortShortInt => put(out, b'b', &i8::try_from(signed(text)?).ok()?.to_be_bytes()),
@@ -116,7 +117,7 @@ pub(crate) fn put_integer(
 /// A decimal.
 pub(crate) fn put_decimal(out: &mut Vec<u8>, decimal: DecimalValue) -> Result<(), JsonError>
     ensures ok { OnOk result (PutsScalar (scalar (decimal_tree decimal.scale decimal.value)) out.old.items out.new.items) }
-    ensures refused { IfErr result (λ e. OnRefusal e ⊥) }
+    ensures refused { IfErr result (λ e. e ≡ OutOfMemory) }
 {
     let [a, b, c, d] = decimal.value.to_be_bytes();
     put(out, b'D', &[decimal.scale, a, b, c, d])
