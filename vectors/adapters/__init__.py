@@ -1,0 +1,1 @@
+"""Adapters: a function from bytes to a dict for each codec."""

@@ -1,0 +1,39 @@
+"""Codecs by a program that reads a table from standard input, prints it as JSON, and ends with status 1 if it rejects it.
+
+Numbers, null, Booleans and arrays are JSON's own. Else an object's only key says what is under it.
+"""
+
+import json
+import os
+import struct
+import subprocess
+import sys
+from collections.abc import Callable
+from decimal import Decimal
+from typing import Any
+
+KINDS: dict[str, Callable[[Any], Any]] = {
+    "f": lambda it: struct.unpack(">f", bytes.fromhex(it))[0],
+    "d": lambda it: struct.unpack(">d", bytes.fromhex(it))[0],
+    "D": Decimal,
+    "S": bytes.fromhex,
+    "F": lambda it: {bytes.fromhex(key): value for key, value in it},
+}
+sys.setrecursionlimit(100_000)  # (that of the reader of JSON)
+
+
+def typed(found: dict[str, Any]) -> Any:
+    name, content = found.popitem()
+    return KINDS[name](content)
+
+
+def decoder(variable: str) -> Callable[[bytes], Any]:
+    """What reads a table by the program that a variable of the environment names."""
+
+    def decode(data: bytes) -> Any:
+        done = subprocess.run([os.environ[variable]], input=data, capture_output=True)
+        if done.returncode:
+            raise (ValueError if done.returncode == 1 else MemoryError)(f"status {done.returncode}")
+        return json.loads(done.stdout, object_hook=typed)
+
+    return decode
