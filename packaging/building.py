@@ -90,6 +90,8 @@ def build_archive(crates: Crates, name: str, is_built: bool, target: str = X86_6
                 TARGETS[target],
                 "--toolchain",
                 f"{kit()}/toolchain",
+                "--jobs",
+                str(min(4, os.cpu_count() or 1)),
                 "-o",
                 str(path),
             ]
