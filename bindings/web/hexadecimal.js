@@ -4,12 +4,19 @@
 const BETWEEN = /(?:[ \n\t\f\r,:]|#[^\n]*)*/y, BYTES = /(?:0[xX]|\\x)?(?:[\da-fA-F]{2})+/y;
 const BEGUN = /(?:0[xX]|\\x)[\da-fA-F]?|\\|[\da-fA-F]?/y;
 // Offsets of a dump would be taken for bytes.
-const DUMPS = [["00000000: ", "a dump of xxd: `xxd -r FILE | amqp_show` reads it"],
-    ["00000000  ", "a dump of hexdump -C: `cut -c 11-58 FILE | amqp_show --hex` reads it"]];
+const DUMPS = [
+    [/^00000000: [01]{8}[^]/, "a dump of xxd -b, in binary: `xxd FILE` makes one that `xxd -r` reads, "
+        + "and `xxd -p FILE` one that --hex reads"],
+    [/^00000000: /, "a dump of xxd: `xxd -r FILE | amqp_show` reads it"],
+    [/^(?:[^\n]*\n)?\t0x0000: {2}/, "a dump of tcpdump: `grep '^.0x' FILE | cut -c 11-49 | amqp_show --hex` "
+        + "reads its bytes, of which a packet's headers are the first"],
+    [/^0000 {3}/, "a dump of Wireshark: copy the bytes of the table as a hex stream, which --hex reads"],
+    [/^00000000 {2}/, "a dump of hexdump -C: `cut -c 11-58 FILE | amqp_show --hex` reads it"],
+];
 
 // Returns the bytes, or why there are none.
 export function readHexadecimal(text) {
-    const dump = DUMPS.find(([begins]) => text.startsWith(begins)), bytes = new Uint8Array(text.length >> 1);
+    const dump = DUMPS.find(([begins]) => begins.test(text)), bytes = new Uint8Array(text.length >> 1);
     if (dump) {
         return { fault: dump[1] };
     }

@@ -147,7 +147,7 @@ export function outcome({ code, count, shift, failed }) {
 }
 
 // Those that were tried.
-const VERSIONS = "RabbitMQ 3.10.8, 4.0.5 and 4.3.6";
+const VERSIONS = "RabbitMQ 3.10.8 and 4.0.5";
 
 // Whether RabbitMQ closes the connection, and why; nothing of truncated bytes.
 export function rabbitmqText(reading) {

@@ -37,8 +37,8 @@ static const struct {
     {"default", FIND, offsetof(Options, otherwise), NULL, 0, 1},
     {"offset", DECODE, offsetof(Options, offset), NULL, 0, 1},
 };
-/* The defaults of these, of which frame-max is RabbitMQ's. */
-enum { DEFAULT_DEPTH = 64, DEFAULT_FRAME = 131072 };
+/* The defaults of these. */
+enum { DEFAULT_DEPTH = AMQPV_MAX_DEPTH, DEFAULT_FRAME = AMQPV_MAX_BYTES };
 
 static State *state_of(PyObject *module) {
     return PyModule_GetState(module);
@@ -323,7 +323,7 @@ static PyObject *dumps_table(PyObject *module, PyObject *const *arguments, Py_ss
     return dumps_by(module, arguments, count, names, 1);
 }
 
-#define READ_OPTIONS "keys='strict', text='strict', plain=False, equal_keys='last', " OPTIONS_OF_BOTH ", frame=131072"
+#define READ_OPTIONS "keys='strict', text='strict', plain=False, equal_keys='last', " OPTIONS_OF_BOTH ", frame=1048576"
 #define WRITE_OPTIONS "keys='strict', text='strict', naive_datetimes=False, " OPTIONS_OF_BOTH
 #define OPTIONS_OF_BOTH "signed_decimals=False, finite=False, depth=64"
 #define CALL(name, how, doc)                                                                                                     \

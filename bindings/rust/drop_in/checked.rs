@@ -12,7 +12,7 @@ use nom::{
     bytes::streaming::take,
     error::{ErrorKind, ParseError},
 };
-use std::{any::TypeId, io, marker::PhantomData, ptr};
+use std::io;
 
 /// How many bytes the length of an array or a table has, and its type tag.
 const LENGTH: usize = 4;
@@ -83,9 +83,13 @@ pub(crate) fn parse_container<I: ParsableInput, T: Container>(input: I) -> Parse
         return Err(error(Refusal::TooLarge));
     }
     let (rest, _) = take::<_, _, ParserErrors>(length).parse(after)?;
-    let field = input.take(LENGTH + length);
-    let parsed =
-        if is_within { with_bytes(&field, |bytes| parse_within(bytes, limits)) } else { Err(Refusal::TooLarge) };
+    let parsed = if is_within {
+        // (an input says nothing of how its bytes are stored)
+        let bytes: Vec<u8> = input.take(LENGTH + length).iter_elements().collect();
+        parse_within(&bytes, limits)
+    } else {
+        Err(Refusal::TooLarge)
+    };
     match parsed {
         Ok(value) => Ok((rest, value?)),
         Err(refusal) => match T::refused(refusal, limits.refused) {
@@ -108,44 +112,6 @@ fn error(refusal: Refusal) -> ParserError {
         Refusal::TooLarge | Refusal::TooDeep | Refusal::TooManyValues => ErrorKind::TooLarge,
     };
     nom::Err::Error(ParserErrors::from_error_kind((), kind))
-}
-
-/// Calls a function with the bytes of an input, which are copied unless it is a slice.
-fn with_bytes<I: ParsableInput, T>(input: &I, f: impl FnOnce(&[u8]) -> T) -> T {
-    match slice_of(input) {
-        Some(bytes) => f(bytes),
-        None => f(&input.iter_elements().collect::<Vec<u8>>()),
-    }
-}
-
-/// The bytes of an input that is a slice.
-#[allow(unsafe_code)]
-fn slice_of<I>(input: &I) -> Option<&[u8]> {
-    // SAFETY: `I` is `&[u8]` of some lifetime, which `input` can't outlive
-    (id_of::<I>() == TypeId::of::<&[u8]>()).then(|| unsafe { *ptr::from_ref(input).cast() })
-}
-
-/// The id of a type, whatever lifetimes it has: those aren't part of an id.
-#[allow(unsafe_code)]
-fn id_of<T>() -> TypeId {
-    trait Named {
-        fn id(&self) -> TypeId
-        where
-            Self: 'static;
-    }
-
-    impl<T> Named for PhantomData<T> {
-        fn id(&self) -> TypeId
-        where
-            Self: 'static,
-        {
-            TypeId::of::<T>()
-        }
-    }
-
-    let named: &dyn Named = &PhantomData::<T>;
-    // SAFETY: only the lifetime changes, and a `PhantomData` refers to nothing
-    unsafe { std::mem::transmute::<&dyn Named, &'static (dyn Named + 'static)>(named) }.id()
 }
 
 /// The length of a short string, as its one byte holds it.

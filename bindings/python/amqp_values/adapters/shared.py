@@ -9,11 +9,9 @@ from importlib import metadata
 from types import ModuleType
 from typing import Any, Literal, NoReturn
 
-from amqp_values import DEPTH, Error, _native
+from amqp_values import DEPTH, FRAME, Error, _native
 from amqp_values.adapters.self_check import Frame, differences, of, probed
 
-# The largest length of a table: what the client has read is there already.
-FRAME = 2**32 - 1
 EqualKeys = Literal["first", "last", "refuse"]
 
 

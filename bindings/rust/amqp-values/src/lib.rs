@@ -6,11 +6,11 @@
 //! ```
 //! use amqp_values::{read_table, EqualKeys, Error, Limits, PathStep::*, TableBuilder, ValueRef, WriteError};
 //!
-//! /// How often a message was dead-lettered.
-//! fn deaths(headers: &[u8]) -> Result<i64, Error> {
+//! /// The count of the first death, if the headers have one.
+//! fn deaths(headers: &[u8]) -> Result<Option<i64>, Error> {
 //!     let (headers, _) = read_table(headers, Limits::DEFAULT)?;
 //!     let path = [Key("x-death"), Index(0), Key("count")];
-//!     Ok(headers.get_path(&path, EqualKeys::First).and_then(ValueRef::as_int).unwrap_or(0))
+//!     Ok(headers.get_path(&path, EqualKeys::First).and_then(ValueRef::as_int))
 //! }
 //!
 //! fn headers(buffer: &mut [u8]) -> Result<&[u8], WriteError> {
@@ -19,7 +19,7 @@
 //!     headers.finish()
 //! }
 //!
-//! assert_eq!(deaths(headers(&mut [0; 64]).unwrap()), Ok(3));
+//! assert_eq!(deaths(headers(&mut [0; 64]).unwrap()), Ok(Some(3)));
 //! ```
 #![no_std]
 #![deny(unsafe_code)]

@@ -1,6 +1,6 @@
 /// Limits on a value that is read or checked, with all that it contains.
 ///
-/// A thread's stack has to suffice: 24 KiB, and for each level of `depth` 160 bytes on x86-64, 176 on aarch64.
+/// A thread's stack has to suffice: 24 KiB, and for each level of `depth` 240 bytes on x86-64, 256 on aarch64.
 #[derive(Clone, Copy, Debug, PartialEq, Eq)]
 pub struct Limits {
     /// How many bytes it may have, its type tag included.

@@ -35,8 +35,8 @@ impl<'a> TableRef<'a> {
         ValueRef::FieldTable(self).step(PathStep::Key(key), EqualKeys::Last)
     }
 
-    /// Returns the value at a key, of equal keys the first one's: what RabbitMQ 3.10.8, 4.0.5 and 4.3.6 use of arguments.
-    /// Of a message's headers 3.10.8 routes by it; 4.0.5 and 4.3.6 deliver it, and route by the last.
+    /// Returns the value at a key, of equal keys the first one's: what RabbitMQ 3.10.8 and 4.0.5 use of arguments.
+    /// Of a message's headers 3.10.8 routes by it; 4.0.5 delivers it, and routes by the last.
     #[must_use]
     pub fn get_first(self, key: &str) -> Option<ValueRef<'a>> {
         ValueRef::FieldTable(self).step(PathStep::Key(key), EqualKeys::First)

@@ -161,6 +161,34 @@ fn no_nesting_ends_a_thread() {
     worker.unwrap().join().expect("the thread ends well");
 }
 
+/// The number after a text in the documentation of `Limits`.
+#[cfg(target_arch = "x86_64")]
+fn stated(before: &str) -> usize {
+    let text = include_str!("../src/limits.rs").split(before).nth(1).expect(before);
+    text.split(' ').next().unwrap().parse().unwrap()
+}
+
+#[test]
+#[cfg(target_arch = "x86_64")]
+fn the_stack_that_limits_state_suffices() {
+    let (besides, a_level) = (stated("stack has to suffice: "), stated("each level of `depth` "));
+    for depth in [64, Limits::MOST_DEPTH] {
+        let limits = Limits { bytes: u32::MAX, depth, values: u32::MAX };
+        let stack = (besides << 10) + a_level * depth as usize;
+        let worker = std::thread::Builder::new().stack_size(stack).spawn(move || {
+            for levels in [depth as usize, depth as usize + 1] {
+                let (bytes, is_within) = (nested(levels), levels == depth as usize);
+                assert_eq!(read(&bytes, limits).is_ok(), is_within);
+                assert_eq!(read_table(&bytes[1..], limits).is_ok(), is_within);
+                assert_eq!(check(&bytes, limits).is_ok(), is_within);
+                assert_eq!(check_table(&bytes[1..], limits).is_ok(), is_within);
+                assert_eq!(rabbitmq::first_problem(&bytes, limits).is_none(), is_within);
+            }
+        });
+        worker.unwrap().join().expect("the thread ends well");
+    }
+}
+
 #[test]
 fn rabbitmq_has_other_rules() {
     let found = |body: &[u8]| {
@@ -191,6 +219,16 @@ fn warnings_are_of_what_rabbitmq_accepts() {
     assert_eq!((found.repeated_key, found.key_not_utf8, found.empty_key), (Some(13), Some(8), Some(11)));
     assert_eq!((found.too_deep, found.decimal, found.nested_header), (Some(15), Some(22), Some(15)));
     assert!(found.exceeds_frame);
+}
+
+#[test]
+fn test_much_memory() {
+    // keys that descend are kept: these in more than a mebibyte
+    let body: Vec<u8> = (0..40_000).rev().flat_map(|key| format!("\x07{key:07}V").into_bytes()).collect();
+    let bytes = counted(b'F', &body);
+    let none = Ok(rabbitmq::Warnings::default());
+    assert_eq!(rabbitmq::warnings(&bytes, LIMITS, 0, rabbitmq::CLIENT_LEVELS), none);
+    assert_eq!(rabbitmq::warnings_in_table(&bytes[1..], LIMITS, 0, rabbitmq::CLIENT_LEVELS), none);
 }
 
 #[test]
