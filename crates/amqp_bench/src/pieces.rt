@@ -1,6 +1,6 @@
 //! A reader that yields bytes in pieces.
 
-ghost use Rattle.std.specs.Prelude.{◌≡◌, ◌<◌, Some, length};
+ghost use Rattle.std.specs.Prelude.{◌<◌};
 
 use std::io;
 use std::io::Read;
@@ -14,12 +14,8 @@ pub struct Pieces<'a> {
 }
 
 impl<'a> Pieces<'a> {
-    ghost use Rattle.amqp_bench.specs.Pieces.{bytes_left};
-
     /// Yields the bytes, at most `most` in a read, or one if that is 0.
-    pub fn new(bytes: &'a [u8], most: usize) -> Self
-        ensures { bytes_left result ≡ bytes.now }
-    {
+    pub fn new(bytes: &'a [u8], most: usize) -> Self {
         Pieces {
             bytes,
             most: most.max(1),
@@ -27,18 +23,12 @@ impl<'a> Pieces<'a> {
     }
 
     /// The number of bytes that are left.
-    pub fn count(&self) -> usize
-        ensures { result ≡ length (bytes_left self.now) }
-    {
+    pub fn count(&self) -> usize {
         self.bytes.len()
     }
 }
 
 impl Read for Pieces<'_> {
-    ghost use Rattle.amqp_bench.specs.Pieces.{bytes_left};
-
-    ghost remaining = { λ p. Some (bytes_left p) };
-
     fn read(&mut self, buf: &mut [u8]) -> io::Result<usize> {
         let most = buf.len().min(self.most);
         self.bytes.read(&mut buf[..most])

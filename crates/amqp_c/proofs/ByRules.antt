@@ -12,12 +12,10 @@ use Rattle.amqp_value_core.specs.Layouts.{Layout, fixed}
 use Rattle.amqp_value_core.specs.Outcomes.{length_field}
 use Rattle.amqp_value_core.specs.Grammar.{short_field, long_field}
 use Rattle.amq_protocol_types.specs.parsing.Headers.{extent, extent_at, extent_of, raw_extent}
-use Rattle.amqp_in_place.specs.declared.problems.Problem.{Problem}
-use Rattle.amqp_in_place.specs.declared.problems.ProblemKind.TheVariants.{UnknownTag, KeyNotUtf8}
 use Rattle.amqp_in_place.specs.declared.problems.Rules.{Rules}
 use Rattle.amqp_in_place.specs.declared.problems.Rules.TheVariants as by_rules
 use Rattle.amqp_in_place.specs.Problems.{Search, known, allow_key, here, further, in_entries, in_payload, in_value, in_pair, pair_len, inside, value_problem, pair_problem}
-use Rattle.amqp_in_place.proofs.AnyKeys.{no_further, neither}
+use Rattle.amqp_in_place.proofs.AnyKeys.{no_further, neither, payload_there, payload_right, value_there, value_right, pair_there, pair_right}
 use Rattle.amqp_c.specs.ByRules.{IsEncodingBy, AreValuesBy, ArePairsBy, IsBodyBy}
 
 -- ---- searches that find nothing
@@ -80,20 +78,7 @@ extent_more None w b t there =
     let more : byte_len w ≤ length (b ++ t) = omega (arith, long, length-append b t) in
     rw (le-ltb (length b) (byte_len w) long, le-ltb (length (b ++ t)) (byte_len w) more, take-append-le (byte_len w) b t long) refl
 
--- a payload without a problem is all there, and has none in its bytes
-module _ (within : AMQPType → Search) (type : AMQPType) (b : List ℕ) where
-  abbrev pub size : ℕ
-  size = raw_extent type b
-
-  pub payload_there : in_payload within type b ≡ None → (size ≤ length b) × (within type (take size b) ≡ None)
-  payload_there = elim (cases_lt (length b) size) [
-    | inl cut ↦ rw (lt-ltb (length b) size cut) (λ none. absurd cc)
-    | inr there ↦ rw (le-ltb (length b) size there) (λ none. (there, none))
-  ]
-
-  pub payload_right : size ≤ length b → within type (take size b) ≡ None → in_payload within type b ≡ None
-  payload_right there none = rw (le-ltb (length b) size there) none
-
+-- a payload without a problem has none with more bytes after it
 payload_more : (within : AMQPType → Search) (type : AMQPType) (b t : List ℕ) → in_payload within type b ≡ None
     → (in_payload within type (b ++ t) ≡ None) × (raw_extent type (b ++ t) ≡ raw_extent type b) × (raw_extent type b ≤ length b)
 payload_more within type b t none =
@@ -102,24 +87,7 @@ payload_more within type b t none =
     let bytes : take (raw_extent type (b ++ t)) (b ++ t) ≡ take (raw_extent type b) b = ap (λ (n : ℕ). take n (b ++ t)) same ∙ take-append-le (raw_extent type b) b t is.0 in
     (payload_right within type (b ++ t) (omega (arith, same, is.0, length-append b t)) (ap (within type) bytes ∙ is.1), same, is.0)
 
--- the problem in a value, by the type that its type tag denotes
-abbrev pub tag_problem : (AMQPType → Search) → ℕ → List ℕ → Option AMQPType → Option Problem
-tag_problem within c b o = elim o [ None ↦ Some (here (UnknownTag c)) | Some type ↦ in_payload within type b ]
-
--- a value without a problem has a type tag, and a payload without one
-pub value_there : (rules : Rules) (within : AMQPType → Search) (c : ℕ) (b : List ℕ) → in_value rules within (c ∷ b) ≡ None
-    → (type : AMQPType) × (known rules c ≡ Some type) × (in_payload within type b ≡ None)
-value_there rules within c b none = by (known rules c) refl none
-  where
-    by : (o : Option AMQPType) → known rules c ≡ o → tag_problem within c b o ≡ None → (type : AMQPType) × (known rules c ≡ Some type) × (in_payload within type b ≡ None)
-    by None is none = absurd cc
-    by (Some type) is none = (type, is, none)
-
-pub value_right : (rules : Rules) (within : AMQPType → Search) (c : ℕ) (b : List ℕ) (type : AMQPType) → known rules c ≡ Some type → in_payload within type b ≡ None
-    → in_value rules within (c ∷ b) ≡ None
-value_right rules within c b type is none = ap (tag_problem within c b) is ∙ none
-
--- and as many bytes as these have
+-- a value has as many bytes as its payload, and its type tag
 pub value_size : (rules : Rules) (c : ℕ) (b : List ℕ) (type : AMQPType) → known rules c ≡ Some type → extent (c ∷ b) ≡ suc (raw_extent type b)
 value_size rules c b type is = ap (λ (o : Option AMQPType). extent_at o b) (known_kind rules c type is)
 
@@ -142,22 +110,6 @@ pub one_value : (rules : Rules) (depth : ℕ) (w : List ℕ) → IsEncodingBy ru
 one_value rules depth w is = one_entry (value_problem rules depth) extent w is.right is.whole
 
 -- ---- pairs
-
-pub pair_there : (rules : Rules) (value : Search) (k : ℕ) (s : List ℕ) → in_pair rules value (k ∷ s) ≡ None
-    → (k ≤ length s) × (allow_key rules (take k s) ≡ true) × (value (drop k s) ≡ None)
-pair_there rules value k s = elim (cases_lt (length s) k) [
-  | inl cut ↦ rw (lt-ltb (length s) k cut) (λ none. absurd cc)
-  | inr there ↦ rw (le-ltb (length s) k there) (by (allow_key rules (take k s)) refl there)
-]
-  where
-    by : (yes : Bool) → allow_key rules (take k s) ≡ yes → k ≤ length s → (if yes then option_map (further (1 + k)) (value (drop k s)) else Some (here KeyNotUtf8)) ≡ None
-        → (k ≤ length s) × (allow_key rules (take k s) ≡ true) × (value (drop k s) ≡ None)
-    by true allowed there none = (there, allowed, no_further (1 + k) (value (drop k s)) none)
-    by false allowed there none = absurd cc
-
-pub pair_right : (rules : Rules) (value : Search) (k : ℕ) (s : List ℕ) → k ≤ length s → allow_key rules (take k s) ≡ true → value (drop k s) ≡ None
-    → in_pair rules value (k ∷ s) ≡ None
-pair_right rules value k s there allowed none = rw (le-ltb (length s) k there, allowed, none) refl
 
 pair_local : (rules : Rules) (value : Search) → IsLocal value extent → IsLocal (in_pair rules value) pair_len
 pair_local rules value local [] t none = absurd cc

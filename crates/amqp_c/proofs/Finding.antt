@@ -11,6 +11,7 @@ use Rattle.amqp_value_core.proofs.GrammarLaws.{length-wire, one_key as key_and_r
 use Rattle.amq_protocol_types.specs.parsing.Headers.{extent}
 use Rattle.amq_protocol_types.proofs.ParsingLaws.{wire_extent}
 use Rattle.amqp_in_place.specs.Bodies.{HasEntries}
+use Rattle.amqp_in_place.proofs.Lookups.{or_assoc, or_none}
 use Rattle.amqp_c.specs.declared.cursor.Cursor.{Cursor}
 use Rattle.amqp_c.specs.declared.entry.Entry.{Entry}
 use Rattle.amqp_c.specs.declared.fault.Fault.{Fault}
@@ -20,15 +21,6 @@ use Rattle.amqp_c.specs.Entries.{IsTrueTo, EntryIsIn}
 use Rattle.amqp_c.specs.Steps.{IsHeaded, ArePairEncodings, no_pairs as none_left, pair as one_left, last_of, IsRestOf, HasNoKey, StandsKeyed, EndsIn, IsOfTable, RefusedBy, GivesFound, GivesLast, IsFoundIn, LooksUp}
 use Rattle.amqp_c.proofs.Parts.{part_after, part_length}
 use Rattle.amqp_c.proofs.Stepping.{one_key}
-
--- what was found first of three
-or_or : (a b c : Option (List ℕ)) → option_or (option_or a b) c ≡ option_or a (option_or b c)
-or_or None b c = refl
-or_or (Some w) b c = refl
-
-or_none : (o : Option (List ℕ)) → o ≡ option_or o None
-or_none None = refl
-or_none (Some w) = refl
 
 -- ---- pairs by their lengths
 
@@ -128,7 +120,7 @@ IsFoundSoFar key all left at =
     → (qs : List (List ℕ × List ℕ)) × (seen : Option (List ℕ)) × ArePairEncodings left qs × IsSeenSoFar key all seen at × (last_of key ps ≡ option_or (last_of key qs) seen)
 
 pub looks_start : (key all : List ℕ) → IsFoundSoFar key all all None
-looks_start key all = λ ps p. (ps, None, p, tt, or_none (last_of key ps))
+looks_start key all = λ ps p. (ps, None, p, tt, sym (or_none (last_of key ps)))
 
 -- one pair more
 module _ (key all left name value : List ℕ) (e : left ≡ short_field name ++ value) where
@@ -144,7 +136,7 @@ module _ (key all left name value : List ℕ) (e : left ≡ short_field name ++ 
         now,
         subst (λ (t : List ℕ). ArePairEncodings t x.others) (sym rest_after) x.left,
         subst (IsSeenSoFar key all now) (sym same) (pick (same_bytes key name) seen refl x.whole stands),
-        last ∙ (ap (λ (o : List (List ℕ × List ℕ)). option_or (last_of key o) seen) x.are ∙ or_or (last_of key x.others) (cond (same_bytes key name) (Some w) None) seen),
+        last ∙ (ap (λ (o : List (List ℕ × List ℕ)). option_or (last_of key o) seen) x.are ∙ or_assoc (last_of key x.others) (cond (same_bytes key name) (Some w) None) seen),
       )
     where
       pick : (c : Bool) (seen : Option (List ℕ)) → same_bytes key name ≡ c → IsHeaded value → IsSeenSoFar key all seen old

@@ -5,6 +5,7 @@ use Rattle.std.specs.Result.{IfErr}
 use Rattle.amqp_value_core.specs.Values.{Trees}
 use Rattle.amqp_value_core.specs.Grammar.{ArrayBody, no_values, value}
 use Rattle.amq_protocol_types.specs.parsing.Headers.{extent}
+use Rattle.amqp_in_place.specs.Walks.{tree_at}
 use Rattle.amqp_c.specs.declared.cursor.Cursor.{Cursor}
 use Rattle.amqp_c.specs.declared.entry.Entry.{Entry}
 use Rattle.amqp_c.specs.declared.fault.Fault.{Fault}
@@ -12,7 +13,7 @@ use Rattle.amqp_c.specs.declared.span.Span.{Span}
 use Rattle.amqp_c.specs.Spans.{part, SpanIsIn}
 use Rattle.amqp_c.specs.Entries.{IsTrueTo, EntryIsIn}
 use Rattle.amqp_c.specs.Steps.{IsHeaded, IsRestOf, StandsAlone, EndsIn, RefusedBy, GivesLast}
-use Rattle.amqp_c.specs.NthValues.{IsOfArray, HasNth, too_few, here, later, nth, IsNthIn, LooksUpNth}
+use Rattle.amqp_c.specs.NthValues.{IsOfArray, HasNth, too_few, here, later, IsNthIn, LooksUpNth}
 use Rattle.amqp_c.proofs.Parts.{part_length}
 use Rattle.amqp_c.proofs.Finding.{IsFoundValue, headed, found_by}
 
@@ -70,7 +71,7 @@ alone_headed s p e in_s inside (none, at, size) ends =
 
 -- ---- values that are encoded
 
-nth_laid : (n : ℕ) (t : List ℕ) (vs : Trees) → ArrayBody t vs → (w : Option (List ℕ)) × HasNth n t w × IsFoundValue w (nth n vs)
+nth_laid : (n : ℕ) (t : List ℕ) (vs : Trees) → ArrayBody t vs → (w : Option (List ℕ)) × HasNth n t w × IsFoundValue w (tree_at n vs)
 nth_laid n _ _ no_values = (None, too_few n, tt)
 nth_laid zero _ _ (value w rest v vs q all) =
     let x = headed w rest v q in
@@ -92,7 +93,7 @@ pub looked_up_nth : (s : List ℕ) (c : Cursor) (index : ℕ) (r : Result (Optio
 looked_up_nth s c index r at entry valid refused = record {
   found = λ vs array are.
       let (w, is, of) = nth_laid index (part s c.left) vs are in
-      found_by s w (nth index vs) r (at w is) of (nth_true s c r entry);
+      found_by s w (tree_at index vs) r (at w is) of (nth_true s c r entry);
   at = λ w array is. at w is;
   entry = entry;
   valid = valid;

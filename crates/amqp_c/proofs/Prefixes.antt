@@ -1,22 +1,20 @@
 -- The entry of the value at the start.
-use Rattle.std.proofs.Common.{◌≡◌, ◌+◌, ◌-◌, ◌<◌, ◌≤◌, ℕ, suc, nat_lt, if◌then◌else◌, Bool, true, false, Option, Some, None, List, [], ◌∷◌, ◌++◌, length, take, drop, refl, sym, ap, ◌∙◌, subst, arith, length-append}
-use Rattle.std.specs.Int.{w32}
+use Rattle.std.proofs.Common.{◌≡◌, ◌+◌, ◌-◌, ◌<◌, ◌≤◌, ◌^◌, ℕ, suc, nat_lt, if◌then◌else◌, Bool, true, false, Option, Some, None, List, [], ◌∷◌, ◌++◌, length, take, drop, refl, sym, ap, ap₂, ◌∙◌, subst, arith, length-append}
+use Rattle.std.specs.Int.{Width, w32}
 use borrow.Author.Tests.{ltb-true}
 use Rattle.std.proofs.lemmas.List.{take_at, length-take-le, take-append-drop}
 use Rattle.amqp_value_core.specs.declared.types.amqp_type.AMQPType.{AMQPType}
 use Rattle.amqp_value_core.specs.declared.types.amqp_type.AMQPType.TheVariants as amqp
 use Rattle.amqp_value_core.specs.Ids.{id_of}
 use Rattle.amqp_value_core.specs.Names.{read_as}
-use Rattle.amqp_value_core.specs.Values.{Tree, scalar, short, long, octets, array, table, no_entries, scalar_type, Scalar, type_of}
-use Rattle.amqp_value_core.specs.Inserting.{insert_all}
+use Rattle.amqp_value_core.specs.Values.{Tree, scalar, short, long, octets, array, table, scalar_type, Scalar, type_of}
 use Rattle.amqp_value_core.specs.Layouts.{Layout, fixed}
-use Rattle.amqp_value_core.specs.Grammar.{long_field, Wire, wire, Raw, raw_fixed, raw_short, raw_long, raw_octets, raw_array, raw_table, ArrayBody}
-use Rattle.amqp_value_core.specs.Outcomes.{Reading, found, more, unknown, malformed, lack, lack_of, frame_lack, fields_lack, length_field, no_byte, no_tag, needs_more, Outcome}
+use Rattle.amqp_value_core.specs.Grammar.{long_field, Wire, Raw, raw_fixed, raw_short, raw_long, raw_octets, raw_array, raw_table, ArrayBody, TableBody}
+use Rattle.amqp_value_core.specs.Outcomes.{Reading, found, more, unknown, malformed, lack_of, fields_lack, length_field, no_byte, no_tag, needs_more, Outcome}
 use Rattle.amqp_value_core.specs.Payloads.{RawOutcome}
-use Rattle.amqp_value_core.proofs.GrammarLaws.{found_prefix, length-wire, one_outcome, one_raw_reading, raw_to_value, value_to_raw, array_body, table_body, put_mean}
+use Rattle.amqp_value_core.proofs.GrammarLaws.{one_large, found_prefix, length-wire, one_outcome, raw_to_value, value_to_raw}
 use Rattle.amq_protocol_types.specs.declared.parsing.errors.Err.TheVariants.{Incomplete, Error, Failure}
 use Rattle.amq_protocol_types.specs.declared.parsing.errors.Needed.TheVariants.{Unknown, Size}
-use Rattle.amq_protocol_types.specs.declared.parsing.errors.ErrorKind.TheVariants as kind
 use Rattle.amq_protocol_types.specs.parsing.Refusals.{Refusal}
 use Rattle.amq_protocol_types.specs.parsing.PayloadResults.{IsType, IsNoType, OnlyLacks}
 use Rattle.amq_protocol_types.specs.parsing.Bodies.{IsLengthPrefixed, IsCutLengthPrefixed}
@@ -24,6 +22,9 @@ use Rattle.amq_protocol_types.specs.parsing.ParseResults.{IsRefusal}
 use Rattle.amq_protocol_types.specs.parsing.Headers.{extent_of, extent_at, extent, wanted}
 use Rattle.amq_protocol_types.proofs.ParsingLaws.{wire_extent, wanted_more, wanted_within, no_type_by}
 use Rattle.amqp_in_place.specs.Bodies.{HasEntries}
+use Rattle.amqp_in_place.proofs.Refusals.{by_outcome}
+use Rattle.amqp_in_place.proofs.HeadLemmas.{no_type_whole}
+use Rattle.amqp_in_place.proofs.Skipping.{frame_extent as framed_extent}
 use Rattle.amqp_c.specs.declared.entry.Entry.{Entry}
 use Rattle.amqp_c.specs.declared.fault.Fault.{Fault}
 use Rattle.amqp_c.specs.declared.fault.Fault.TheVariants.{More, UnknownTag}
@@ -78,60 +79,37 @@ cut_header (c ∷ b) _ x h = x
 
 -- ---- strings, byte arrays and containers
 
-has_frame : (type : AMQPType) (mid : List ℕ) → has_content type ≡ true → lack type mid ≡ frame_lack w32 mid
-has_frame amqp.LongString mid h = refl
-has_frame amqp.ByteArray mid h = refl
-has_frame amqp.FieldArray mid h = refl
-has_frame amqp.FieldTable mid h = refl
-has_frame _ mid h = absurd cc
+-- their length is in four bytes
+counted_in_four : (type : AMQPType) → has_content type ≡ true → (fixed type ≡ None) × (length_field type ≡ w32)
+counted_in_four amqp.LongString h = (refl, refl)
+counted_in_four amqp.ByteArray h = (refl, refl)
+counted_in_four amqp.FieldArray h = (refl, refl)
+counted_in_four amqp.FieldTable h = (refl, refl)
+counted_in_four _ h = absurd cc
 
 -- if the field isn't complete more bytes are needed
 cut : (s mid : List ℕ) (type : AMQPType) → IsType s type mid → has_content type ≡ true → (o : Reading) → IsCutLengthPrefixed mid o → Outcome s o
 cut s mid type p h o x =
-    let needed : RawOutcome type mid o = subst (RawOutcome type mid) (sym x.1) (x.0, has_frame type mid h) in
+    let four = counted_in_four type h in
+    let needed : RawOutcome type mid o = subst (RawOutcome type mid) (sym x.1) (x.0, ap₂ (λ (o : Option Layout) (w : Width). lack_of o w mid) four.0 four.1) in
     subst (λ (t : List ℕ). Outcome t o) (sym p.1) (raw_to_value p.0 type mid o p.2 needed)
 
--- what reads no type isn't malformed, and its error is one of the header
-no_type_whole : (s : List ℕ) → IsNoType s malformed → ⊥
-no_type_whole [] is = cc
-no_type_whole (c ∷ b) is = let e : malformed ≡ unknown = is.0 in cc
-
+-- an error of reading a type is one of the header
 pub no_type_fault : (s : List ℕ) (e : Refusal) → IsRefusal (IsNoType s) ⊥ e → HeaderFaults (Outcome s) (header_fault e)
-no_type_fault s (Incomplete Unknown) x = absurd x
-no_type_fault s (Incomplete (Size n)) x = no_type_by Wire s (more n) x
-no_type_fault s (Error kind.MapOpt) x = no_type_by Wire s unknown x
-no_type_fault s (Error kind.Eof) x = absurd (no_type_whole s x)
-no_type_fault s (Error kind.MapRes) x = absurd x
-no_type_fault s (Error kind.OutOfMemory) x = absurd x
-no_type_fault s (Error kind.TooLarge) x = absurd x
-no_type_fault s (Failure k) x = absurd x.1
+no_type_fault s e x =
+    by_outcome (λ (e : Refusal). HeaderFaults (Outcome s) (header_fault e)) (IsNoType s) ⊥ (λ n y. no_type_by Wire s (more n) y) (λ y. no_type_by Wire s unknown y)
+    (λ y. absurd (no_type_whole s y)) (λ k h. absurd h) e x
 
 pub cut_fault : (s mid : List ℕ) (type : AMQPType) → IsType s type mid → has_content type ≡ true → (e : Refusal) → IsRefusal (IsCutLengthPrefixed mid) ⊥ e → HeaderFaults (Outcome s) (header_fault e)
-cut_fault s mid type p h (Incomplete Unknown) x = absurd x
-cut_fault s mid type p h (Incomplete (Size n)) x = cut s mid type p h (more n) x
-cut_fault s mid type p h (Error kind.MapOpt) x = let e = x.1 in absurd cc
-cut_fault s mid type p h (Error kind.Eof) x = let e = x.1 in absurd cc
-cut_fault s mid type p h (Error kind.MapRes) x = absurd x
-cut_fault s mid type p h (Error kind.OutOfMemory) x = absurd x
-cut_fault s mid type p h (Error kind.TooLarge) x = absurd x
-cut_fault s mid type p h (Failure k) x = absurd x.1
+cut_fault s mid type p h e x =
+    by_outcome (λ (e : Refusal). HeaderFaults (Outcome s) (header_fault e)) (IsCutLengthPrefixed mid) ⊥ (λ n y. cut s mid type p h (more n) y)
+    (λ y. let e = y.1 in absurd cc) (λ y. let e = y.1 in absurd cc) (λ k h. absurd h) e x
 
 -- a field that is read has the extent of a long string with the same bytes
 pub frame_extent : (s mid body rest : List ℕ) (type : AMQPType) → IsType s type mid → IsLengthPrefixed mid body rest → has_content type ≡ true → extent s + length rest ≡ length s
 frame_extent s mid body rest type p f h =
-    let string = wire_extent (83 ∷ long_field body) rest (long body) (wire 83 amqp.LongString (long_field body) (long body) refl (raw_long body f.fits)) in
-    let here : extent s ≡ extent_at (Some type) mid = ap extent p.1 ∙ ap (λ (o : Option AMQPType). extent_at o mid) p.2 in
-    let kept : extent_at (Some type) mid ≡ suc (extent_of None w32 mid) = by type h in
-    let there : extent_of None w32 mid ≡ extent_of None w32 (long_field body ++ rest) = ap (extent_of None w32) f.framed in
-    let whole : suc (extent_of None w32 (long_field body ++ rest)) ≡ suc (length (long_field body)) = string in
-    omega (arith, here, kept, there, whole, ap length p.1, ap length f.framed, length-append (long_field body) rest)
-  where
-    by : (type : AMQPType) → has_content type ≡ true → extent_at (Some type) mid ≡ suc (extent_of None w32 mid)
-    by amqp.LongString h = refl
-    by amqp.ByteArray h = refl
-    by amqp.FieldArray h = refl
-    by amqp.FieldTable h = refl
-    by _ h = absurd cc
+    let four = counted_in_four type h in
+    framed_extent s mid body rest type p f (ap₂ (λ (o : Option Layout) (w : Width). suc (extent_of o w mid)) four.0 four.1)
 
 -- the bytes after the length are what v is
 abbrev pub ContentIs : List ℕ → Tree → Type 0
@@ -141,25 +119,22 @@ ContentIs body (array vs) = ArrayBody body vs
 ContentIs body (table es) = HasEntries body es
 ContentIs body _ = ⊥
 
+content_in : (type : AMQPType) (b : List ℕ) (v : Tree) → Raw type b v → has_content type ≡ true → (body rest left : List ℕ) → length body < 2 ^ 32 → b ++ left ≡ long_field body ++ rest
+    → ContentIs body v × (type_of v ≡ type) × (left ≡ rest)
+content_in _ _ _ (raw_fixed type f b row len) h body rest left few e = absurd (let none = sym (counted_in_four type h).0 ∙ row in cc)
+content_in _ _ _ (raw_short k is) h body rest left few e = absurd cc
+content_in _ _ _ (raw_long k fits) h body rest left few e = let same = one_large k body left rest fits few e in (same.0, refl, same.1)
+content_in _ _ _ (raw_octets k fits) h body rest left few e = let same = one_large k body left rest fits few e in (same.0, refl, same.1)
+content_in _ _ _ (raw_array k vs fits all) h body rest left few e =
+    let same = one_large k body left rest fits few e in
+    (subst (λ (t : List ℕ). ArrayBody t vs) same.0 all, refl, same.1)
+content_in _ _ _ (raw_table k ps es fits all mean) h body rest left few e =
+    let same = one_large k body left rest fits few e in
+    ((ps, subst (λ (t : List ℕ). TableBody t ps) same.0 all, mean), refl, same.1)
+
 pub content_at_start : (type : AMQPType) (mid body rest : List ℕ) → IsLengthPrefixed mid body rest → has_content type ≡ true → (v : Tree) (left : List ℕ) → RawOutcome type mid (found v left)
     → ContentIs body v × (type_of v ≡ type) × (left ≡ rest)
-content_at_start amqp.LongString mid body rest f h v left raw =
-    let same = one_raw_reading amqp.LongString raw.0 (long_field body) left rest v (long body) raw.1 (raw_long body f.fits) (sym raw.2 ∙ f.framed) in
-    (subst (ContentIs body) (sym same.1) refl, ap type_of same.1, same.2)
-content_at_start amqp.ByteArray mid body rest f h v left raw =
-    let same = one_raw_reading amqp.ByteArray raw.0 (long_field body) left rest v (octets body) raw.1 (raw_octets body f.fits) (sym raw.2 ∙ f.framed) in
-    (subst (ContentIs body) (sym same.1) refl, ap type_of same.1, same.2)
-content_at_start amqp.FieldArray mid body rest f h v left raw =
-    let b = array_body body rest raw.0 left v f.fits raw.1 (sym f.framed ∙ raw.2) in
-    let same = one_raw_reading amqp.FieldArray raw.0 (long_field body) left rest v (array b.0) raw.1 (raw_array body b.0 f.fits b.1) (sym raw.2 ∙ f.framed) in
-    (subst (ContentIs body) (sym same.1) b.1, ap type_of same.1, same.2)
-content_at_start amqp.FieldTable mid body rest f h v left raw =
-    let b = table_body body rest raw.0 left v f.fits raw.1 (sym f.framed ∙ raw.2) in
-    let es = insert_all no_entries b.0 in
-    let means = put_mean b.0 in
-    let same = one_raw_reading amqp.FieldTable raw.0 (long_field body) left rest v (table es) raw.1 (raw_table body b.0 es f.fits b.1 means) (sym raw.2 ∙ f.framed) in
-    (subst (ContentIs body) (sym same.1) (b.0, b.1, means), ap type_of same.1, same.2)
-content_at_start _ mid body rest f h v left raw = absurd cc
+content_at_start type mid body rest f h v left (b, raw, e) = content_in type b v raw h body rest left f.fits (sym e ∙ f.framed)
 
 says_content : (s : List ℕ) (e : Entry) (body : List ℕ) (v : Tree) → HasNoNumber e → part s e.content ≡ body → ContentIs body v → DescribesValue s e v
 says_content s e body (scalar y) none at x = absurd x
@@ -262,15 +237,10 @@ lacks_only s mid type p (Failure k) x = x
 
 pub scalar_fault : (s mid : List ℕ) (type : AMQPType) → IsType s type mid → has_content type ≡ false → read_as type ≡ Some type → (e : Refusal) → IsRefusal (Outcome s) ⊥ e
     → HeaderFaults (Outcome s) (header_fault e)
-scalar_fault s mid type p h r (Incomplete Unknown) x = absurd x
-scalar_fault s mid type p h r (Incomplete (Size n)) x = x
-scalar_fault s mid type p h r (Error kind.MapOpt) x = x
-scalar_fault s mid type p h r (Error kind.Eof) x =
-    absurd (never_malformed mid type h r (value_to_raw p.0 type mid malformed p.2 (subst (λ (t : List ℕ). Outcome t malformed) p.1 x)))
-scalar_fault s mid type p h r (Error kind.MapRes) x = absurd x
-scalar_fault s mid type p h r (Error kind.OutOfMemory) x = absurd x
-scalar_fault s mid type p h r (Error kind.TooLarge) x = absurd x
-scalar_fault s mid type p h r (Failure k) x = absurd x.1
+scalar_fault s mid type p h r e x =
+    by_outcome (λ (e : Refusal). HeaderFaults (Outcome s) (header_fault e)) (Outcome s) ⊥ (λ n y. y) (λ y. y)
+    (λ y. absurd (never_malformed mid type h r (value_to_raw p.0 type mid malformed p.2 (subst (λ (t : List ℕ). Outcome t malformed) p.1 y))))
+    (λ k h. absurd h) e x
 
 -- a value that is found has the extent that its header determines
 pub found_extent : (s rest : List ℕ) (v : Tree) → Outcome s (found v rest) → extent s + length rest ≡ length s

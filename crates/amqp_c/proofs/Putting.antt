@@ -17,7 +17,7 @@ use Rattle.amqp_in_place.specs.declared.problems.Rules.{Rules}
 use Rattle.amqp_in_place.specs.declared.problems.Rules.TheVariants.{Reading, AnyKeys}
 use Rattle.amqp_in_place.specs.ProblemResults.{FindsValue}
 use Rattle.amqp_in_place.specs.Problems.{problem_of, problem_in_table_of, without_tag}
-use Rattle.amqp_in_place.proofs.AnyKeys.{none_of_any_keys}
+use Rattle.amqp_in_place.proofs.AnyKeys.{none_of_any_keys, within_limits}
 use Rattle.amqp_c.specs.declared.fault.Fault.{Fault}
 use Rattle.amqp_c.specs.declared.input.Input.{Input}
 use Rattle.amqp_c.specs.Inputs.{limits, is_untagged, encoding}
@@ -29,7 +29,7 @@ use Rattle.amqp_c.specs.ByRules.{IsEncodingBy}
 use Rattle.amqp_c.specs.Items.{Item, encoded, IsPutEncoding, IsReadEncoding, IsEncodedBy, item_depth, missing_tag}
 use Rattle.amqp_c.specs.Faults.{LacksCapacityFor, IsPutFault}
 use Rattle.amqp_c.specs.Growth.{IsAppended, IsEntryPut}
-use Rattle.amqp_c.proofs.AnyKeys.{IsPlain, start_reads, value_whole, within_limits}
+use Rattle.amqp_c.proofs.AnyKeys.{IsPlain, start_reads, value_whole}
 use Rattle.amqp_c.proofs.Growing.{part_grown, grows_by}
 
 -- what is appended is put

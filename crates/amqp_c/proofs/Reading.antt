@@ -1,21 +1,18 @@
 -- What is read if there is no problem.
-use Rattle.std.proofs.Common.{◌≡◌, ◌<◌, ◌≤◌, ◌+◌, ℕ, suc, Bool, true, false, if◌then◌else◌, Option, Some, None, option_map, List, [], ◌∷◌, length, Result, Ok, Err, IfOk, IfErr, MatchResult, refl, sym, ap, ◌∙◌, subst, inl, inr, arith}
-use Rattle.std.proofs.lemmas.Bool.{cases_lt, lt-ltb, le-ltb}
-use Rattle.amqp_value_core.specs.declared.types.amqp_type.AMQPType.{AMQPType}
+use Rattle.std.proofs.Common.{◌≡◌, ◌+◌, ℕ, Bool, true, false, if◌then◌else◌, Option, Some, None, option_map, List, length, Result, Ok, Err, IfOk, IfErr, MatchResult, refl, sym, ap, ◌∙◌, subst, arith}
 use Rattle.amqp_value_core.specs.declared.types.amqp_type.AMQPType.TheVariants as amqp
-use Rattle.amqp_value_core.specs.Ids.{kind}
 use Rattle.amqp_value_core.specs.Values.{Tree, scalar, short, long, octets, array, table, type_of}
 use Rattle.amqp_value_core.specs.Outcomes.{found, Outcome}
 use Rattle.amqp_value_core.proofs.GrammarLaws.{prefix_within, wire_found, wire_of}
 use Rattle.amq_protocol_types.specs.declared.parsing.limits.Limits.{Limits}
 use Rattle.amq_protocol_types.specs.parsing.Bodies.{IsLengthPrefixed}
-use Rattle.amq_protocol_types.specs.parsing.Headers.{extent, extent_at, raw_extent, wanted}
+use Rattle.amq_protocol_types.specs.parsing.Headers.{wanted}
 use Rattle.amq_protocol_types.specs.parsing.Limits.{Within}
 use Rattle.amq_protocol_types.specs.parsing.Untagged.{tagged}
 use Rattle.amqp_in_place.specs.declared.problems.Problem as in_place
 use Rattle.amqp_in_place.specs.declared.problems.Rules.{Rules}
 use Rattle.amqp_in_place.specs.Bodies.{HasEntries}
-use Rattle.amqp_in_place.specs.Problems.{Search, known, without_tag, in_payload, in_value, inside, problem_of, problem_in_table_of}
+use Rattle.amqp_in_place.specs.Problems.{without_tag, inside, problem_of, problem_in_table_of}
 use Rattle.amqp_in_place.specs.ProblemResults.{FindsValue}
 use Rattle.amqp_c.specs.declared.entry.Entry.{Entry}
 use Rattle.amqp_c.specs.declared.fault.Fault.{Fault}
@@ -27,32 +24,16 @@ use Rattle.amqp_c.specs.CallResults.{IsTableTaken, HeaderFaults, GivesFirst, unt
 use Rattle.amqp_c.specs.Entries.{IsEntryAtStart, EntryIsIn}
 use Rattle.amqp_c.specs.Reads.{IsFirstTable, GivesTable, IsPrefixedTable, IsEntryBy, IsEntryOf, IsReadBy, IsReadEntry}
 use Rattle.amqp_c.specs.Steps.{IsHeaded}
-use Rattle.amqp_c.proofs.ByRules.{known_kind, tag_problem}
+use Rattle.amqp_in_place.proofs.AnyKeys.{within_limits}
+use Rattle.amqp_c.proofs.AnyKeys.{value_whole}
 use Rattle.amqp_c.proofs.Parts.{part_content}
 use Rattle.amqp_c.proofs.Prefixes.{ContentIs, content_at_start, payload_at_start, cut_header, frame_extent, frame_length}
 
 -- ---- no problem
 
 -- a value in which there is no problem is all there, by its header
-payload_headed : (within : AMQPType → Search) (c : ℕ) (b : List ℕ) (type : AMQPType) → kind c ≡ Some type → in_payload within type b ≡ None → IsHeaded (c ∷ b)
-payload_headed within c b type is = elim (cases_lt (length b) (raw_extent type b)) [
-  | inl cut ↦ rw (lt-ltb (length b) (raw_extent type b) cut) (λ none. absurd cc)
-  | inr there ↦ λ none. subst (λ (o : Option AMQPType). (0 < extent_at o b) × (extent_at o b ≤ suc (length b))) (sym is) (omega arith, omega (arith, there))
-]
-
-value_headed : (rules : Rules) (within : AMQPType → Search) (s : List ℕ) → in_value rules within s ≡ None → IsHeaded s
-value_headed rules within [] none = absurd cc
-value_headed rules within (c ∷ b) none = by (known rules c) refl none
-  where
-    by : (o : Option AMQPType) → known rules c ≡ o → tag_problem within c b o ≡ None → IsHeaded (c ∷ b)
-    by None is none = absurd cc
-    by (Some type) is none = payload_headed within c b type (known_kind rules c type is) none
-
 headed : (rules : Rules) (l : Limits) (s : List ℕ) → problem_of rules l s ≡ None → IsHeaded s
-headed rules l s = elim (cases_lt l.frame (extent s)) [
-  | inl exceeds ↦ rw (lt-ltb l.frame (extent s) exceeds) (λ none. absurd cc)
-  | inr fits ↦ rw (le-ltb l.frame (extent s) fits) (value_headed rules (inside rules l.depth) s)
-]
+headed rules l s none = value_whole rules l.depth s (within_limits rules l s none).1
 
 -- without its type tag too
 no_untagged : (x : Option in_place.Problem) → option_map without_tag x ≡ None → x ≡ None

@@ -1,11 +1,11 @@
 -- How large a value is, by its encoding.
 use Rattle.std.specs.Prelude.{ℕ, ◌≡◌, ◌≤◌, List, length, drop}
 use Rattle.amqp_value_core.specs.Values.{Tree, count, depth}
-use Rattle.amqp_value_core.specs.Nesting.{nesting}
 use Rattle.amqp_value_core.specs.Outcomes.{found}
 use Rattle.amq_protocol_types.specs.declared.parsing.limits.Limits.{Limits}
 use Rattle.amq_protocol_types.specs.parsing.Limits.{Within}
-use Rattle.amqp_in_place.specs.Measures.{written, OfEncoding}
+use Rattle.amqp_in_place.specs.Written.{written}
+use Rattle.amqp_in_place.specs.Measures.{OfEncoding}
 use Rattle.amqp_in_place.specs.declared.measure.Measure.{Measure}
 use Rattle.amqp_c.specs.declared.input.Input.{Input}
 use Rattle.amqp_c.specs.Inputs.{limits, encoding}
@@ -22,8 +22,8 @@ pub record HasSize (n : Size) (l : Limits) (given s : List ℕ) : Type 0 where
   pub meaning : Tree
   pub read : Within l s (found meaning (drop n.bytes given))
   pub inside : n.bytes ≤ length given
-  pub values : OfEncoding s (λ w v p. n.values ≡ written w v p)
-  pub levels : OfEncoding s (λ w v p. n.levels ≡ nesting w v p)
+  pub values : OfEncoding s (λ w v p. n.values ≡ count (written w v p))
+  pub levels : OfEncoding s (λ w v p. n.levels ≡ depth (written w v p))
   pub tree : OfEncoding s (λ w v p. (count v ≤ n.values) × (depth v ≤ n.levels))
 
 abbrev pub IsMeasured : Input → Size → Type 0

@@ -1,8 +1,9 @@
 -- Looking a value of an array up by its index.
-use Rattle.std.specs.Prelude.{ℕ, zero, suc, ◌≡◌, ◌≤◌, List, [], length, take, drop, Option, Some, None, IfSome, Result, IfOk, IfErr}
-use Rattle.amqp_value_core.specs.Values.{Tree, Trees, no_trees, tree}
+use Rattle.std.specs.Prelude.{ℕ, suc, ◌≡◌, ◌≤◌, List, [], length, take, drop, Option, Some, None, IfSome, Result, IfOk, IfErr}
+use Rattle.amqp_value_core.specs.Values.{Trees}
 use Rattle.amqp_value_core.specs.Grammar.{ArrayBody}
 use Rattle.amq_protocol_types.specs.parsing.Headers.{extent}
+use Rattle.amqp_in_place.specs.Walks.{tree_at}
 use Rattle.amqp_c.specs.declared.cursor.Cursor.{Cursor}
 use Rattle.amqp_c.specs.declared.entry.Entry.{Entry}
 use Rattle.amqp_c.specs.declared.fault.Fault.{Fault}
@@ -21,12 +22,6 @@ pub data HasNth : ℕ → List ℕ → Option (List ℕ) → Type 0 where
   here : (s : List ℕ) → IsHeaded s → HasNth 0 s (Some (take (extent s) s))
   later : (n : ℕ) → (s : List ℕ) → (w : Option (List ℕ)) → IsHeaded s → HasNth n (drop (extent s) s) w → HasNth (suc n) s w
 
--- the value that n others are before, if there is one
-abbrev pub nth : ℕ → Trees → Option Tree
-nth n no_trees = None
-nth zero (tree v vs) = Some v
-nth (suc n) (tree v vs) = nth n vs
-
 -- an entry found by its index, whatever is left: it has no key and the type of its type tag, is that of
 -- the value if one is encoded there, and is in what the cursor c has left
 pub record IsNthIn (s : List ℕ) (c : Cursor) (e : Entry) : Type 0 where
@@ -39,7 +34,7 @@ pub record IsNthIn (s : List ℕ) (c : Cursor) (e : Entry) : Type 0 where
 -- it and after it. What is left is cut exactly if it is no values, and doesn't begin with those
 -- up to the index
 pub record LooksUpNth (s : List ℕ) (c : Cursor) (index : ℕ) (done : Result (Option Entry) Fault) : Type 0 where
-  pub found : (vs : Trees) → IsOfArray (length s) c → ArrayBody (part s c.left) vs → GivesFound s (nth index vs) done
+  pub found : (vs : Trees) → IsOfArray (length s) c → ArrayBody (part s c.left) vs → GivesFound s (tree_at index vs) done
   pub at : (w : Option (List ℕ)) → IsOfArray (length s) c → HasNth index (part s c.left) w → GivesLast s w done
   pub entry : IfOk done (λ o. IfSome o (IsNthIn s c))
   pub valid : IfOk done (λ _. IsOfArray (length s) c × (w : Option (List ℕ)) × HasNth index (part s c.left) w)

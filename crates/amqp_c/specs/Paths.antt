@@ -2,6 +2,7 @@
 use Rattle.std.specs.Prelude.{ℕ, ◌≡◌, List, [], ◌∷◌, length, Bool, true, false, ◌==◌, if◌then◌else◌, Option, Some, None, IfSome, Result, Ok, Err, IfOk, ◌⊎◌}
 use Rattle.amqp_value_core.specs.Values.{Tree, array, table}
 use Rattle.amqp_value_core.specs.Maps.{value_at}
+use Rattle.amqp_in_place.specs.Walks.{tree_at}
 use Rattle.amqp_c.specs.declared.cursor.Cursor.{Cursor}
 use Rattle.amqp_c.specs.declared.entry.Entry.{Entry}
 use Rattle.amqp_c.specs.declared.lookup.Step.{Step}
@@ -11,7 +12,7 @@ use Rattle.amqp_c.specs.Spans.{SpanIsIn}
 use Rattle.amqp_c.specs.Entries.{IsEntry}
 use Rattle.amqp_c.specs.Steps.{array_tag, table_tag, contents, LooksUp, GivesFound}
 use Rattle.amqp_c.specs.FirstPairs.{LooksUpFirst}
-use Rattle.amqp_c.specs.NthValues.{LooksUpNth, nth}
+use Rattle.amqp_c.specs.NthValues.{LooksUpNth}
 
 -- a look-up by a key: of equal keys the first, or the last
 abbrev pub LooksUpBy : Bool → List ℕ → Cursor → List ℕ → Result (Option Entry) Fault → Type 0
@@ -45,7 +46,7 @@ pub data StepsLead (s : List ℕ) (first : Bool) : List Step → Entry → Resul
 -- the value that a step leads to, and a path, if the last of equal keys counts
 abbrev pub value_by : Step → Tree → Option Tree
 value_by step (table es) = if step.into == table_tag then value_at step.key.now es else None
-value_by step (array vs) = if step.into == array_tag then nth step.index vs else None
+value_by step (array vs) = if step.into == array_tag then tree_at step.index vs else None
 value_by step _ = None
 
 abbrev pub value_on : List Step → Option Tree → Option Tree

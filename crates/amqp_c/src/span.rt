@@ -35,7 +35,7 @@ impl Span {
 
     /// The end of the span, if it is inside that many bytes.
     #[inline]
-    pub fn end_in(self, count: usize) -> Option<usize>
+    pub(crate) fn end_in(self, count: usize) -> Option<usize>
         ensures { MatchOption result
             (SpanIsIn count self → ⊥)
             (λ end. SpanIsIn count self × (end ≡ self.offset + self.length)) }
@@ -48,7 +48,7 @@ impl Span {
 
     /// The span, with that many bytes more before it.
     #[inline]
-    pub fn span_after(self, by: usize) -> Span
+    pub(crate) fn span_after(self, by: usize) -> Span
         requires { self.offset + by < 2 ^ 64 }
         ensures { result ≡ span_after by self }
     {
@@ -60,7 +60,7 @@ impl Span {
 
     /// What is after a part of the span, in the span.
     #[inline]
-    pub fn rest_after(self, part: Span) -> Span
+    pub(crate) fn rest_after(self, part: Span) -> Span
         requires part { part.offset + part.length ≤ self.offset + self.length }
         requires fits { self.offset + self.length < 2 ^ 64 }
         ensures { result ≡ rest_after self part }
@@ -74,7 +74,7 @@ impl Span {
 
     /// That many of its last bytes.
     #[inline]
-    pub fn last(self, count: usize) -> Span
+    pub(crate) fn last(self, count: usize) -> Span
         requires count { count ≤ self.length }
         requires fits { self.offset + self.length < 2 ^ 64 }
         ensures { result ≡ last self count }

@@ -1,5 +1,5 @@
 -- What was put into the buffer, and why nothing was.
-use Rattle.std.proofs.Common.{◌≡◌, ◌≤◌, ◌<◌, ◌^◌, ℕ, inr, true, None, List, length, Result, Ok, Err, MatchResult, sym, ap, ◌∙◌, subst, arith}
+use Rattle.std.proofs.Common.{◌≡◌, ◌≤◌, ◌<◌, ◌^◌, ℕ, inr, None, List, length, Result, Ok, Err, MatchResult, sym, ap, ◌∙◌, subst, arith}
 use Rattle.std.specs.Prelude.{IfSome}
 use Rattle.std.specs.Str.{IsUtf8}
 use Rattle.amqp_value_core.specs.Values.{Tree}
@@ -10,7 +10,7 @@ use Rattle.amqp_value_core.proofs.GrammarLaws.{wire_found, one_outcome_within}
 use Rattle.amqp_json.specs.declared.error.JsonError.{JsonError}
 use Rattle.amqp_json.specs.declared.error.JsonError.TheVariants as json
 use Rattle.amqp_json.specs.Ascending.{OutOfOrder}
-use Rattle.amqp_json.specs.Conversions.{IsJsonOf, IsRefused, IsWithin}
+use Rattle.amqp_json.specs.Conversions.{IsJsonOf, IsRefusedWithin, IsWithin}
 use Rattle.amqp_json.specs.Views.{WritesText}
 use Rattle.amqp_json.specs.Written.{json_text, counted}
 use Rattle.amqp_json.proofs.InOrder.{not_both}
@@ -19,13 +19,12 @@ use Rattle.amqp_c.specs.declared.fault.Fault.TheVariants.{NoRoom}
 use Rattle.amqp_c.specs.declared.input.Input.{Input}
 use Rattle.amqp_c.specs.Buffers.{IsPutAtStart, LacksRoom}
 use Rattle.amqp_c.specs.Inputs.{limits, encoding}
-use Rattle.amqp_c_alloc.specs.Nesting.{nests_within}
 use Rattle.amqp_c_alloc.specs.JsonCalls.{IsTextOf, IsReadAs, IsEncodingFault, IsPutOrRejected, IsJsonPut, IsJsonFault, json_fault, json_offset}
 
 -- ---- from JSON text to the encoding
 
 -- what is put is the canonical encoding of the value that was meant
-pub put_meant : (most : ℕ) (t bytes old new made : List ℕ) (v : Tree) (r : Result ℕ Fault) → IsTextOf t v → bytes ≡ made → made ≡ text v → Wire made v
+pub put_meant : (most : ℕ) (t bytes old new made : List ℕ) (v : Tree) (r : Result ℕ Fault) → IsTextOf most t v → bytes ≡ made → made ≡ text v → Wire made v
     → MatchResult r (IsPutAtStart bytes old new) (LacksRoom bytes (length old)) → IsPutOrRejected most t old new r None
 put_meant most t bytes old new made v r x same is encodes put = by r put
   where
@@ -34,18 +33,20 @@ put_meant most t bytes old new made v r x same is encodes put = by r put
 
     by : (r : Result ℕ Fault) → MatchResult r (IsPutAtStart bytes old new) (LacksRoom bytes (length old)) → IsPutOrRejected most t old new r None
     by (Ok n) put = (v, x, back, subst (λ (b : List ℕ). IsPutAtStart b old new n) (same ∙ is) put)
-    by (Err f) (e, less) = subst (IsEncodingFault t (length old)) (sym e) (v, x, back, ap length (same ∙ is), less)
+    by (Err f) (e, less) = subst (IsEncodingFault most t (length old)) (sym e) (v, x, back, ap length (same ∙ is), less)
 
 -- why a JSON text has no encoding is reported as it is
-pub rejected_text : (most : ℕ) (t old new : List ℕ) (e : JsonError) → nests_within most t ≡ true → IsUtf8 t → IsRefused e t
+pub rejected_text : (most : ℕ) (t old new : List ℕ) (e : JsonError) → IsUtf8 t → IsRefusedWithin most e t
     → IsPutOrRejected most t old new (Err (json_fault e)) (json_offset e)
-rejected_text most t old new json.OutOfMemory within utf8 refused = utf8
-rejected_text most t old new json.TooLarge within utf8 refused = utf8
-rejected_text most t old new (json.Syntax at) within utf8 refused = (within, utf8, refused)
-rejected_text most t old new (json.NotAValue at mismatch) within utf8 refused = (within, utf8, refused)
+rejected_text most t old new json.OutOfMemory utf8 refused = utf8
+rejected_text most t old new json.TooLarge utf8 refused = utf8
+rejected_text most t old new (json.Syntax at error) utf8 refused = (utf8, refused)
+rejected_text most t old new (json.TooDeep at) utf8 refused = (utf8, refused)
+rejected_text most t old new (json.NotAValue at mismatch) utf8 refused = (utf8, refused)
 
 pub inside_of_text : (e : JsonError) (n : ℕ) → IsWithin e n → IfSome (json_offset e) (λ at. at ≤ n)
-inside_of_text (json.Syntax at) n within = within
+inside_of_text (json.Syntax at error) n within = within
+inside_of_text (json.TooDeep at) n within = within
 inside_of_text (json.NotAValue at mismatch) n within = within
 inside_of_text json.OutOfMemory n within = tt
 inside_of_text json.TooLarge n within = tt

@@ -1,4 +1,2 @@
 mod CanonicalWritten
 mod JsonWritten
-mod Marked
-mod Reached

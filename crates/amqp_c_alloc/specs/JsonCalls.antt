@@ -1,5 +1,5 @@
 -- The calls between encodings and JSON texts.
-use Rattle.std.specs.Prelude.{ℕ, min, ◌≡◌, ◌<◌, ◌≤◌, ℤ, true, false, List, ◌++◌, length, Option, Some, None, IfSome, Result, Ok, Err, IfErr, MatchResult, ◌⊎◌}
+use Rattle.std.specs.Prelude.{ℕ, min, ◌≡◌, ◌<◌, ◌≤◌, ℤ, false, List, ◌++◌, length, Option, Some, None, IfSome, Result, Ok, Err, IfErr, MatchResult, ◌⊎◌}
 use Rattle.std.specs.Str.{IsUtf8, IsValidUpTo}
 use Rattle.amqp_value_core.specs.Values.{Tree}
 use Rattle.amqp_value_core.specs.Outcomes.{Outcome, found}
@@ -7,7 +7,7 @@ use Rattle.amqp_value_core.specs.Texts.{text}
 use Rattle.amqp_json.specs.declared.error.JsonError.{JsonError}
 use Rattle.amqp_json.specs.declared.error.JsonError.TheVariants as json
 use Rattle.amqp_json.specs.Conversions.{IsJsonOf}
-use Rattle.amqp_json.specs.Meaning.{most_levels, meant}
+use Rattle.amqp_json.specs.Meaning.{most_levels, json_within, meant_within}
 use Rattle.amqp_json.specs.Written.{counted}
 use Rattle.amqp_c.specs.declared.fault.Fault.{Fault}
 use Rattle.amqp_c.specs.declared.fault.Fault.TheVariants.{TooDeep, NotUtf8, NotJson, NotAValue, NoEncoding, Invalid, NoRoom, NoMemory}
@@ -18,7 +18,6 @@ use Rattle.amqp_c.specs.JsonTexts.{HasUnorderedKeys}
 use Rattle.amqp_c.specs.Inputs.{limits, is_strict, encoding}
 use Rattle.amqp_c.specs.ReturnCodes.{return_code_of, length_of}
 use Rattle.amqp_c.specs.Views.{IsStrictFault}
-use Rattle.amqp_c_alloc.specs.Nesting.{nests_within, IsTooDeepAt}
 
 -- ---- from an encoding to JSON text
 
@@ -49,45 +48,42 @@ pub record WritesJson (input : Input) (old : List ℕ) (code : ℤ) (new : List 
 
 -- ---- from JSON text to the encoding
 
--- the text is UTF-8, and means the value
-abbrev pub IsTextOf : List ℕ → Tree → Type 0
-IsTextOf t v = IsUtf8 t × (meant t ≡ Some v)
+-- the text is UTF-8, and means the value, with at most so many arrays and objects open at once
+abbrev pub IsTextOf : ℕ → List ℕ → Tree → Type 0
+IsTextOf most t v = IsUtf8 t × (meant_within most t ≡ Some v)
 
 -- the bytes are read as the value, whatever follows
 abbrev pub IsReadAs : List ℕ → Tree → Type 0
 IsReadAs bytes v = (rest : List ℕ) → Outcome (bytes ++ rest) (found v rest)
 
 -- the canonical encoding of the value that the text means is put into the buffer, and is read as that value
-abbrev pub IsEncodingPut : List ℕ → List ℕ → List ℕ → ℕ → Type 0
-IsEncodingPut t old new n = (v : Tree) × IsTextOf t v × IsReadAs (text v) v × IsPutAtStart (text v) old new n
+abbrev pub IsEncodingPut : ℕ → List ℕ → List ℕ → List ℕ → ℕ → Type 0
+IsEncodingPut most t old new n = (v : Tree) × IsTextOf most t v × IsReadAs (text v) v × IsPutAtStart (text v) old new n
 
--- the text is UTF-8, nests no deeper than `most`, and means no value
-abbrev pub MeansNothing : ℕ → List ℕ → Type 0
-MeansNothing most t = (nests_within most t ≡ true) × IsUtf8 t × (meant t ≡ None)
-
--- what is wrong with a text of which at most `most` arrays and objects may be open at once, by the byte at which it
--- is. Of several it is the first in this order: it nests deeper, at the bracket that opens one too many; it isn't
--- UTF-8, from the byte on at which no character begins; it isn't JSON, or is the JSON of no value
+-- what is wrong with a text of which at most `most` arrays and objects may be open at once: it isn't UTF-8, from the
+-- byte `at` on, at which no character begins; or it is, and means nothing within the limit; or it isn't JSON, or means
+-- nothing, however deep it may nest. So a text that means a value, but nests deeper, is too deep; of one that is wrong
+-- elsewhere too, the clauses allow either fault
 abbrev pub IsTextFault : ℕ → List ℕ → Fault → ℕ → Type 0
-IsTextFault most t TooDeep at = IsTooDeepAt most t at
-IsTextFault most t NotUtf8 at = (nests_within most t ≡ true) × IsValidUpTo t at
-IsTextFault most t NotJson at = MeansNothing most t
-IsTextFault most t NotAValue at = MeansNothing most t
+IsTextFault most t NotUtf8 at = IsValidUpTo t at
+IsTextFault most t TooDeep at = IsUtf8 t × (meant_within most t ≡ None)
+IsTextFault most t NotJson at = IsUtf8 t × ((levels : ℕ) → most ≤ levels → json_within levels t ≡ None)
+IsTextFault most t NotAValue at = IsUtf8 t × ((levels : ℕ) → most ≤ levels → meant_within levels t ≡ None)
 IsTextFault most t _ at = ⊥
 
 -- why there is no encoding of a text that isn't rejected, for a buffer of that many bytes: the encoding has more,
 -- as many as the fault reports; memory ran out, or an encoding is too large, only if the text is UTF-8
-abbrev pub IsEncodingFault : List ℕ → ℕ → Fault → Type 0
-IsEncodingFault t buffer (NoRoom n) = (v : Tree) × IsTextOf t v × IsReadAs (text v) v × (n ≡ length (text v)) × (buffer < n)
-IsEncodingFault t buffer NoEncoding = IsUtf8 t
-IsEncodingFault t buffer NoMemory = IsUtf8 t
-IsEncodingFault t buffer _ = ⊥
+abbrev pub IsEncodingFault : ℕ → List ℕ → ℕ → Fault → Type 0
+IsEncodingFault most t buffer (NoRoom n) = (v : Tree) × IsTextOf most t v × IsReadAs (text v) v × (n ≡ length (text v)) × (buffer < n)
+IsEncodingFault most t buffer NoEncoding = IsUtf8 t
+IsEncodingFault most t buffer NoMemory = IsUtf8 t
+IsEncodingFault most t buffer _ = ⊥
 
 -- the encoding is put, or the text is rejected at a byte, or there is no encoding of it
 abbrev pub IsPutOrRejected : ℕ → List ℕ → List ℕ → List ℕ → Result ℕ Fault → Option ℕ → Type 0
-IsPutOrRejected most t old new (Ok n) None = IsEncodingPut t old new n
+IsPutOrRejected most t old new (Ok n) None = IsEncodingPut most t old new n
 IsPutOrRejected most t old new (Err f) (Some at) = IsTextFault most t f at
-IsPutOrRejected most t old new (Err f) None = IsEncodingFault t (length old) f
+IsPutOrRejected most t old new (Err f) None = IsEncodingFault most t (length old) f
 IsPutOrRejected most t old new _ _ = ⊥
 
 -- what is stored: the byte at which a text is rejected, otherwise what was there
@@ -95,8 +91,7 @@ abbrev pub offset_or_old : Problem → Option ℕ → Problem
 offset_or_old old (Some at) = record { offset = at; missing = 0; tag = 0 }
 offset_or_old old None = old
 
--- the encoding of the value that a text means is put into the buffer, or the fault is right, and the buffer as it
--- was. A text that nests too deep is always rejected as that
+-- the encoding of the value that a text means is put into the buffer, or the fault is right, and the buffer as it was
 pub record PutsOrRejects (most : ℕ) (t old : List ℕ) (was : Problem) (code : ℤ) (new : List ℕ) (n : ℕ) (problem : Problem) : Type 0 where
   pub done : Result ℕ Fault
   pub offset : Option ℕ
@@ -104,7 +99,6 @@ pub record PutsOrRejects (most : ℕ) (t old : List ℕ) (was : Problem) (code :
   pub counted : n ≡ length_of done
   pub stored : problem ≡ offset_or_old was offset
   pub written : IsPutOrRejected most t old new done offset
-  pub deep : nests_within most t ≡ false → done ≡ Err TooDeep
   pub inside : IfSome offset (λ at. at ≤ length t)
   pub kept : IfErr done (λ _. new ≡ old)
 
@@ -116,12 +110,14 @@ WritesEncoding nesting = PutsOrRejects (min nesting most_levels)
 
 -- the fault of a text of which there is no encoding, and the byte
 abbrev pub json_fault : JsonError → Fault
-json_fault (json.Syntax at) = NotJson
+json_fault (json.Syntax at error) = NotJson
+json_fault (json.TooDeep at) = TooDeep
 json_fault (json.NotAValue at mismatch) = NotAValue
 json_fault json.OutOfMemory = NoMemory
 json_fault json.TooLarge = NoEncoding
 
 abbrev pub json_offset : JsonError → Option ℕ
-json_offset (json.Syntax at) = Some at
+json_offset (json.Syntax at error) = Some at
+json_offset (json.TooDeep at) = Some at
 json_offset (json.NotAValue at mismatch) = Some at
 json_offset _ = None

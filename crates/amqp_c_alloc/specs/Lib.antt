@@ -1,4 +1,3 @@
 pub mod CanonicalCalls
-pub mod Nesting
 pub mod JsonCalls
 pub mod WarningCalls

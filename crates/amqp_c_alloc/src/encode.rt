@@ -1,13 +1,11 @@
 //! From JSON text to the canonical encoding.
 
-ghost use Rattle.std.specs.Prelude.{◌≡◌, ◌≤◌, true, false, length, Some, None, Err, IfErr, IfSome};
-ghost use Rattle.amqp_c.specs.declared.fault.Fault.TheVariants.{TooDeep};
-ghost use Rattle.amqp_c_alloc.specs.Nesting.{nests_within};
+ghost use Rattle.std.specs.Prelude.{◌≡◌, ◌≤◌, min, length, Some, None, Err, IfErr, IfSome};
+ghost use Rattle.amqp_json.specs.Meaning.{most_levels};
 ghost use Rattle.amqp_c_alloc.specs.JsonCalls.{IsPutOrRejected, offset_or_old, json_fault, json_offset};
 
-use crate::nesting::first_too_deep;
 use amqp_c::{Fault, Problem, put_at_start};
-use amqp_json::{JsonError, encoding_of_json};
+use amqp_json::{JsonError, encoding_of_json_within};
 use std::alloc::Global;
 use std::str;
 
@@ -21,21 +19,17 @@ pub struct EncodingPut {
 }
 
 /// Puts the canonical encoding of the value that a JSON text means at the start of `buffer`. Of a text at most
-/// `nesting` arrays and objects may be open at once.
+/// `nesting` arrays and objects may be open at once, and at most 127.
 pub fn put_encoding(alloc: Global, text: &[u8], nesting: u32, buffer: &mut [u8]) -> EncodingPut
-    ensures written { IsPutOrRejected nesting text.now buffer.old buffer.new result.done result.offset }
-    ensures deep { nests_within nesting text.now ≡ false → result.done ≡ Err TooDeep }
+    ensures written { IsPutOrRejected (min nesting most_levels) text.now buffer.old buffer.new result.done result.offset }
     ensures kept { IfErr result.done (λ _. buffer.new ≡ buffer.old) }
     ensures inside { IfSome result.offset (λ at. at ≤ length text.now) }
 {
-    if let Some(bracket) = first_too_deep(text, nesting) {
-        return rejected(Fault::TooDeep, Some(bracket));
-    }
     let json = match str::from_utf8(text) {
         Ok(json) => json,
         Err(error) => return rejected(Fault::NotUtf8, Some(error.valid_up_to())),
     };
-    match encoding_of_json(alloc, json) {
+    match encoding_of_json_within(alloc, json, nesting) {
         Ok(bytes) => EncodingPut {
             done: put_at_start(&bytes, buffer),
             offset: None,
@@ -50,7 +44,8 @@ fn failure_of(error: JsonError) -> EncodingPut
     ensures offset { result.offset ≡ json_offset error }
 {
     match error {
-        JsonError::Syntax(at) => rejected(Fault::NotJson, Some(at)),
+        JsonError::Syntax(at, _) => rejected(Fault::NotJson, Some(at)),
+        JsonError::TooDeep(at) => rejected(Fault::TooDeep, Some(at)),
         JsonError::NotAValue(at, _) => rejected(Fault::NotAValue, Some(at)),
         JsonError::OutOfMemory => rejected(Fault::NoMemory, None),
         JsonError::TooLarge => rejected(Fault::NoEncoding, None),

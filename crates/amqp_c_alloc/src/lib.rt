@@ -13,7 +13,6 @@ ghost use Rattle.amqp_c_alloc.specs.WarningCalls.{GivesWarnings};
 mod canonical;
 mod decode;
 mod encode;
-mod nesting;
 mod warnings;
 
 use amqp_c::{Input, Problem, return_length};
@@ -52,9 +51,6 @@ pub extern "C" fn amqpv_to_json(
     return_length(put_json(alloc, input, buffer), length)
 }
 
-/// The most arrays and objects that may be open at once in a JSON text.
-const JSON_NESTING: u32 = 127;
-
 /// Writes the canonical encoding of the value that a JSON text means to the start of `buffer`, or stores where the
 /// text isn't the JSON of a value. A `nesting` of more than 127 counts as that. `length` is as for
 /// `amqpv_canonical`.
@@ -70,7 +66,7 @@ pub extern "C" fn amqpv_from_json(
     ensures { WritesEncoding nesting text.now
         buffer.old problem.old result buffer.new length.new problem.new }
 {
-    let put = put_encoding(alloc, text, nesting.min(JSON_NESTING), buffer);
+    let put = put_encoding(alloc, text, nesting, buffer);
     store_offset(put.offset, problem);
     return_length(put.done, length)
 }

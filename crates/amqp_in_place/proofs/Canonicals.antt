@@ -1,9 +1,8 @@
 -- Canonical encodings at the start of bytes.
-use Rattle.std.proofs.Common.{◌≡◌, ◌<◌, ◌≤◌, ◌+◌, ◌-◌, ◌^◌, ℕ, suc, Bool, true, false, cond, nat_eq, eqb, List, [], ◌∷◌, ◌++◌, length, drop, get_or, Fits, w8, Option, Some, None, refl, sym, ap, ◌∙◌, subst, arith, length-append, eq-eqb}
+use Rattle.std.proofs.Common.{◌≡◌, ◌<◌, ◌≤◌, ◌+◌, ◌-◌, ℕ, suc, Bool, true, false, cond, nat_eq, eqb, List, [], ◌∷◌, ◌++◌, length, drop, get_or, Fits, w8, Option, Some, None, refl, sym, ap, ◌∙◌, subst, arith, length-append, eq-eqb}
 use Rattle.std.specs.Map.{lookup}
 use Rattle.std.specs.List.{AllByRecursion}
 use Rattle.std.specs.Option.{IfSome, option_eq}
-use Rattle.std.specs.Bool.{then_some}
 use Rattle.std.specs.Borrow.{Bor}
 use Rattle.std.specs.Ordering.{nat_cmp, is_lt, is_some_and}
 use Rattle.std.specs.Cmp.Lexicographic.{slice_cmp, slice_partial_cmp, lists_agrees}
@@ -18,8 +17,8 @@ use Rattle.amqp_value_core.specs.Strings.{IsShort}
 use Rattle.amqp_value_core.specs.declared.types.amqp_type.AMQPType.{AMQPType}
 use Rattle.amqp_value_core.specs.declared.types.amqp_type.AMQPType.TheVariants as amqp
 use Rattle.amqp_value_core.proofs.Ids.{row_holds, kind_read}
-use Rattle.amqp_value_core.specs.Values.{Tree, short, array, table, Trees, no_trees, tree, Entries, no_entries, entry, ComesBefore, depth}
-use Rattle.amqp_value_core.specs.Members.{greatest_depth, entries_depth, CanonBody, CanonPairs}
+use Rattle.amqp_value_core.specs.Values.{Tree, short, array, table, no_trees, tree, no_entries, entry, ComesBefore, depth}
+use Rattle.amqp_value_core.specs.Members.{CanonBody, CanonPairs}
 use Rattle.amqp_value_core.specs.Layouts.{Layout, fixed}
 use Rattle.amqp_value_core.specs.Grammar.{short_field, long_field, Wire, Raw, raw_fixed, raw_short, raw_long, raw_octets, raw_array, raw_table}
 use Rattle.amqp_value_core.specs.Nesting.{WireWithin, OutcomeWithin}
@@ -29,7 +28,6 @@ use Rattle.amqp_value_core.specs.Canonical.{IsStrict, Canon, canon, CanonRaw, ca
 use Rattle.amqp_value_core.proofs.Bytes.{bytes_before}
 use Rattle.amqp_value_core.proofs.GrammarLaws.{wire_of, one_large, one_reading, one_raw_reading, one_raw_outcome, raw_found, wire_found, wire_found_within, prefix_within, depth_within, text_within, text_is_canon, what_is_read, read_is_value, canon_is_wire, canon_fits, canon_is_text, short_bytes, one_outcome}
 use Rattle.amqp_value_core.specs.Inputs.{IsBytes, slice_bytes}
-use Rattle.amqp_value_core.specs.declared.input.SliceInput.{SliceInput}
 use Rattle.amq_protocol_types.specs.declared.parsing.limits.Limits.{Limits}
 use Rattle.amq_protocol_types.specs.parsing.Headers.{extent, wanted}
 use Rattle.amq_protocol_types.specs.parsing.Limits.{Within, IsHeader}
@@ -39,12 +37,13 @@ use Rattle.amq_protocol_types.proofs.ParsingLaws.{more_wanted}
 use Rattle.amq_protocol_types.specs.parsing.PayloadResults.{IsType}
 use Rattle.amq_protocol_types.specs.parsing.Refusals.{Refusal}
 use Rattle.amq_protocol_types.specs.parsing.ParseResults.{IsRefusal}
+use Rattle.amqp_in_place.specs.declared.head.Head.{Head}
 use Rattle.amqp_in_place.specs.declared.head.Head.TheVariants as head
-use Rattle.amqp_in_place.specs.declared.refs.ValueRef.{ValueRef}
 use Rattle.amqp_in_place.specs.Refs.{plain_tree}
-use Rattle.amqp_in_place.specs.Heads.{IsPlainType, IsHead, IsKeyFrame}
-use Rattle.amqp_in_place.specs.Canonicals.{IsCanonicalLen, IsCanonicalWithin, IsReadAsWritten, CanonPrefix, CanonValues, IsAbove, AreAbove, CanonEntries, IsFirstSpelling}
-use Rattle.amqp_in_place.proofs.Stepping.{IsAtStart, refusal_of_none}
+use Rattle.amqp_in_place.specs.Heads.{IsPlainType, RawHeadIs, IsHead, IsKeyFrame}
+use Rattle.amqp_in_place.specs.Canonicals.{IsCanonicalLen, IsCanonicalWithin, IsReadAsWritten, CanonPrefix, CanonValues, IsAbove, AreAbove, CanonEntries, HasCanonicalBody, IsFirstSpelling}
+use Rattle.amqp_in_place.specs.Walks.{HasEncodingAtStart}
+use Rattle.amqp_in_place.proofs.Stepping.{refusal_of_none}
 
 -- ---- type tags and booleans
 
@@ -113,47 +112,23 @@ plain_payload _ _ _ (raw_octets s fits) plain none strict = (canon_octets s fits
 plain_payload _ _ _ (raw_array body vs fits all) plain none strict = absurd plain
 plain_payload _ _ _ (raw_table body ps es fits all mean) plain none strict = absurd plain
 
--- so a value with no alternate tag that is no container is canonical
-pub plain_at_start : (d : ℕ) (s : List ℕ) (r : ValueRef) (rest : List ℕ) → IsHead s (head.Plain r) rest → IsFirstSpelling s → CanonPrefix d s rest
-plain_at_start d s r rest (type, mid, (c, here, k), q) spelled =
-    let f = q.2 in
-    let first = subst IsFirstSpelling here spelled in
-    let strict : IsStrict type f.0 =
-    strict_by type f.0 (λ e. strict_prefix f.0 rest (subst (λ (t : List ℕ). IsStrict amqp.Boolean t) f.2 (first.2 (boolean_letter c (k ∙ ap Some e))))) in
-    let p = plain_payload type f.0 (plain_tree r) f.1 q.1 (λ e. no_short_letter c (k ∙ ap Some e)) strict in
-    (c ∷ f.0, plain_tree r, canon c type f.0 (plain_tree r) k first.0 first.1 p.0, omega (arith, p.1), here ∙ ap (λ (t : List ℕ). c ∷ t) f.2)
-
 -- ---- containers
 
--- the payload of a canonical array
-record CanonArray (body : List ℕ) (v : Tree) : Type 0 where
-  pub values : Trees
-  pub all : CanonBody body values
-  pub is : v ≡ array values
-
-canon_array_body : (type : AMQPType) (b : List ℕ) (v : Tree) → CanonRaw type b v → type ≡ amqp.FieldArray → (body rest left : List ℕ) → length body < 2 ^ 32
-    → b ++ left ≡ long_field body ++ rest → CanonArray body v
-canon_array_body _ _ _ (canon_fixed type f b row len strict) t body rest left few e = absurd (let none = ap fixed (sym t) ∙ row in cc)
-canon_array_body _ _ _ (canon_long s fits) t body rest left few e = absurd cc
-canon_array_body _ _ _ (canon_octets s fits) t body rest left few e = absurd cc
-canon_array_body _ _ _ (canon_array a vs fits all) t body rest left few e =
-    record { values = vs; all = subst (λ (b : List ℕ). CanonBody b vs) (one_large a body left rest fits few e).0 all; is = refl }
-canon_array_body _ _ _ (canon_table a es fits all) t body rest left few e = absurd cc
-
--- and of a canonical table
-record CanonTable (body : List ℕ) (v : Tree) : Type 0 where
-  pub entries : Entries
-  pub all : CanonPairs body entries
-  pub is : v ≡ table entries
-
-canon_table_body : (type : AMQPType) (b : List ℕ) (v : Tree) → CanonRaw type b v → type ≡ amqp.FieldTable → (body rest left : List ℕ) → length body < 2 ^ 32
-    → b ++ left ≡ long_field body ++ rest → CanonTable body v
-canon_table_body _ _ _ (canon_fixed type f b row len strict) t body rest left few e = absurd (let none = ap fixed (sym t) ∙ row in cc)
-canon_table_body _ _ _ (canon_long s fits) t body rest left few e = absurd cc
-canon_table_body _ _ _ (canon_octets s fits) t body rest left few e = absurd cc
-canon_table_body _ _ _ (canon_array a vs fits all) t body rest left few e = absurd cc
-canon_table_body _ _ _ (canon_table a es fits all) t body rest left few e =
-    record { entries = es; all = subst (λ (b : List ℕ). CanonPairs b es) (one_large a body left rest fits few e).0 all; is = refl }
+-- the body in a canonical payload
+canon_body : (type : AMQPType) (b : List ℕ) (v : Tree) → CanonRaw type b v → (h : Head) (mid rest left : List ℕ) → RawHeadIs type mid h rest → mid ≡ b ++ left → (d : ℕ) → depth v ≤ d → HasCanonicalBody d h
+canon_body _ _ _ p (head.Plain r) mid rest left q e d deep = tt
+canon_body _ _ _ (canon_array a vs fits all) (head.FieldArray i) mid rest left q e d deep =
+    (omega (arith, deep), (vs, subst (λ (t : List ℕ). CanonBody t vs) (one_large a (slice_bytes i) left rest fits q.1.fits (sym e ∙ q.1.framed)).0 all, omega (arith, deep)))
+canon_body _ _ _ (canon_table a es fits all) (head.FieldTable i) mid rest left q e d deep =
+    (omega (arith, deep), (es, subst (λ (t : List ℕ). CanonPairs t es) (one_large a (slice_bytes i) left rest fits q.1.fits (sym e ∙ q.1.framed)).0 all, tt, omega (arith, deep)))
+canon_body _ _ _ (canon_fixed type f b row len strict) (head.FieldArray i) mid rest left q e d deep = absurd (let none = ap fixed (sym q.0) ∙ row in cc)
+canon_body _ _ _ (canon_fixed type f b row len strict) (head.FieldTable i) mid rest left q e d deep = absurd (let none = ap fixed (sym q.0) ∙ row in cc)
+canon_body _ _ _ (canon_long s fits) (head.FieldArray i) mid rest left q e d deep = absurd (let t = q.0 in cc)
+canon_body _ _ _ (canon_long s fits) (head.FieldTable i) mid rest left q e d deep = absurd (let t = q.0 in cc)
+canon_body _ _ _ (canon_octets s fits) (head.FieldArray i) mid rest left q e d deep = absurd (let t = q.0 in cc)
+canon_body _ _ _ (canon_octets s fits) (head.FieldTable i) mid rest left q e d deep = absurd (let t = q.0 in cc)
+canon_body _ _ _ (canon_array a vs fits all) (head.FieldTable i) mid rest left q e d deep = absurd (let t = q.0 in cc)
+canon_body _ _ _ (canon_table a es fits all) (head.FieldArray i) mid rest left q e d deep = absurd (let t = q.0 in cc)
 
 -- the type tag that is first, and the canonical payload after it
 record CanonTyped (type : AMQPType) (mid left : List ℕ) (v : Tree) : Type 0 where
@@ -168,50 +143,34 @@ canon_typed s mid type _ left _ (c, here, k) (canon d type2 b v k2 not_U not_L p
     let same : type2 ≡ type = same_Some type2 type (sym k2 ∙ (ap kind (sym head) ∙ k)) in
     record { payload = b; is_canon = subst (λ (t : AMQPType). CanonRaw t b v) same p; prefix = cc }
 
-module _ (d : ℕ) (s : List ℕ) (i : SliceInput) (rest : List ℕ) where
-  -- an array with no alternate tag is canonical if its body is
-  pub array_at_start : IsHead s (head.FieldArray i) rest → IsFirstSpelling s → 0 < d → CanonValues (d - 1) (slice_bytes i) → CanonPrefix d s rest
-  array_at_start (type, mid, (c, here, k), q) spelled some (vs, all, deep) =
+module _ (d : ℕ) (s rest : List ℕ) where
+  -- a value with no alternate tag is canonical if its head is
+  pub head_at_start : (h : Head) → IsHead s h rest → IsFirstSpelling s → HasCanonicalBody d h → CanonPrefix d s rest
+  head_at_start (head.Plain r) (type, mid, (c, here, k), q) spelled x =
+      let f = q.2 in
+      let first = subst IsFirstSpelling here spelled in
+      let strict : IsStrict type f.0 =
+      strict_by type f.0 (λ e. strict_prefix f.0 rest (subst (λ (t : List ℕ). IsStrict amqp.Boolean t) f.2 (first.2 (boolean_letter c (k ∙ ap Some e))))) in
+      let p = plain_payload type f.0 (plain_tree r) f.1 q.1 (λ e. no_short_letter c (k ∙ ap Some e)) strict in
+      (c ∷ f.0, plain_tree r, canon c type f.0 (plain_tree r) k first.0 first.1 p.0, omega (arith, p.1), here ∙ ap (λ (t : List ℕ). c ∷ t) f.2)
+  head_at_start (head.FieldArray i) (type, mid, (c, here, k), q) spelled (some, (vs, all, deep)) =
       let body = slice_bytes i in
       let first = subst IsFirstSpelling here spelled in
       (c ∷ long_field body, array vs, canon c amqp.FieldArray (long_field body) (array vs) (k ∙ ap Some q.0) first.0 first.1 (canon_array body vs q.1.fits all), omega arith, here ∙ ap (λ (t : List ℕ). c ∷ t) q.1.framed)
-
-  -- and only there
-  pub array_inside : (left : List ℕ) → IsHead s (head.FieldArray i) rest → CanonPrefix d s left → (0 < d) × CanonValues (d - 1) (slice_bytes i)
-  array_inside left (type, mid, p, q) (w, v, x, deep, e) =
-      let t = canon_typed s mid type w left v p x e in
-      let b = canon_array_body type t.payload v t.is_canon q.0 (slice_bytes i) rest left q.1.fits (sym t.prefix ∙ q.1.framed) in
-      let size : depth v ≡ 1 + greatest_depth b.values = ap depth b.is in
-      (omega (arith, size), (b.values, b.all, omega (arith, size)))
-
-  -- and so it is of a table
-  pub table_at_start : IsHead s (head.FieldTable i) rest → IsFirstSpelling s → 0 < d → CanonEntries (d - 1) None (slice_bytes i) → CanonPrefix d s rest
-  table_at_start (type, mid, (c, here, k), q) spelled some (es, all, first_of, deep) =
+  head_at_start (head.FieldTable i) (type, mid, (c, here, k), q) spelled (some, (es, all, first_of, deep)) =
       let body = slice_bytes i in
       let first = subst IsFirstSpelling here spelled in
       (c ∷ long_field body, table es, canon c amqp.FieldTable (long_field body) (table es) (k ∙ ap Some q.0) first.0 first.1 (canon_table body es q.1.fits all), omega arith, here ∙ ap (λ (t : List ℕ). c ∷ t) q.1.framed)
 
-  pub table_inside : (left : List ℕ) → IsHead s (head.FieldTable i) rest → CanonPrefix d s left → (0 < d) × CanonEntries (d - 1) None (slice_bytes i)
-  table_inside left (type, mid, p, q) (w, v, x, deep, e) =
+  -- and only then
+  pub head_inside : (h : Head) (left : List ℕ) → IsHead s h rest → CanonPrefix d s left → HasCanonicalBody d h
+  head_inside h left (type, mid, p, q) (w, v, x, deep, e) =
       let t = canon_typed s mid type w left v p x e in
-      let b = canon_table_body type t.payload v t.is_canon q.0 (slice_bytes i) rest left q.1.fits (sym t.prefix ∙ q.1.framed) in
-      let size : depth v ≡ 1 + entries_depth b.entries = ap depth b.is in
-      (omega (arith, size), (b.entries, b.all, tt, omega (arith, size)))
+      canon_body type t.payload v t.is_canon h mid rest left q t.prefix d deep
 
 -- a canonical encoding is there, so is a value
-pub canon_at : (d : ℕ) (s left : List ℕ) → CanonPrefix d s left → IsAtStart s
+pub canon_at : (d : ℕ) (s left : List ℕ) → CanonPrefix d s left → HasEncodingAtStart s
 canon_at d s left (w, v, x, deep, e) = record { value_there = v; bytes = w; left = left; is_wire = canon_is_wire w v x; prefix = e }
-
--- the rest is returned if a test holds
-pub some_rest : (d : ℕ) (s : List ℕ) (i : SliceInput) (b : Bool) (r : Option SliceInput) → r ≡ then_some b i → (b ≡ true → CanonPrefix d s (slice_bytes i))
-    → IfSome r (λ (rest : SliceInput). CanonPrefix d s (slice_bytes rest))
-some_rest d s i true r is f = subst (λ (o : Option SliceInput). IfSome o (λ (rest : SliceInput). CanonPrefix d s (slice_bytes rest))) (sym is) (f refl)
-some_rest d s i false r is f = subst (λ (o : Option SliceInput). IfSome o (λ (rest : SliceInput). CanonPrefix d s (slice_bytes rest))) (sym is) tt
-
-pub no_rest : (d : ℕ) (s : List ℕ) (i : SliceInput) (b : Bool) (r : Option SliceInput) → r ≡ then_some b i → (b ≡ false → (left : List ℕ) → CanonPrefix d s left → ⊥)
-    → r ≡ None → (left : List ℕ) → CanonPrefix d s left → ⊥
-no_rest d s i true r is f none = absurd (let e : Some i ≡ None = sym is ∙ none in cc)
-no_rest d s i false r is f none = f refl
 
 -- ---- bodies
 
@@ -428,11 +387,11 @@ module _ (l : Limits) (s : List ℕ) where
       let is = read_is_value f.0 v (bytes_before f.0 [] (subst IsBytes f.2 bytes)) (wire_of l.depth f.0 v f.1) in
       (v, subst (λ (t : List ℕ). Canon t v) (sym e) (text_is_canon v is read.0 read.1), within)
 
-  -- so a length decides, and its absence
-  pub known_by_len : (r : Option ℕ) (b : Bool) → b ≡ option_eq eqb r (Some (length s)) → IfSome r (λ n. IsCanonicalLen l s n) → (r ≡ None → (n : ℕ) → IsCanonicalLen l s n → ⊥)
-      → (b ≡ true → IsCanonicalWithin l s) × (b ≡ false → IsCanonicalWithin l s → ⊥)
-  known_by_len None b is some none = (λ t. absurd (false≢true (sym is ∙ t)), λ f x. none refl (length s) (all_len x))
-  known_by_len (Some n) b is some none = (
-    λ t. len_all (subst (IsCanonicalLen l s) (eqb-true n (length s) (sym is ∙ t)) some),
-    λ f x. absurd (false≢true (sym f ∙ (is ∙ eq-eqb n (length s) (one_len n (length s) some (all_len x))))),
+  -- so a length decides, and its absence: n bytes of a value, or of a table without its type tag
+  pub known_by_len : (whole : ℕ → ℕ) (m : ℕ) → ((i j : ℕ) → whole i ≡ whole j → i ≡ j) → length s ≡ whole m → (r : Option ℕ) (b : Bool) → b ≡ option_eq eqb r (Some m)
+      → IfSome r (λ n. IsCanonicalLen l s (whole n)) → (r ≡ None → (n : ℕ) → IsCanonicalLen l s n → ⊥) → (b ≡ true → IsCanonicalWithin l s) × (b ≡ false → IsCanonicalWithin l s → ⊥)
+  known_by_len whole m one size None b is some none = (λ t. absurd (false≢true (sym is ∙ t)), λ f x. none refl (length s) (all_len x))
+  known_by_len whole m one size (Some n) b is some none = (
+    λ t. len_all (subst (IsCanonicalLen l s) (ap whole (eqb-true n m (sym is ∙ t)) ∙ sym size) some),
+    λ f x. absurd (false≢true (sym f ∙ (is ∙ eq-eqb n m (one n m (one_len (whole n) (length s) some (all_len x) ∙ size))))),
   )

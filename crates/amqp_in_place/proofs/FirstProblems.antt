@@ -3,13 +3,15 @@ use Rattle.std.proofs.Common.{◌≡◌, ◌<◌, ◌≤◌, ◌+◌, ◌-◌, �
 use Rattle.std.specs.Prelude.{option_map, if◌then◌else◌, Result, Ok, Err, MatchResult, is_ok}
 use Rattle.std.specs.Str.{IsUtf8, is_utf8}
 use Rattle.std.proofs.lemmas.Str.{IsUtf8-from_is_utf8, is_utf8-from_IsUtf8}
-use Rattle.std.specs.Int.{Width, w8, w32, byte_len}
+use Rattle.std.specs.Option.{IfSome}
+use Rattle.std.specs.Int.{Width, byte_len}
 use Rattle.std.proofs.lemmas.Bool.{le-ltb}
 use Rattle.std.proofs.lemmas.List.{take_all, length-drop, drop-drop, drop_all}
 use Rattle.amqp_value_core.specs.declared.types.amqp_type.AMQPType.{AMQPType}
 use Rattle.amqp_value_core.specs.declared.types.amqp_type.AMQPType.TheVariants as amqp
-use Rattle.amqp_value_core.specs.Layouts.{fixed}
+use Rattle.amqp_value_core.specs.Layouts.{Layout, fixed}
 use Rattle.amqp_value_core.specs.Outcomes.{length_field, counted}
+use Rattle.amqp_value_core.proofs.GrammarLaws.{first_within}
 use Rattle.amq_protocol_types.specs.parsing.Headers.{extent, extent_of, raw_extent, first_of}
 use Rattle.amqp_in_place.specs.declared.problems.Problem.{Problem}
 use Rattle.amqp_in_place.specs.declared.problems.Rules.{Rules}
@@ -91,25 +93,11 @@ module _ (first : Search) (len : List ℕ → ℕ) where
 
 -- a payload has at least the bytes of its first field
 pub first_there : (type : AMQPType) (b : List ℕ) → first_of (fixed type) (length_field type) ≤ raw_extent type b
-first_there amqp.Boolean b = search arith
-first_there amqp.ShortShortInt b = search arith
-first_there amqp.ShortShortUInt b = search arith
-first_there amqp.ShortInt b = search arith
-first_there amqp.ShortUInt b = search arith
-first_there amqp.LongInt b = search arith
-first_there amqp.LongUInt b = search arith
-first_there amqp.LongLongInt b = search arith
-first_there amqp.LongLongUInt b = search arith
-first_there amqp.Float b = search arith
-first_there amqp.Double b = search arith
-first_there amqp.DecimalValue b = search arith
-first_there amqp.Timestamp b = search arith
-first_there amqp.Void b = search arith
-first_there amqp.ShortString b = counted_there w8 b
-first_there amqp.LongString b = counted_there w32 b
-first_there amqp.ByteArray b = counted_there w32 b
-first_there amqp.FieldArray b = counted_there w32 b
-first_there amqp.FieldTable b = counted_there w32 b
+first_there type b = by (fixed type) (first_within type)
+  where
+    by : (o : Option Layout) → IfSome o (λ f. f.first ≤ f.width) → first_of o (length_field type) ≤ extent_of o (length_field type) b
+    by (Some f) within = within
+    by None within = counted_there (length_field type) b
 
 -- a payload that is all there has the problem that is in its bytes, if there is one
 pub payload_there : (within : AMQPType → Search) (type : AMQPType) (b : List ℕ) (n : ℕ) → n ≡ raw_extent type b → n ≤ length b

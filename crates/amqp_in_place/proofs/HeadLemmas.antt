@@ -1,38 +1,38 @@
 -- What is after a type tag, one level deep.
-use Rattle.std.proofs.Common.{◌≡◌, ◌<◌, ◌-◌, ◌+◌, ℕ, List, [], ◌∷◌, ◌++◌, length, take, drop, get_or, MatchResult, Result, Ok, Err, refl, sym, ap, ◌∙◌, subst, arith, length-append}
+use Rattle.std.proofs.Common.{◌≡◌, ◌<◌, ◌-◌, ◌+◌, ℕ, List, [], ◌∷◌, ◌++◌, length, MatchResult, Result, Ok, Err, refl, sym, ap, ◌∙◌, subst, arith, length-append, inl, inr}
 use Rattle.std.specs.Int.{w8}
 use Rattle.std.specs.Str.{IsUtf8}
-use Rattle.std.proofs.lemmas.Bool.{le-ltb}
-use Rattle.std.proofs.lemmas.List.{take_at, drop_at}
-use Rattle.std.specs.Borrow.{Bor}
+use Rattle.std.proofs.lemmas.Bool.{cases_lt, le-ltb}
 use Rattle.amqp_value_core.specs.Strings.{IsShort}
 use Rattle.amqp_value_core.specs.declared.types.amqp_type.AMQPType.{AMQPType}
 use Rattle.amqp_value_core.specs.declared.types.amqp_type.AMQPType.TheVariants as amqp
-use Rattle.amqp_value_core.specs.Values.{Tree, Trees, Entries, no_entries, short, array, table}
+use Rattle.amqp_value_core.specs.Values.{Tree, Entries, no_entries, short, array, table}
 use Rattle.amqp_value_core.specs.Inserting.{insert_all}
 use Rattle.amqp_value_core.specs.Grammar.{short_field, long_field, Wire, raw_short, raw_array, raw_table}
-use Rattle.amqp_value_core.specs.Nesting.{nesting, BodyWithin, OutcomeWithin, RawOutcomeWithin}
+use Rattle.amqp_value_core.specs.Nesting.{nesting, OutcomeWithin, RawOutcomeWithin}
 use Rattle.amqp_value_core.specs.Outcomes.{Reading, found, more, unknown, malformed, lack, frame_lack, counted, Outcome}
 use Rattle.amqp_value_core.specs.Payloads.{RawOutcome}
-use Rattle.amqp_value_core.proofs.GrammarLaws.{RawPrefix, wire_within, put_mean, one_outcome_within, one_raw_reading, value_to_raw, raw_to_value_within, raw_whole, raw_found, wire_found, wire_found_within, array_body, table_body, short_bytes}
+use Rattle.amqp_value_core.proofs.GrammarLaws.{RawPrefix, wire_within, body_of, pairs_of, put_mean, one_outcome_within, one_raw_reading, value_to_raw, raw_to_value_within, raw_whole, raw_found, wire_found, wire_found_within, array_body, table_body, short_bytes}
 use Rattle.amqp_value_core.specs.Inputs.{slice_bytes}
 use Rattle.amqp_value_core.specs.declared.input.SliceInput.{SliceInput}
 use Rattle.amq_protocol_types.specs.declared.parsing.errors.Err.TheVariants.{Incomplete, Error, Failure}
 use Rattle.amq_protocol_types.specs.declared.parsing.errors.Needed.TheVariants.{Unknown, Size}
-use Rattle.amq_protocol_types.specs.declared.parsing.errors.ErrorKind.TheVariants.{MapOpt, MapRes, Eof, OutOfMemory, TooLarge}
+use Rattle.amq_protocol_types.specs.declared.parsing.errors.ErrorKind.{ErrorKind}
+use Rattle.amq_protocol_types.specs.declared.parsing.errors.ErrorKind.TheVariants.{Eof}
 use Rattle.amq_protocol_types.specs.parsing.Refusals.{Refusal}
 use Rattle.amq_protocol_types.specs.parsing.PayloadResults.{IsType, IsNoType, OnlyLacks}
-use Rattle.amq_protocol_types.specs.parsing.Bodies.{IsLengthPrefixed, IsTable, IsNoBody, IsNoTable}
+use Rattle.amq_protocol_types.specs.parsing.Bodies.{IsTable}
 use Rattle.amq_protocol_types.specs.parsing.ParseResults.{IsRefusal}
-use Rattle.amq_protocol_types.specs.parsing.Headers.{extent}
-use Rattle.amq_protocol_types.proofs.ParsingLaws.{no_type_outcome, IsRefusal-weaker, wire_extent, long_found, octets_found, void_found, unsigned_outcome, IsPlainPayload, plain_found, array_found, array_refused, array_too_deep, table_found, table_refused, table_too_deep}
+use Rattle.amq_protocol_types.proofs.ParsingLaws.{no_type_outcome, IsRefusal-weaker, long_found, octets_found, void_found, unsigned_outcome, IsPlainPayload, plain_found, array_found, array_refused, array_too_deep, table_found, table_refused, table_too_deep}
 use Rattle.amqp_in_place.specs.declared.head.Head.{Head}
 use Rattle.amqp_in_place.specs.declared.head.Head.TheVariants as head
 use Rattle.amqp_in_place.specs.declared.refs.ValueRef.{ValueRef}
 use Rattle.amqp_in_place.specs.declared.refs.ValueRef.TheVariants as at
+use Rattle.amqp_in_place.specs.Bodies.{HasEntries}
 use Rattle.amqp_in_place.specs.Refs.{plain_tree, Denotes}
 use Rattle.amqp_in_place.specs.InPlaceResults.{HeadRefuses}
-use Rattle.amqp_in_place.specs.Heads.{IsPlainRef, IsPlainType, RawHeadIs, IsHead, AtAnyDepth, HeadMeans, IsKeyFrame}
+use Rattle.amqp_in_place.specs.Heads.{IsPlainRef, IsPlainType, RawHeadIs, IsHead, AtAnyDepth, HasValidBody, HeadMeans, IsKeyFrame}
+use Rattle.amqp_in_place.proofs.Refusals.{by_outcome}
 
 -- a value that is no container denotes its tree
 pub plain_stands : (r : ValueRef) → IsPlainRef r → Denotes r (plain_tree r)
@@ -84,29 +84,19 @@ pub ruleset payload_heads = (long_found, octets_found, void_found, unsigned_outc
 none_there : (s : List ℕ) (o : Reading) → IsNoType s o → AtAnyDepth s o
 none_there s o x = λ d. no_type_outcome d s o x
 
+pub no_type_whole : (s : List ℕ) → IsNoType s malformed → ⊥
+no_type_whole [] is = absurd cc
+no_type_whole (c ∷ b) is = absurd (let e = is.0 in cc)
+
 pub no_head : (s : List ℕ) (e : Refusal) → IsRefusal (IsNoType s) ⊥ e → HeadRefuses (AtAnyDepth s) e
-no_head s (Incomplete Unknown) x = x
-no_head s (Incomplete (Size n)) x = none_there s (more n) x
-no_head s (Error MapOpt) x = (refl, none_there s unknown x)
-no_head s (Error Eof) x = by s x
-  where
-    by : (s : List ℕ) → IsNoType s malformed → HeadRefuses (AtAnyDepth s) (Error Eof)
-    by [] y = absurd cc
-    by (c ∷ b) y = absurd (let e = y.0 in cc)
-no_head s (Error MapRes) x = absurd x
-no_head s (Error OutOfMemory) x = absurd x
-no_head s (Error TooLarge) x = absurd x
-no_head s (Failure k) x = x
+no_head s e x =
+    by_outcome (HeadRefuses (AtAnyDepth s)) (IsNoType s) ⊥ (λ n y. none_there s (more n) y) (λ y. (refl, none_there s unknown y)) (λ y. absurd (no_type_whole s y)) (λ k h. absurd h) e x
 
 -- an error of the head is one of reading, whatever is wanted of it
 pub head_refuses : (Is : Reading → Type 0) (e : Refusal) → HeadRefuses Is e → IsRefusal Is ⊥ e
 head_refuses Is (Incomplete Unknown) x = x
 head_refuses Is (Incomplete (Size n)) x = x
-head_refuses Is (Error MapOpt) x = x.1
-head_refuses Is (Error MapRes) x = absurd (let e = x.0 in cc)
-head_refuses Is (Error Eof) x = absurd (let e = x.0 in cc)
-head_refuses Is (Error OutOfMemory) x = absurd (let e = x.0 in cc)
-head_refuses Is (Error TooLarge) x = absurd (let e = x.0 in cc)
+head_refuses Is (Error k) x = subst (λ (j : ErrorKind). IsRefusal Is ⊥ (Error j)) (sym x.0) x.1
 head_refuses Is (Failure k) x = x
 
 -- and so it is within each depth
@@ -116,6 +106,10 @@ head_within d s e x =
 
 -- ---- what a head is found to mean
 
+-- pairs of a table within a depth are entries
+pub entries_of_table : (d : ℕ) (s : List ℕ) (es : Entries) → IsTable d s es → HasEntries s es
+entries_of_table d s es x = (x.0, pairs_of d s x.0 x.1, x.2)
+
 -- a value that is no container is found, whatever the limit on depth
 pub plain_read : (s : List ℕ) (r : ValueRef) (rest : List ℕ) → IsHead s (head.Plain r) rest → AtAnyDepth s (found (plain_tree r) rest)
 plain_read s r rest (type, mid, p, q) = λ d.
@@ -124,34 +118,49 @@ plain_read s r rest (type, mid, p, q) = λ d.
 pub plain_meant : (s : List ℕ) (r : ValueRef) (rest : List ℕ) → IsHead s (head.Plain r) rest → Denotes r (plain_tree r)
 plain_meant s r rest (type, mid, p, q) = plain_stands r q.0
 
--- an array is what its body is
-module _ (d : ℕ) (s : List ℕ) (i : SliceInput) (rest : List ℕ) where
-  as_array : (h : IsHead s (head.FieldArray i) rest) (o : Reading) → ((mid : List ℕ) → IsLengthPrefixed mid (slice_bytes i) rest → RawOutcomeWithin d amqp.FieldArray mid o) → OutcomeWithin d s o
-  as_array (type, mid, p, q) o x =
-      typed s mid type p d o (subst (λ (t : AMQPType). RawOutcomeWithin d t mid o) (sym q.0) (x mid q.1))
+-- what a value is, or that none is read, by the body of a container
+module _ (d : ℕ) (s rest : List ℕ) where
+  -- what reading the payload results in, reading the value does
+  of_type : (kept type : AMQPType) (mid : List ℕ) (o : Reading) → IsType s type mid → type ≡ kept → RawOutcomeWithin d kept mid o → OutcomeWithin d s o
+  of_type kept type mid o p e x = typed s mid type p d o (subst (λ (t : AMQPType). RawOutcomeWithin d t mid o) (sym e) x)
 
-  pub array_read : IsHead s (head.FieldArray i) rest → (vs : Trees) → 0 < d → BodyWithin (d - 1) (slice_bytes i) vs → OutcomeWithin d s (found (array vs) rest)
-  array_read h vs some x = as_array h (found (array vs) rest) (λ mid f. array_found d mid (slice_bytes i) rest f vs some x)
+  -- it is read if the body is valid
+  pub head_read : (h : Head) → IsHead s h rest → HasValidBody d h → (v : Tree) × HeadMeans h v × OutcomeWithin d s (found v rest)
+  head_read (head.Plain r) is x = (plain_tree r, plain_meant s r rest is, plain_read s r rest is d)
+  head_read (head.FieldArray i) (type, mid, p, q) (some, vs, x) = (
+    array vs,
+    (vs, body_of (d - 1) (slice_bytes i) vs x, refl),
+    of_type amqp.FieldArray type mid (found (array vs) rest) p q.0 (array_found d mid (slice_bytes i) rest q.1 vs some x),
+  )
+  head_read (head.FieldTable i) (type, mid, p, q) (some, es, x) = (
+    table es,
+    (es, entries_of_table (d - 1) (slice_bytes i) es x, refl),
+    of_type amqp.FieldTable type mid (found (table es) rest) p q.0 (table_found d mid (slice_bytes i) rest q.1 es some x),
+  )
 
-  pub array_bad : IsHead s (head.FieldArray i) rest → IsNoBody (d - 1) (slice_bytes i) malformed → OutcomeWithin d s malformed
-  array_bad h x = as_array h malformed (λ mid f. array_refused d mid (slice_bytes i) rest f (Error Eof) x)
+  -- and only then
+  pub head_bad : (h : Head) → IsHead s h rest → (HasValidBody d h → ⊥) → OutcomeWithin d s malformed
+  head_bad (head.Plain r) is none = absurd (none tt)
+  head_bad (head.FieldArray i) (type, mid, p, q) none = of_type amqp.FieldArray type mid malformed p q.0 (elim (cases_lt 0 d) [
+    | inl some ↦ array_refused d mid (slice_bytes i) rest q.1 (Error Eof) (λ vs x. none (some, vs, x))
+    | inr deep ↦ array_too_deep d mid (slice_bytes i) rest q.1 (omega (arith, deep))
+  ])
+  head_bad (head.FieldTable i) (type, mid, p, q) none = of_type amqp.FieldTable type mid malformed p q.0 (elim (cases_lt 0 d) [
+    | inl some ↦ table_refused d mid (slice_bytes i) rest q.1 (Error Eof) (λ ps x. none (some, insert_all no_entries ps, (ps, x, put_mean ps)))
+    | inr deep ↦ table_too_deep d mid (slice_bytes i) rest q.1 (omega (arith, deep))
+  ])
 
-  pub array_deep : IsHead s (head.FieldArray i) rest → d ≡ 0 → OutcomeWithin d s malformed
-  array_deep h none = as_array h malformed (λ mid f. array_too_deep d mid (slice_bytes i) rest f none)
+-- how many bytes the body of a container has
+abbrev pub body_size : Head → ℕ
+body_size (head.Plain r) = 0
+body_size (head.FieldArray i) = length (slice_bytes i)
+body_size (head.FieldTable i) = length (slice_bytes i)
 
-  -- and so is a table
-  as_table : (h : IsHead s (head.FieldTable i) rest) (o : Reading) → ((mid : List ℕ) → IsLengthPrefixed mid (slice_bytes i) rest → RawOutcomeWithin d amqp.FieldTable mid o) → OutcomeWithin d s o
-  as_table (type, mid, p, q) o x =
-      typed s mid type p d o (subst (λ (t : AMQPType). RawOutcomeWithin d t mid o) (sym q.0) (x mid q.1))
-
-  pub table_read : IsHead s (head.FieldTable i) rest → (es : Entries) → 0 < d → IsTable (d - 1) (slice_bytes i) es → OutcomeWithin d s (found (table es) rest)
-  table_read h es some x = as_table h (found (table es) rest) (λ mid f. table_found d mid (slice_bytes i) rest f es some x)
-
-  pub table_bad : IsHead s (head.FieldTable i) rest → IsNoTable (d - 1) (slice_bytes i) malformed → OutcomeWithin d s malformed
-  table_bad h x = as_table h malformed (λ mid f. table_refused d mid (slice_bytes i) rest f (Error Eof) x)
-
-  pub table_deep : IsHead s (head.FieldTable i) rest → d ≡ 0 → OutcomeWithin d s malformed
-  table_deep h none = as_table h malformed (λ mid f. table_too_deep d mid (slice_bytes i) rest f none)
+-- fewer than the value
+pub body_shorter : (s : List ℕ) (h : Head) (rest : List ℕ) → IsHead s h rest → body_size h < length s
+body_shorter s (head.Plain r) rest (type, mid, p, q) = omega (arith, ap length p.1)
+body_shorter s (head.FieldArray i) rest (type, mid, p, q) = omega (arith, ap length p.1, ap length q.1.framed, length-append (long_field (slice_bytes i)) rest)
+body_shorter s (head.FieldTable i) rest (type, mid, p, q) = omega (arith, ap length p.1, ap length q.1.framed, length-append (long_field (slice_bytes i)) rest)
 
 -- what is at the start is what the head means, and no more
 pub only : (s : List ℕ) (h : Head) (rest w left : List ℕ) (v : Tree) → IsHead s h rest → Wire w v → s ≡ w ++ left → HeadMeans h v × (left ≡ rest)
@@ -196,18 +205,3 @@ module _ (s body rest : List ℕ) (f : IsKeyFrame s body rest) where
   key_found utf8 =
       let is : IsShort body = record { few = f.few; utf8 = utf8 } in
       rw f.framed (raw_found amqp.ShortString (short_field body) rest (short body) (raw_short body is))
-
--- the parts of the first pair, whose key counts n bytes: the key, the bytes from its value on, and
--- those after it
-pub pair_parts : (named k w left : List ℕ) (n : ℕ) (x : Bor (List ℕ) × Bor (List ℕ) × Bor (List ℕ)) (v : Tree) → Wire w v → short_field k ++ (w ++ left) ≡ n ∷ named
-    → x.0.now ≡ take n named → x.1.now ≡ drop n named → x.2.now ≡ drop (extent (drop n named)) (drop n named) → (x.0.now ≡ k) × (x.1.now ≡ w ++ x.2.now) × (x.2.now ≡ left)
-pair_parts named k w left n x v is e key after rest =
-    let size : length k ≡ n = ap (λ (t : List ℕ). get_or t 0 0) e in
-    let here : named ≡ k ++ (w ++ left) = sym (ap (drop 1) e) in
-    let value : drop n named ≡ w ++ left = ap (drop n) here ∙ drop_at k (w ++ left) n size in
-    let end : x.2.now ≡ left =
-    rest ∙ (ap (λ (t : List ℕ). drop (extent t) t) value ∙ drop_at w left (extent (w ++ left)) (sym (wire_extent w left v is))) in (
-      key ∙ (ap (take n) here ∙ take_at k (w ++ left) n size),
-      after ∙ (value ∙ ap (λ (t : List ℕ). w ++ t) (sym end)),
-      end,
-    )

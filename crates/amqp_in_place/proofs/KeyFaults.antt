@@ -1,15 +1,13 @@
 -- Looking for the first key with a fault.
 use Rattle.std.proofs.Common.{◌≡◌, ◌≢◌, ◌<◌, ◌≤◌, ◌+◌, ◌-◌, ℕ, zero, suc, Option, Some, None, List, [], ◌∷◌, length, take, drop, Bool, true, false, not, refl, sym, ap, ◌∙◌, subst, arith}
-use Rattle.std.specs.Prelude.{Result, Ok, Err, MatchResult, is_err, max, option_map, nat_le, ◌||◌, ◌==◌}
+use Rattle.std.specs.Prelude.{Result, Ok, Err, MatchResult, is_err, max, option_map, ◌||◌, ◌==◌}
 use Rattle.std.specs.Bool.{then_some}
 use Rattle.std.specs.Borrow.{Bor}
 use Rattle.std.specs.List.{list_any}
 use Rattle.std.specs.Ordering.{nat_cmp, is_eq}
-use Rattle.std.specs.BTreeMap.{is_at}
 use Rattle.std.specs.BTreeSet.{BTreeSet, contains, IsEmpty, Updates}
-use Rattle.std.specs.Cmp.Lexicographic.{slice_cmp, bytes_decides, texts_ties}
-use Rattle.std.proofs.lemmas.Bool.{false≢true, leb-true, leb-false}
-use Rattle.std.proofs.lemmas.List.{take_all, length-drop, drop-drop, drop_all, length-take-le}
+use Rattle.std.specs.Cmp.Lexicographic.{slice_cmp}
+use Rattle.std.proofs.lemmas.List.{length-drop, drop-drop, drop_all}
 use Rattle.std.specs.Str.{IsUtf8, is_utf8}
 use Rattle.std.proofs.lemmas.Str.{IsUtf8-from_is_utf8, is_utf8-from_IsUtf8}
 use Rattle.amqp_value_core.specs.declared.types.amqp_type.AMQPType.{AMQPType}
@@ -18,11 +16,10 @@ use Rattle.amqp_value_core.specs.Maps.{same_bytes}
 use Rattle.amq_protocol_types.specs.parsing.Headers.{extent}
 use Rattle.amqp_in_place.specs.declared.rabbitmq.warning.Fault.{Fault}
 use Rattle.amqp_in_place.specs.declared.rabbitmq.warning.Fault.TheVariants.{Repeated, NotUtf8, Empty, TooDeep, Decimal}
-use Rattle.amqp_in_place.specs.Problems.{pair_len}
 use Rattle.amqp_in_place.specs.RabbitmqSeen.{HasKeys, IsKeyFaultReport, key_of, after_key}
 use Rattle.amqp_in_place.specs.RabbitmqWarnings.{WarningPlace, fault_inside, is_key_faulty, is_value_faulty, fault_in_values, fault_in_pairs}
 use Rattle.amqp_in_place.proofs.FirstProblems.{left_over}
-use Rattle.amqp_in_place.proofs.RepeatedKeys.{has, by_bytes}
+use Rattle.amqp_in_place.proofs.RepeatedKeys.{has_put, by_bytes}
 
 -- ---- the keys in the set
 
@@ -32,18 +29,7 @@ not_not false = refl
 
 -- a key that is put into the set
 has_more : (t u : BTreeSet (Bor (List ℕ))) (x : Bor (List ℕ)) (keys : List (List ℕ)) → HasKeys Repeated t keys → Updates by_bytes t u x true → HasKeys Repeated u (x.now ∷ keys)
-has_more t u x keys all updates k = by (same_bytes k x.now) refl
-  where
-    other : (b : Bool) → same_bytes k x.now ≡ false → same_bytes x.now k ≡ b → b ≡ false
-    other true is e = absurd (false≢true (sym is ∙ (bytes_decides k x.now).1 (sym ((bytes_decides x.now k).0 e))))
-    other false is e = refl
-
-    by : (b : Bool) → same_bytes k x.now ≡ b → has u k ≡ (b || list_any (same_bytes k) keys)
-    by true is = ap (has u) ((bytes_decides k x.now).0 is) ∙ updates.1
-    by false is =
-        let q : Bor (List ℕ) = record { ref_ptr = (0, 0); now = k } in
-        let apart : is_at (by_bytes x) q ≡ false = sym (texts_ties x.now k) ∙ other (same_bytes x.now k) is refl in
-        updates.2 q apart ∙ all k
+has_more t u x keys all updates k = has_put t u x updates k ∙ ap (λ (b : Bool). same_bytes k x.now || b) (all k)
 
 pub tells_repeated : (t u : BTreeSet (Bor (List ℕ))) (x : Bor (List ℕ)) (added : Bool) → added ≡ not (contains by_bytes t x) → Updates by_bytes t u x true → IsKeyFaultReport Repeated t u x.now (not added)
 tells_repeated t u x added is updates keys all =
@@ -152,35 +138,15 @@ module _ (fault : Fault) (value : WarningPlace) where
   over_pairs earlier (suc n) [] = refl
   over_pairs earlier (suc n) (c ∷ s) = ap (option_map suc) (over_pairs earlier n s) ∙ again n (fault_in_pairs fault value earlier 0 (drop n s))
 
-  -- from the key on to the next pair, or to the end if the key is cut
-  whole_or_cut : (keys : List (List ℕ)) (k : ℕ) (s : List ℕ) → option_map suc (fault_in_pairs fault value keys (pair_len (k ∷ s) - 1) s)
-      ≡ option_map (λ j. 1 + length (take k s) + extent (drop k s) + j) (fault_in_pairs fault value keys 0 (drop (1 + length (take k s) + extent (drop k s)) (k ∷ s)))
-  whole_or_cut keys k s = by (nat_le k (length s)) refl
-    where
-      goes : (n : ℕ) → option_map suc (fault_in_pairs fault value keys n s) ≡ option_map (λ j. suc n + j) (fault_in_pairs fault value keys 0 (drop (suc n) (k ∷ s)))
-      goes n = ap (option_map suc) (over_pairs keys n s) ∙ again n (fault_in_pairs fault value keys 0 (drop n s))
-
-      ends : (n m : ℕ) → length s ≤ n → length s < m → option_map (λ j. suc n + j) (fault_in_pairs fault value keys 0 (drop (suc n) (k ∷ s))) ≡ option_map (λ j. m + j) (fault_in_pairs fault value keys 0 (drop m (k ∷ s)))
-      ends n m few less =
-          ap (λ v. option_map (λ j. suc n + j) (fault_in_pairs fault value keys 0 v)) (drop_all (suc n) (k ∷ s) (omega (arith, few)))
-          ∙ sym (ap (λ v. option_map (λ j. m + j) (fault_in_pairs fault value keys 0 v)) (drop_all m (k ∷ s) (omega (arith, less))))
-
-      by : (b : Bool) → nat_le k (length s) ≡ b → option_map suc (fault_in_pairs fault value keys (pair_len (k ∷ s) - 1) s)
-          ≡ option_map (λ j. 1 + length (take k s) + extent (drop k s) + j) (fault_in_pairs fault value keys 0 (drop (1 + length (take k s) + extent (drop k s)) (k ∷ s)))
-      by true is =
-          let long : length (take k s) ≡ k = length-take-le k s (leb-true k (length s) is) in
-          let same : suc (pair_len (k ∷ s) - 1) ≡ 1 + length (take k s) + extent (drop k s) = omega (arith, long) in
-          goes (pair_len (k ∷ s) - 1) ∙ ap (λ i. option_map (λ j. i + j) (fault_in_pairs fault value keys 0 (drop i (k ∷ s)))) same
-      by false is =
-          let less : length s < k = leb-false k (length s) is in
-          let long : length (take k s) ≡ length s = ap length (take_all k s (omega (arith, less))) in
-          goes (pair_len (k ∷ s) - 1) ∙ ends (pair_len (k ∷ s) - 1) (1 + length (take k s) + extent (drop k s)) (omega (arith, less)) (omega (arith, long))
-
   -- the bytes of a pair, of which some may be missing
   pair_over : (earlier : List (List ℕ)) (s : List ℕ) → 0 < length s → is_key_faulty fault earlier (key_of s) ≡ false → value (after_key s) ≡ None
       → fault_in_pairs fault value earlier 0 s ≡ option_map (λ k. 1 + length (key_of s) + extent (after_key s) + k) (fault_in_pairs fault value (key_of s ∷ earlier) 0 (drop (1 + length (key_of s) + extent (after_key s)) s))
   pair_over earlier [] some good none = absurd (omega (arith, some))
-  pair_over earlier (k ∷ s) some good none = rw (good, none) (whole_or_cut (take k s ∷ earlier) k s)
+  pair_over earlier (k ∷ s) some good none =
+      let n = length (take k s) + extent (drop k s) in
+      let keys = take k s ∷ earlier in
+      let same : suc n ≡ 1 + length (take k s) + extent (drop k s) = omega arith in
+      rw (good, none) (ap (option_map suc) (over_pairs keys n s) ∙ (again n (fault_in_pairs fault value keys 0 (drop n s)) ∙ ap (λ i. option_map (λ j. i + j) (fault_in_pairs fault value keys 0 (drop i (k ∷ s)))) same))
 
   -- the first is after the first n bytes of s, or there is none, and the set has the keys in them
   pub record PairsPassed (s : List ℕ) (n : ℕ) (t : BTreeSet (Bor (List ℕ))) : Type 0 where
@@ -225,19 +191,16 @@ module _ (fault : Fault) (value : WarningPlace) where
       let z : n + 0 ≡ n = omega arith in
       at.same ∙ (ap (option_map (λ k. n + k)) (ap (fault_in_pairs fault value at.earlier 0) (sym same) ∙ stops) ∙ ap (λ (k : ℕ). Some k) z)
 
-  -- a value after a key that is cut is no bytes
-  value_stops_pair : (earlier : List (List ℕ)) (s : List ℕ) (p : ℕ) → 0 < length s → is_key_faulty fault earlier (key_of s) ≡ false → value (after_key s) ≡ Some p → p < length (after_key s)
+  value_stops_pair : (earlier : List (List ℕ)) (s : List ℕ) (p : ℕ) → 0 < length s → is_key_faulty fault earlier (key_of s) ≡ false → value (after_key s) ≡ Some p
       → fault_in_pairs fault value earlier 0 s ≡ Some (1 + length (key_of s) + p)
-  value_stops_pair earlier [] p some good is within = absurd (omega (arith, some))
-  value_stops_pair earlier (k ∷ s) p some good is within =
-      let long : length (take k s) ≡ k = length-take-le k s (omega (arith, within, length-drop k s)) in
-      rw (good, is, long) refl
+  value_stops_pair earlier [] p some good is = absurd (omega (arith, some))
+  value_stops_pair earlier (k ∷ s) p some good is = rw (good, is) refl
 
   pub PairsPassed-value : (s r : List ℕ) (n p : ℕ) (t u : BTreeSet (Bor (List ℕ))) → PairsPassed s n t → n < length s → r ≡ take (length s - n) (drop n s) → IsKeyFaultReport fault t u (key_of r) false
-      → value (after_key r) ≡ Some p → p < length (after_key r) → fault_in_pairs fault value [] 0 s ≡ Some (n + 1 + length (key_of r) + p)
-  PairsPassed-value s r n p t u at some e tells is within =
+      → value (after_key r) ≡ Some p → fault_in_pairs fault value [] 0 s ≡ Some (n + 1 + length (key_of r) + p)
+  PairsPassed-value s r n p t u at some e tells is =
       let same : r ≡ drop n s = e ∙ left_over n s in
-      let stops = value_stops_pair at.earlier r p (subst (λ (v : List ℕ). 0 < length v) (sym same) (some_left n s some)) (sym (tells at.earlier at.there).0) is within in
+      let stops = value_stops_pair at.earlier r p (subst (λ (v : List ℕ). 0 < length v) (sym same) (some_left n s some)) (sym (tells at.earlier at.there).0) is in
       let sums : n + (1 + length (key_of r) + p) ≡ n + 1 + length (key_of r) + p = omega arith in
       at.same ∙ (ap (option_map (λ k. n + k)) (ap (fault_in_pairs fault value at.earlier 0) (sym same) ∙ stops) ∙ ap (λ (k : ℕ). Some k) sums)
 

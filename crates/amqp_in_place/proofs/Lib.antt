@@ -1,13 +1,13 @@
-mod HeadLemmas
+pub mod Refusals
+pub mod HeadLemmas
 mod Reading
 mod Stepping
-mod Written
-mod Lookups
+mod Views
+pub mod Lookups
 mod Owning
 pub mod OneValue
-mod Skipping
+pub mod Skipping
 mod Places
-mod Encoded
 pub mod Canonicals
 mod RepeatedKeys
 mod Keys

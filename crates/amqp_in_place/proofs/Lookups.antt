@@ -1,18 +1,29 @@
 -- Looking up what is in a container.
-use Rattle.std.proofs.Common.{◌≡◌, ◌↔◌, ℕ, suc, Bool, true, false, cond, List, length, Option, Some, None, refl, sym, ap, ◌∙◌, subst, arith, length-append}
-use Rattle.std.specs.Option.{option_or, is_some}
+use Rattle.std.proofs.Common.{◌≡◌, ◌<◌, ◌↔◌, ℕ, zero, suc, Bool, true, false, cond, List, ◌++◌, length, take, drop, Option, Some, None, option_map, refl, sym, ap, ◌∙◌, subst, arith, length-append}
+use Rattle.std.proofs.Math.Logic.{∥∥₁_elim, ∥∥₁_map}
+use Rattle.std.proofs.lemmas.List.{drop_at, take-append-drop}
+use Rattle.std.specs.Coded.{le_prop}
+use Rattle.std.specs.Option.{IfSome, option_or, is_some}
 use Rattle.std.specs.Borrow.{Bor}
-use Rattle.amqp_value_core.specs.Values.{Tree, Trees, no_trees, tree, Entries, no_entries, entry}
+use Rattle.amqp_value_core.specs.Values.{Tree, octets, Trees, no_trees, tree, Entries, no_entries, entry}
 use Rattle.amqp_value_core.specs.Maps.{same_bytes, last_at, value_at, has_key}
-use Rattle.amqp_value_core.specs.Grammar.{ArrayBody, no_values, value, TableBody, no_pairs, pair}
-use Rattle.amqp_value_core.proofs.GrammarLaws.{option_or-assoc, option_or-none, length-wire, key_has_value}
-use Rattle.amqp_value_core.specs.Inputs.{slice_bytes}
-use Rattle.amqp_value_core.specs.declared.input.SliceInput.{SliceInput}
-use Rattle.amqp_in_place.specs.Bodies.{HasEntries}
+use Rattle.amqp_value_core.specs.Grammar.{short_field, ArrayBody, no_values, value, TableBody, no_pairs, pair}
+use Rattle.amqp_value_core.proofs.GrammarLaws.{length-wire, key_has_value, one_key}
+use Rattle.amq_protocol_types.specs.parsing.Headers.{extent}
+use Rattle.amq_protocol_types.proofs.ParsingLaws.{wire_extent}
+use Rattle.amqp_in_place.specs.Bodies.{HasPairs, HasEntries}
 use Rattle.amqp_in_place.specs.declared.refs.ValueRef.{ValueRef}
-use Rattle.amqp_in_place.specs.Walks.{NextValueBy, IsReadAt, NextKeyBy, BeginsBy, BeginsAt, FoundBy, tree_at}
-use Rattle.amqp_in_place.specs.Written.{WrittenPairs, WrittenAt}
-use Rattle.amqp_in_place.specs.Encoded.{EncodedPairs, EncodedAt}
+use Rattle.amqp_in_place.specs.declared.path.EqualKeys.{EqualKeys}
+use Rattle.amqp_in_place.specs.declared.path.EqualKeys.TheVariants as equal
+use Rattle.amqp_in_place.specs.Paths.{value_of_pair}
+use Rattle.amqp_in_place.specs.Refs.{Denotes}
+use Rattle.amqp_in_place.specs.InPlaceResults.{IsLeft}
+use Rattle.amqp_in_place.specs.Places.{IsViewIn, IsViewWithin}
+use Rattle.amqp_in_place.specs.Walks.{HasEncodingAtStart, IsValueThere, NextValueIs, BeginsWith, FoundBy, FoundIs, WrittenIs, ViewIs, ValueIs, tree_at}
+use Rattle.amqp_in_place.specs.Written.{written, IsWrittenAs, values_written, pairs_written, WrittenValues, WrittenPairs}
+use Rattle.amqp_in_place.specs.Encoded.{EncodedValue, StandsFor, IsViewOf, values_by, pairs_by, EncodedValues, EncodedPairs, nth_encoded, first_encoded, last_encoded}
+use Rattle.amqp_in_place.proofs.Views.{stands}
+use Rattle.amqp_in_place.proofs.Places.{left_of_left}
 
 -- ---- emptiness
 
@@ -26,168 +37,300 @@ pub no_values_at : (s : List ℕ) (vs : Trees) → ArrayBody s vs → (length s 
 no_values_at _ _ no_values = (λ _. refl, λ _. refl)
 no_values_at _ _ (value w left v vs p all) = (λ e. absurd (omega (arith, length-append w left, length-wire w v p)), λ e. absurd cc)
 
--- ---- tables
+-- ---- what is found, by the encoding that is
 
--- what was found so far, of the pairs before those that are left: a value by `Is`, bytes by `Body`
-abbrev pub LooksBy : (Tree → List ℕ → List ℕ → Type 0) → (List ℕ → Entries → Type 0) → List ℕ → List ℕ → List ℕ → Option (Bor (List ℕ)) → Type 0
-LooksBy Is Body key s rest at = (ps : Entries) → Body s ps → (qs : Entries) × (seen : Option Tree) × Body rest qs × BeginsBy Is seen at × (last_at key ps ≡ option_or (last_at key qs) seen)
+-- a view, as a byte array; what is meant; and what is written
+abbrev as_octets : EncodedValue → Tree
+as_octets e = octets e.bytes
 
-abbrev pub IsLookupSoFar : List ℕ → List ℕ → List ℕ → Option (Bor (List ℕ)) → Type 0
-IsLookupSoFar key s rest at = LooksBy IsReadAt TableBody key s rest at
+abbrev meant : EncodedValue → Tree
+meant e = e.meaning
 
-abbrev pub WrittenLooks : List ℕ → List ℕ → List ℕ → Option (Bor (List ℕ)) → Type 0
-WrittenLooks key s rest at = LooksBy WrittenAt WrittenPairs key s rest at
+abbrev as_written : EncodedValue → Tree
+as_written e = written e.bytes e.meaning e.is_wire
 
-abbrev pub EncodedLooks : List ℕ → List ℕ → List ℕ → Option (Bor (List ℕ)) → Type 0
-EncodedLooks key s rest at = LooksBy EncodedAt EncodedPairs key s rest at
+found_as : (Is : ValueRef → Tree → Type 0) (f : EncodedValue → Tree) → ((r : ValueRef) (e : EncodedValue) → StandsFor r e → Is r (f e)) → (o : Option EncodedValue) (r : Option ValueRef)
+    → ValueIs o r → FoundBy Is (option_map f o) r
+found_as Is f weaker None None x = tt
+found_as Is f weaker (Some e) (Some r) x = weaker r e x
+found_as Is f weaker None (Some r) x = absurd x
+found_as Is f weaker (Some e) None x = absurd x
 
--- none of the pairs before those that are left has the key
-abbrev pub PassesBy : (List ℕ → Entries → Type 0) → List ℕ → List ℕ → List ℕ → Type 0
-PassesBy Body key s rest = (ps : Entries) → Body s ps → (qs : Entries) × Body rest qs × (value_at key ps ≡ value_at key qs)
+meaning_found : (o : Option EncodedValue) (r : Option ValueRef) → ValueIs o r → FoundIs (option_map meant o) r
+meaning_found = found_as Denotes meant (λ r e x. x.denotes)
 
-module _ (Is : Tree → List ℕ → List ℕ → Type 0) (Body : List ℕ → Entries → Type 0) where
-  pub looks-start : (key s : List ℕ) → LooksBy Is Body key s s None
-  looks-start key s = λ ps p. (ps, None, p, tt, sym (option_or-none (last_at key ps)))
+written_found : (o : Option EncodedValue) (r : Option ValueRef) → ValueIs o r → WrittenIs (option_map as_written o) r
+written_found = found_as IsWrittenAs as_written (λ r e x. x.as_written)
 
-  -- one pair more
-  pub looks-step : (key s rest : List ℕ) (old new : Option (Bor (List ℕ))) (x : Bor (List ℕ) × Bor (List ℕ) × Bor (List ℕ)) (b : Bool)
-      → LooksBy Is Body key s rest old → ((qs : Entries) → Body rest qs → NextKeyBy Is Body qs (Some x)) → b ≡ same_bytes key x.0.now → new ≡ cond b (Some x.1) old
-      → LooksBy Is Body key s x.2.now new
-  looks-step key s rest old new x b before next is made = λ ps p.
-      let at = before ps p in
-      by at.0 at.1 at.2 (next at.0 at.2) at.3 at.4
-    where
-      pick : (c : Bool) (v : Tree) (seen : Option Tree) → Is v x.1.now x.2.now → BeginsBy Is seen old → BeginsBy Is (option_or (cond c (Some v) None) seen) (cond c (Some x.1) old)
-      pick true v seen here there = (x.2.now, here)
-      pick false v seen here there = there
+view_found : (o : Option EncodedValue) (r : Option ValueRef) → ValueIs o r → ViewIs (option_map as_octets o) r
+view_found = found_as IsViewOf as_octets (λ r e x. (e.bytes, x.view, refl))
 
-      by : {o : Option Tree} (qs : Entries) (seen : Option Tree) → Body rest qs → NextKeyBy Is Body qs (Some x) → BeginsBy Is seen old → o ≡ option_or (last_at key qs) seen
-          → (rs : Entries) × (now : Option Tree) × Body x.2.now rs × BeginsBy Is now new × (o ≡ option_or (last_at key rs) now)
-      by no_entries seen q given there e = absurd given
-      by (entry k v rs) seen q given there e =
-          let c = same_bytes key k in
-          let same : b ≡ c = is ∙ ap (same_bytes key) given.0 in
-          let now = option_or (cond c (Some v) None) seen in
-          let begins : BeginsBy Is now new = subst (BeginsBy Is now) (sym (made ∙ ap (λ d. cond d (Some x.1) old) same)) (pick c v seen given.1 there) in
-          (rs, now, given.2, begins, e ∙ option_or-assoc (last_at key rs) (cond c (Some v) None) seen)
+meant_values : (s : List ℕ) (vs : Trees) (p : ArrayBody s vs) → values_by meant s vs p ≡ vs
+meant_values _ _ no_values = refl
+meant_values _ _ (value w rest v vs first others) = ap (tree v) (meant_values rest vs others)
 
-  -- no pair more
-  pub looks-end : (key s rest : List ℕ) (at : Option (Bor (List ℕ))) → LooksBy Is Body key s rest at → ((qs : Entries) → Body rest qs → NextKeyBy Is Body qs None)
-      → (ps : Entries) → Body s ps → BeginsBy Is (last_at key ps) at
-  looks-end key s rest at looks next ps p =
-      let end = looks ps p in
-      let last : last_at key ps ≡ end.1 = end.4 ∙ by end.0 end.1 (next end.0 end.2) in
-      subst (λ (o : Option Tree). BeginsBy Is o at) (sym last) end.3
-    where
-      by : (qs : Entries) (seen : Option Tree) → NextKeyBy Is Body qs None → option_or (last_at key qs) seen ≡ seen
-      by no_entries seen given = refl
-      by (entry k v qs) seen given = absurd given
+written_values : (s : List ℕ) (vs : Trees) (p : ArrayBody s vs) → values_by as_written s vs p ≡ values_written s vs p
+written_values _ _ no_values = refl
+written_values _ _ (value w rest v vs first others) = ap (tree (written w v first)) (written_values rest vs others)
 
-  pub passes-start : (key s : List ℕ) → PassesBy Body key s s
-  passes-start key s = λ ps p. (ps, p, refl)
+meant_pairs : (s : List ℕ) (ps : Entries) (p : TableBody s ps) → pairs_by meant s ps p ≡ ps
+meant_pairs _ _ no_pairs = refl
+meant_pairs _ _ (pair k w rest v ps key first others) = ap (entry k v) (meant_pairs rest ps others)
 
-  -- a pair whose key is another
-  pub passes-step : (key s rest : List ℕ) (x : Bor (List ℕ) × Bor (List ℕ) × Bor (List ℕ)) → PassesBy Body key s rest
-      → ((qs : Entries) → Body rest qs → NextKeyBy Is Body qs (Some x)) → false ≡ same_bytes key x.0.now → PassesBy Body key s x.2.now
-  passes-step key s rest x before next is = λ ps p.
-      let at = before ps p in
-      by at.0 (next at.0 at.1) at.2
-    where
-      by : {o : Option Tree} (qs : Entries) → NextKeyBy Is Body qs (Some x) → o ≡ value_at key qs → (rs : Entries) × Body x.2.now rs × (o ≡ value_at key rs)
-      by no_entries given e = absurd given
-      by (entry k v rs) given e =
-          let same : same_bytes key k ≡ false = ap (same_bytes key) (sym given.0) ∙ sym is in
-          (rs, given.2, e ∙ ap (λ (d : Bool). cond d (Some v) (value_at key rs)) same)
-
-  -- a pair with the key
-  pub passes-here : (key s rest : List ℕ) (x : Bor (List ℕ) × Bor (List ℕ) × Bor (List ℕ)) → PassesBy Body key s rest
-      → ((qs : Entries) → Body rest qs → NextKeyBy Is Body qs (Some x)) → true ≡ same_bytes key x.0.now
-      → (ps : Entries) → Body s ps → BeginsBy Is (value_at key ps) (Some x.1)
-  passes-here key s rest x before next is ps p =
-      let at = before ps p in
-      by at.0 (next at.0 at.1) at.2
-    where
-      by : {o : Option Tree} (qs : Entries) → NextKeyBy Is Body qs (Some x) → o ≡ value_at key qs → BeginsBy Is o (Some x.1)
-      by no_entries given e = absurd given
-      by (entry k v rs) given e =
-          let same : same_bytes key k ≡ true = ap (same_bytes key) (sym given.0) ∙ sym is in
-          let found = e ∙ ap (λ (d : Bool). cond d (Some v) (value_at key rs)) same in
-          subst (λ (a : Option Tree). BeginsBy Is a (Some x.1)) (sym found) (x.2.now, given.1)
-
-  -- no pair more
-  pub passes-end : (key s rest : List ℕ) → PassesBy Body key s rest → ((qs : Entries) → Body rest qs → NextKeyBy Is Body qs None)
-      → (ps : Entries) → Body s ps → BeginsBy Is (value_at key ps) None
-  passes-end key s rest before next ps p =
-      let at = before ps p in
-      by at.0 (next at.0 at.1) at.2
-    where
-      by : {o : Option Tree} (qs : Entries) → NextKeyBy Is Body qs None → o ≡ value_at key qs → BeginsBy Is o None
-      by no_entries given e = subst (λ (a : Option Tree). BeginsBy Is a None) (sym e) tt
-      by (entry k v qs) given e = absurd given
-
--- of equal keys the last pair's value is the entry's
-pub last_is_value : (key s : List ℕ) (at : Option (Bor (List ℕ))) → ((ps : Entries) → TableBody s ps → BeginsAt (last_at key ps) at) → (es : Entries) → HasEntries s es
-    → BeginsAt (value_at key es) at
-last_is_value key s at last es (ps, p, mean) = subst (λ (o : Option Tree). BeginsAt o at) (sym (mean.last key)) (last ps p)
-
--- what is read from the value's first byte on is the value
-module _ (At : Tree → List ℕ → List ℕ → Type 0) (Is : ValueRef → Tree → Type 0) where
-  pub found_by : (o : Option Tree) (at : Bor (List ℕ)) (r : ValueRef) → BeginsBy At o (Some at) → ((v : Tree) (rest : List ℕ) → At v at.now rest → Is r v) → FoundBy Is o (Some r)
-  found_by None at r begins stands = absurd begins
-  found_by (Some v) at r begins stands = stands v begins.0 begins.1
-
-  pub found_nowhere : (o : Option Tree) → BeginsBy At o None → FoundBy Is o None
-  found_nowhere None begins = tt
-  found_nowhere (Some v) begins = absurd begins
-
--- whether it begins somewhere is whether the key is there
-pub begins_has_key : (key : List ℕ) (es : Entries) (at : Option (Bor (List ℕ))) → BeginsAt (value_at key es) at → is_some at ≡ has_key key es
-begins_has_key key es at begins = by (value_at key es) at begins ∙ sym (key_has_value key es)
-  where
-    by : (o : Option Tree) (at : Option (Bor (List ℕ))) → BeginsAt o at → is_some at ≡ is_some o
-    by None None begins = refl
-    by (Some v) (Some at) begins = refl
-    by None (Some at) begins = absurd begins
-    by (Some v) None begins = absurd begins
+written_pairs : (s : List ℕ) (ps : Entries) (p : TableBody s ps) → pairs_by as_written s ps p ≡ pairs_written s ps p
+written_pairs _ _ no_pairs = refl
+written_pairs _ _ (pair k w rest v ps key first others) = ap (entry k (written w v first)) (written_pairs rest ps others)
 
 -- ---- arrays
 
+nth_by : (f : EncodedValue → Tree) (n : ℕ) (s : List ℕ) (vs : Trees) (p : ArrayBody s vs) → option_map f (nth_encoded n s vs p) ≡ tree_at n (values_by f s vs p)
+nth_by f n _ _ no_values = refl
+nth_by f zero _ _ (value w rest v vs first others) = refl
+nth_by f (suc n) _ _ (value w rest v vs first others) = nth_by f n rest vs others
+
+-- the value of an encoding in an array is that value in each form
+module _ (s t : List ℕ) (n : ℕ) (r : Option ValueRef) (at : t ≡ s) (there : (vs : Trees) (p : ArrayBody t vs) → ValueIs (nth_encoded n t vs p) r) where
+  is : (vs : Trees) (p : ArrayBody s vs) → ValueIs (nth_encoded n s vs p) r
+  is = subst (λ (u : List ℕ). (vs : Trees) (p : ArrayBody u vs) → ValueIs (nth_encoded n u vs p) r) at there
+
+  pub nth_means : (vs : Trees) → ArrayBody s vs → FoundIs (tree_at n vs) r
+  nth_means vs p = subst (λ (o : Option Tree). FoundIs o r) (nth_by meant n s vs p ∙ ap (tree_at n) (meant_values s vs p)) (meaning_found _ r (is vs p))
+
+  pub nth_is_written : (ts : Trees) → WrittenValues s ts → WrittenIs (tree_at n ts) r
+  nth_is_written ts (vs, p, e) = subst (λ (o : Option Tree). WrittenIs o r) (nth_by as_written n s vs p ∙ ap (tree_at n) (written_values s vs p ∙ sym e)) (written_found _ r (is vs p))
+
+  pub nth_is_view : (es : Trees) → EncodedValues s es → ViewIs (tree_at n es) r
+  nth_is_view es (vs, p, e) = subst (λ (o : Option Tree). ViewIs o r) (nth_by as_octets n s vs p ∙ ap (tree_at n) (sym e)) (view_found _ r (is vs p))
+
 -- what is asked for is among the values that are left
-abbrev pub CountsBy : (List ℕ → Trees → Type 0) → ℕ → List ℕ → List ℕ → ℕ → Type 0
-CountsBy Body n s rest left = (vs : Trees) → Body s vs → (us : Trees) × Body rest us × (tree_at n vs ≡ tree_at left us)
+abbrev pub IsAmongLeft : ℕ → List ℕ → List ℕ → ℕ → Type 0
+IsAmongLeft n s rest left = (vs : Trees) (p : ArrayBody s vs) → (us : Trees) × (q : ArrayBody rest us) × (nth_encoded n s vs p ≡ nth_encoded left rest us q)
 
-module _ (Is : ValueRef → Tree → Type 0) (Body : List ℕ → Trees → Type 0) where
-  pub counts-start : (n : ℕ) (s : List ℕ) → CountsBy Body n s s n
-  counts-start n s = λ vs p. (vs, p, refl)
+pub among-start : (n : ℕ) (s : List ℕ) → IsAmongLeft n s s n
+among-start n s = λ vs p. (vs, p, refl)
 
-  pub counts-step : (n : ℕ) (s rest : List ℕ) (left : ℕ) (x : ValueRef × SliceInput) → CountsBy Body n s rest (suc left) → ((us : Trees) → Body rest us → NextValueBy Is Body us (Some x))
-      → CountsBy Body n s (slice_bytes x.1) left
-  counts-step n s rest left x before next = λ vs p.
-      let at = before vs p in
-      by at.0 (next at.0 at.1) at.2
+module _ (n : ℕ) (s rest : List ℕ) where
+  pub among-step : (left : ℕ) (r : ValueRef) (after : List ℕ) → IsAmongLeft n s rest (suc left) → IsViewIn rest r after → length after < length rest → IsAmongLeft n s after left
+  among-step left r after before inside less = λ vs p.
+      let (us, q, e) = before vs p in
+      by rest us q e inside less
     where
-      by : {o : Option Tree} (us : Trees) → NextValueBy Is Body us (Some x) → o ≡ tree_at (suc left) us → (rs : Trees) × Body (slice_bytes x.1) rs × (o ≡ tree_at left rs)
-      by no_trees given e = absurd given
-      by (tree v us) given e = (us, given.1, e)
+      by : {o : Option EncodedValue} (t : List ℕ) (us : Trees) (q : ArrayBody t us) → o ≡ nth_encoded (suc left) t us q → IsViewIn t r after → length after < length t
+          → (os : Trees) × (q : ArrayBody after os) × (o ≡ nth_encoded left after os q)
+      by _ _ no_values e inside less = absurd (omega (arith, less))
+      by {o} _ _ (value w more v us first others) e inside less =
+          let one = stands (w ++ more) after more r (record { bytes = w; meaning = v; is_wire = first }) inside refl in
+          subst (λ (t : List ℕ). (os : Trees) × (q : ArrayBody t os) × (o ≡ nth_encoded left t os q)) one.1 (us, others, e)
 
   -- it is the first of them
-  pub counts-here : (n : ℕ) (s rest : List ℕ) (x : ValueRef × SliceInput) → CountsBy Body n s rest 0 → ((us : Trees) → Body rest us → NextValueBy Is Body us (Some x))
-      → (vs : Trees) → Body s vs → FoundBy Is (tree_at n vs) (Some x.0)
-  counts-here n s rest x counts next vs p =
-      let at = counts vs p in
-      by at.0 (next at.0 at.1) at.2
+  pub among-here : (r : ValueRef) (after : List ℕ) → IsAmongLeft n s rest 0 → IsViewIn rest r after → length after < length rest → (vs : Trees) (p : ArrayBody s vs) → ValueIs (nth_encoded n s vs p) (Some r)
+  among-here r after before inside less vs p =
+      let (us, q, e) = before vs p in
+      subst (λ (o : Option EncodedValue). ValueIs o (Some r)) (sym e) (by rest us q inside less)
     where
-      by : {o : Option Tree} (us : Trees) → NextValueBy Is Body us (Some x) → o ≡ tree_at 0 us → FoundBy Is o (Some x.0)
-      by no_trees given e = absurd given
-      by (tree v us) given e = subst (λ (o : Option Tree). FoundBy Is o (Some x.0)) (sym e) given.0
+      by : (t : List ℕ) (us : Trees) (q : ArrayBody t us) → IsViewIn t r after → length after < length t → ValueIs (nth_encoded 0 t us q) (Some r)
+      by _ _ no_values inside less = absurd (omega (arith, less))
+      by _ _ (value w more v us first others) inside less = (stands (w ++ more) after more r (record { bytes = w; meaning = v; is_wire = first }) inside refl).0
 
   -- or it isn't there
-  pub counts-end : (n : ℕ) (s rest : List ℕ) (left : ℕ) → CountsBy Body n s rest left → ((us : Trees) → Body rest us → NextValueBy Is Body us None)
-      → (vs : Trees) → Body s vs → FoundBy Is (tree_at n vs) None
-  counts-end n s rest left counts next vs p =
-      let at = counts vs p in
-      by at.0 (next at.0 at.1) at.2
+  pub among-end : (left : ℕ) → IsAmongLeft n s rest left → ((us : Trees) → ArrayBody rest us → NextValueIs us None) → (vs : Trees) (p : ArrayBody s vs) → ValueIs (nth_encoded n s vs p) None
+  among-end left before next vs p =
+      let (us, q, e) = before vs p in
+      subst (λ (o : Option EncodedValue). ValueIs o None) (sym e) (by left rest us q (next us q))
     where
-      by : {o : Option Tree} (us : Trees) → NextValueBy Is Body us None → o ≡ tree_at left us → FoundBy Is o None
-      by no_trees given e = subst (λ (o : Option Tree). FoundBy Is o None) (sym e) tt
-      by (tree v us) given e = absurd given
+      by : (m : ℕ) (t : List ℕ) (us : Trees) (q : ArrayBody t us) → NextValueIs us None → ValueIs (nth_encoded m t us q) None
+      by m _ _ no_values given = tt
+      by m _ _ (value w more v us first others) given = absurd given
+
+-- ---- tables
+
+first_by : (f : EncodedValue → Tree) (k s : List ℕ) (ps : Entries) (p : TableBody s ps) → option_map f (first_encoded k s ps p) ≡ value_at k (pairs_by f s ps p)
+first_by f k _ _ no_pairs = refl
+first_by f k _ _ (pair j w rest v ps key first others) = by (first_encoded k rest ps others) (same_bytes k j) (first_by f k rest ps others)
+  where
+    by : {t : Option Tree} (o : Option EncodedValue) (b : Bool) → option_map f o ≡ t → option_map f (cond b (Some (record { bytes = w; meaning = v; is_wire = first })) o) ≡ cond b (Some (f (record { bytes = w; meaning = v; is_wire = first }))) t
+    by o true e = refl
+    by o false e = e
+
+last_by : (f : EncodedValue → Tree) (k s : List ℕ) (ps : Entries) (p : TableBody s ps) → option_map f (last_encoded k s ps p) ≡ last_at k (pairs_by f s ps p)
+last_by f k _ _ no_pairs = refl
+last_by f k _ _ (pair j w rest v ps key first others) = by (last_encoded k rest ps others) (last_by f k rest ps others) (same_bytes k j)
+  where
+    by : {t : Option Tree} (o : Option EncodedValue) → option_map f o ≡ t → (b : Bool)
+        → option_map f (option_or o (cond b (Some (record { bytes = w; meaning = v; is_wire = first })) None)) ≡ option_or t (cond b (Some (f (record { bytes = w; meaning = v; is_wire = first }))) None)
+    by None e true = ap (λ (t : Option Tree). option_or t (Some (f (record { bytes = w; meaning = v; is_wire = first })))) e
+    by None e false = ap (λ (t : Option Tree). option_or t None) e
+    by (Some u) e b = ap (λ (t : Option Tree). option_or t (cond b (Some (f (record { bytes = w; meaning = v; is_wire = first }))) None)) e
+
+-- of the first or the last of the pairs with the key
+abbrev pub encoded_of : EqualKeys → List ℕ → (s : List ℕ) (ps : Entries) → TableBody s ps → Option EncodedValue
+encoded_of equal.First = first_encoded
+encoded_of equal.Last = last_encoded
+
+pair_by : (of : EqualKeys) (f : EncodedValue → Tree) (k s : List ℕ) (ps : Entries) (p : TableBody s ps) → option_map f (encoded_of of k s ps p) ≡ value_of_pair of k (pairs_by f s ps p)
+pair_by equal.First = first_by
+pair_by equal.Last = last_by
+
+module _ (of : EqualKeys) (s k : List ℕ) (r : Option ValueRef) (there : (ps : Entries) (p : TableBody s ps) → ValueIs (encoded_of of k s ps p) r) where
+  pub pair_means : (ps : Entries) → TableBody s ps → FoundIs (value_of_pair of k ps) r
+  pair_means ps p = subst (λ (o : Option Tree). FoundIs o r) (pair_by of meant k s ps p ∙ ap (value_of_pair of k) (meant_pairs s ps p)) (meaning_found _ r (there ps p))
+
+  pub pair_is_written : (ts : Entries) → WrittenPairs s ts → WrittenIs (value_of_pair of k ts) r
+  pair_is_written ts (ps, p, e) = subst (λ (o : Option Tree). WrittenIs o r) (pair_by of as_written k s ps p ∙ ap (value_of_pair of k) (written_pairs s ps p ∙ sym e)) (written_found _ r (there ps p))
+
+  pub pair_is_view : (es : Entries) → EncodedPairs s es → ViewIs (value_of_pair of k es) r
+  pair_is_view es (ps, p, e) = subst (λ (o : Option Tree). ViewIs o r) (pair_by of as_octets k s ps p ∙ ap (value_of_pair of k) (sym e)) (view_found _ r (there ps p))
+
+-- what the entries mean at the key is the last pair's value
+pub last_means : (s k : List ℕ) (r : Option ValueRef) → ((ps : Entries) (p : TableBody s ps) → ValueIs (last_encoded k s ps p) r) → (es : Entries) → HasEntries s es → FoundIs (value_at k es) r
+last_means s k r there es (ps, p, mean) = subst (λ (o : Option Tree). FoundIs o r) (sym (mean.last k)) (pair_means equal.Last s k r there ps p)
+
+-- ---- the pairs that are left
+
+-- the first of some pairs, of which k is the key, v the bytes from the value on, and t those after it
+record FirstOf (rest k v t : List ℕ) (qs : Entries) (q : TableBody rest qs) : Type 0 where
+  pub at : EncodedValue
+  pub others : Entries
+  pub more : TableBody t others
+  pub place : v ≡ at.bytes ++ t
+  pub first_is : (j : List ℕ) → first_encoded j rest qs q ≡ cond (same_bytes j k) (Some at) (first_encoded j t others more)
+  pub last_is : (j : List ℕ) → last_encoded j rest qs q ≡ option_or (last_encoded j t others more) (cond (same_bytes j k) (Some at) None)
+
+first_of : (rest : List ℕ) (qs : Entries) (q : TableBody rest qs) (k v t : List ℕ) → rest ≡ short_field k ++ v → t ≡ drop (extent v) v → FirstOf rest k v t qs q
+first_of _ _ no_pairs k v t key after = absurd cc
+first_of _ _ (pair j w left u ps is first others) k v t key after =
+    let one = one_key j k (w ++ left) v key in
+    let end : t ≡ left = after ∙ (ap (λ (x : List ℕ). drop (extent x) x) (sym one.1) ∙ drop_at w left (extent (w ++ left)) (sym (wire_extent w left u first))) in
+    let q = pair j w left u ps is first others in
+    let there : FirstOf (short_field j ++ (w ++ left)) j v left (entry j u ps) q =
+    record { at = record { bytes = w; meaning = u; is_wire = first }; others = ps; more = others; place = sym one.1; first_is = λ i. refl; last_is = λ i. refl } in
+    subst (λ (i : List ℕ). FirstOf (short_field j ++ (w ++ left)) i v t (entry j u ps) q) one.0 (subst (λ (x : List ℕ). FirstOf (short_field j ++ (w ++ left)) j v x (entry j u ps) q) (sym end) there)
+
+pub or_assoc : {A : Type 0} (a b c : Option A) → option_or (option_or a b) c ≡ option_or a (option_or b c)
+or_assoc None b c = refl
+or_assoc (Some x) b c = refl
+
+pub or_none : {A : Type 0} (a : Option A) → option_or a None ≡ a
+or_none None = refl
+or_none (Some x) = refl
+
+-- what was found so far is the last pair's value, unless one that is left has the key
+abbrev pub LastSoFar : List ℕ → List ℕ → List ℕ → Option (Bor (List ℕ)) → Type 0
+LastSoFar j s rest at = (ps : Entries) (p : TableBody s ps)
+    → (qs : Entries) × (q : TableBody rest qs) × (seen : Option EncodedValue) × BeginsWith seen at × (last_encoded j s ps p ≡ option_or (last_encoded j rest qs q) seen)
+
+-- none of the pairs before those that are left has the key
+abbrev pub NoneSoFar : List ℕ → List ℕ → List ℕ → Type 0
+NoneSoFar j s rest = (ps : Entries) (p : TableBody s ps) → (qs : Entries) × (q : TableBody rest qs) × (first_encoded j s ps p ≡ first_encoded j rest qs q)
+
+pub last-start : (j s : List ℕ) → LastSoFar j s s None
+last-start j s = λ ps p. (ps, p, None, tt, sym (or_none (last_encoded j s ps p)))
+
+pub none-start : (j s : List ℕ) → NoneSoFar j s s
+none-start j s = λ ps p. (ps, p, refl)
+
+module _ (rest k t : List ℕ) (v : Bor (List ℕ)) (key : rest ≡ short_field k ++ v.now) (after : t ≡ drop (extent v.now) v.now) where
+  -- after the first pair are fewer bytes, which are pairs
+  pub pairs_more : ∥ HasPairs rest ∥₁ → (length t < length rest) × ∥ HasPairs t ∥₁
+  pairs_more has = (
+    ∥∥₁_elim has le_prop (λ (x : HasPairs rest).
+        let f = first_of rest x.0 x.1 k v.now t key after in
+        omega (arith, ap length key, ap length f.place, length-append k v.now, length-append f.at.bytes t)),
+    ∥∥₁_map has (λ (x : HasPairs rest). let f = first_of rest x.0 x.1 k v.now t key after in (f.others, f.more)),
+  )
+
+  -- the value, and what is after it, are inside what the pairs are inside
+  pub value_inside : (s : List ℕ) → IsLeft s rest → IsLeft s v.now
+  value_inside s left = left_of_left s rest v.now left (short_field k, key)
+
+  pub rest_inside : (s : List ℕ) → IsLeft s rest → IsLeft s t
+  rest_inside s left =
+      left_of_left s v.now t (value_inside s left)
+      (subst (IsLeft v.now) (sym after) (take (extent v.now) v.now, sym (take-append-drop (extent v.now) v.now)))
+
+  module _ (j s : List ℕ) where
+    pub last-step : (old new : Option (Bor (List ℕ))) (b : Bool) → LastSoFar j s rest old → b ≡ same_bytes j k → new ≡ cond b (Some v) old → LastSoFar j s t new
+    last-step old new b before is made = λ ps p.
+        let (qs, q, seen, begins, e) = before ps p in
+        let f = first_of rest qs q k v.now t key after in
+        let here = cond b (Some f.at) None in (
+          f.others,
+          f.more,
+          option_or here seen,
+          subst (BeginsWith (option_or here seen)) (sym made) (pick b f.at seen f.place begins),
+          e ∙ (ap (λ (o : Option EncodedValue). option_or o seen) (f.last_is j ∙ ap (λ (c : Bool). option_or (last_encoded j t f.others f.more) (cond c (Some f.at) None)) (sym is))
+              ∙ or_assoc (last_encoded j t f.others f.more) here seen),
+        )
+      where
+        pick : (c : Bool) (u : EncodedValue) (seen : Option EncodedValue) → v.now ≡ u.bytes ++ t → BeginsWith seen old → BeginsWith (option_or (cond c (Some u) None) seen) (cond c (Some v) old)
+        pick true u seen place begins = (t, place)
+        pick false u seen place begins = begins
+
+    pub none-step : NoneSoFar j s rest → false ≡ same_bytes j k → NoneSoFar j s t
+    none-step before is = λ ps p.
+        let (qs, q, e) = before ps p in
+        let f = first_of rest qs q k v.now t key after in
+        (f.others, f.more, e ∙ (f.first_is j ∙ ap (λ (c : Bool). cond c (Some f.at) (first_encoded j t f.others f.more)) (sym is)))
+
+    pub first-here : NoneSoFar j s rest → true ≡ same_bytes j k → (ps : Entries) (p : TableBody s ps) → BeginsWith (first_encoded j s ps p) (Some v)
+    first-here before is ps p =
+        let (qs, q, e) = before ps p in
+        let f = first_of rest qs q k v.now t key after in
+        subst (λ (o : Option EncodedValue). BeginsWith o (Some v)) (sym (e ∙ (f.first_is j ∙ ap (λ (c : Bool). cond c (Some f.at) (first_encoded j t f.others f.more)) (sym is)))) (t, f.place)
+
+-- no pair is left
+module _ (j s rest : List ℕ) (none : length rest ≡ 0) where
+  pub last-end : (at : Option (Bor (List ℕ))) → LastSoFar j s rest at → (ps : Entries) (p : TableBody s ps) → BeginsWith (last_encoded j s ps p) at
+  last-end at before ps p =
+      let (qs, q, seen, begins, e) = before ps p in
+      subst (λ (o : Option EncodedValue). BeginsWith o at) (sym (e ∙ by rest qs q seen none)) begins
+    where
+      by : (t : List ℕ) (qs : Entries) (q : TableBody t qs) (seen : Option EncodedValue) → length t ≡ 0 → option_or (last_encoded j t qs q) seen ≡ seen
+      by _ _ no_pairs seen e = refl
+      by _ _ (pair k w left v qs is first others) seen e = absurd (omega (arith, e))
+
+  pub none-end : NoneSoFar j s rest → (ps : Entries) (p : TableBody s ps) → BeginsWith (first_encoded j s ps p) None
+  none-end before ps p =
+      let (qs, q, e) = before ps p in
+      subst (λ (o : Option EncodedValue). BeginsWith o None) (sym e) (by rest qs q none)
+    where
+      by : (t : List ℕ) (qs : Entries) (q : TableBody t qs) → length t ≡ 0 → BeginsWith (first_encoded j t qs q) None
+      by _ _ no_pairs e = tt
+      by _ _ (pair k w left v qs is first others) e = absurd (omega (arith, e))
+
+-- ---- the value where bytes begin
+
+-- there is one
+pub begins_there : (s : List ℕ) (o : (ps : Entries) → TableBody s ps → Option EncodedValue) (at : Option (Bor (List ℕ))) → ((ps : Entries) (p : TableBody s ps) → BeginsWith (o ps p) at) → ∥ HasPairs s ∥₁
+    → IfSome at (λ bytes. ∥ HasEncodingAtStart bytes.now ∥₁)
+begins_there s o None begins has = tt
+begins_there s o (Some at) begins has = ∥∥₁_map has (λ (x : HasPairs s). by (o x.0 x.1) (begins x.0 x.1))
+  where
+    by : (u : Option EncodedValue) → BeginsWith u (Some at) → HasEncodingAtStart at.now
+    by None y = absurd y
+    by (Some u) (rest, e) = record { value_there = u.meaning; bytes = u.bytes; left = rest; is_wire = u.is_wire; prefix = e }
+
+-- and it is the encoding's
+pub value_found : (o : Option EncodedValue) (at : Option (Bor (List ℕ))) (r : Option ValueRef) → BeginsWith o at → IsValueThere at r → ValueIs o r
+value_found None None None begins x = tt
+value_found (Some e) (Some at) (Some r) begins (rest, x) = (stands at.now rest begins.0 r e x begins.1).0
+value_found None None (Some r) begins x = absurd x
+value_found (Some e) (Some at) None begins x = absurd x
+value_found None (Some at) r begins x = absurd begins
+value_found (Some e) None r begins x = absurd begins
+
+pub found_inside : (s : List ℕ) (at : Option (Bor (List ℕ))) (r : Option ValueRef) → IfSome at (λ bytes. IsLeft s bytes.now) → IsValueThere at r → IfSome r (IsViewWithin s)
+found_inside s at None left x = tt
+found_inside s None (Some r) left x = absurd x
+found_inside s (Some at) (Some r) left (rest, x) = (left.0, at.now, rest, left.1, x)
+
+-- whether the last pair with a key begins somewhere is whether the key is there
+pub begins_has_key : (k s : List ℕ) (at : Option (Bor (List ℕ))) → ((ps : Entries) (p : TableBody s ps) → BeginsWith (last_encoded k s ps p) at) → (es : Entries) → HasEntries s es → is_some at ≡ has_key k es
+begins_has_key k s at begins es (ps, p, mean) =
+    by (last_encoded k s ps p) at (begins ps p) ∙ (ap is_some (last_by meant k s ps p ∙ (ap (last_at k) (meant_pairs s ps p) ∙ sym (mean.last k))) ∙ sym (key_has_value k es))
+  where
+    by : (o : Option EncodedValue) (at : Option (Bor (List ℕ))) → BeginsWith o at → is_some at ≡ is_some (option_map meant o)
+    by None None begins = refl
+    by (Some e) (Some at) begins = refl
+    by None (Some at) begins = absurd begins
+    by (Some e) None begins = absurd begins

@@ -7,7 +7,6 @@ use Rattle.amqp_value_core.specs.declared.types.amqp_type.AMQPType.{AMQPType}
 use Rattle.amqp_value_core.specs.declared.types.amqp_type.AMQPType.TheVariants as amqp
 use Rattle.amqp_value_core.specs.Values.{Tree, Entries}
 use Rattle.amqp_value_core.specs.Maps.{value_at, last_at}
-use Rattle.amqp_value_core.specs.Grammar.{long_field}
 use Rattle.amqp_value_core.proofs.GrammarLaws.{rising_mean}
 use Rattle.amqp_in_place.specs.declared.refs.TableRef.{TableRef}
 use Rattle.amqp_in_place.specs.declared.refs.ValueRef.{ValueRef}
@@ -20,7 +19,8 @@ use Rattle.amqp_in_place.specs.Bodies.{HasEntries}
 use Rattle.amqp_in_place.specs.Refs.{array_body, table_body, Denotes}
 use Rattle.amqp_in_place.specs.Walks.{FoundBy, FoundIs}
 use Rattle.amqp_in_place.specs.Places.{IsFramed, IsViewIn, IsViewWithin}
-use Rattle.amqp_in_place.specs.Paths.{pair_at, at_step, at_path, StepsTo, LeadsTo, content}
+use Rattle.amqp_in_place.proofs.Places.{view_parts}
+use Rattle.amqp_in_place.specs.Paths.{value_of_pair, at_step, at_path, StepsTo, LeadsTo, content}
 
 -- ---- one step
 
@@ -29,8 +29,8 @@ pub last_found : (of : EqualKeys) (k : Bor (List ℕ)) (b : TableRef) (result : 
     → ((es : Entries) → HasEntries (table_body b) es → FoundIs (value_at k.now es) result) → (v : Tree) → Denotes (at.FieldTable b) v → FoundIs (at_step of (step.Key k) v) result
 last_found of k b result is found v (es, p, e) =
     let same : value_at k.now es ≡ last_at k.now es = (rising_mean es p.2.rising).last k.now in
-    let here : FoundIs (pair_at equal.Last k.now es) result = subst (λ (o : Option Tree). FoundIs o result) same (found es p) in
-    subst (λ (u : Tree). FoundIs (at_step of (step.Key k) u) result) (sym e) (subst (λ (o : EqualKeys). FoundIs (pair_at o k.now es) result) (sym is) here)
+    let here : FoundIs (value_of_pair equal.Last k.now es) result = subst (λ (o : Option Tree). FoundIs o result) same (found es p) in
+    subst (λ (u : Tree). FoundIs (at_step of (step.Key k) u) result) (sym e) (subst (λ (o : EqualKeys). FoundIs (value_of_pair o k.now es) result) (sym is) here)
 
 -- ---- the path
 
@@ -71,17 +71,9 @@ leads-next of path r i j d here next few after before steps = λ end x.
 
 -- what is in a part of some bytes is in them
 is_in_before_more : (s more rest : List ℕ) (r : ValueRef) → IsViewIn s r rest → IsViewIn (s ++ more) r (rest ++ more)
-is_in_before_more s more rest r x = by r x
-  where
-    framed : (type : AMQPType) (body : List ℕ) → IsFramed type s body rest → IsFramed type (s ++ more) body (rest ++ more)
-    framed type body f = (f.0, f.1, f.2, ap (λ (t : List ℕ). t ++ more) f.3 ∙ ap (λ (t : List ℕ). f.0 ∷ t) (append_assoc (long_field body) rest more))
-
-    by : (r : ValueRef) → IsViewIn s r rest → IsViewIn (s ++ more) r (rest ++ more)
-    by (at.LongString b) y = framed amqp.LongString b.now y
-    by (at.ByteArray b) y = framed amqp.ByteArray b.now y
-    by (at.FieldArray a) y = framed amqp.FieldArray (array_body a) y
-    by (at.FieldTable t) y = framed amqp.FieldTable (table_body t) y
-    by _ y = (y.0, y.1, ap (λ (t : List ℕ). t ++ more) y.2 ∙ append_assoc y.0 rest more)
+is_in_before_more s more rest r x =
+    let (w, e, view) = view_parts s r rest x in
+    subst (λ (t : List ℕ). IsViewIn t r (rest ++ more)) (sym (ap (λ (t : List ℕ). t ++ more) e ∙ append_assoc w rest more)) (view (rest ++ more))
 
 within_part : (before part after : List ℕ) (r : ValueRef) → IsViewWithin part r → IsViewWithin (before ++ (part ++ after)) r
 within_part before part after r (ahead, tail, rest, e, x) = (

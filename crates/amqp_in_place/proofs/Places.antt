@@ -75,19 +75,23 @@ inside s (head.FieldArray i) _ rest is e = absurd e
 inside s (head.FieldTable i) (at.FieldTable t) rest is e = subst (λ (u : List ℕ). IsFramed amqp.FieldTable s u rest) (sym e) (table_is_in s i rest is)
 inside s (head.FieldTable i) _ rest is e = absurd e
 
--- what is inside the bytes leaves the rest of them
-is_in_before : (s : List ℕ) (r : ValueRef) (rest : List ℕ) → IsViewIn s r rest → IsLeft s rest
-is_in_before s r rest x = by r x
+-- what refers to the start of s does so whatever is after it
+pub view_parts : (s : List ℕ) (r : ValueRef) (rest : List ℕ) → IsViewIn s r rest → (w : List ℕ) × (s ≡ w ++ rest) × ((t : List ℕ) → IsViewIn (w ++ t) r t)
+view_parts s r rest x = by r x
   where
-    after : (type : AMQPType) (body : List ℕ) → IsFramed type s body rest → IsLeft s rest
-    after type body f = (f.0 ∷ long_field body, f.3)
+    after : (type : AMQPType) (body : List ℕ) → IsFramed type s body rest → (w : List ℕ) × (s ≡ w ++ rest) × ((t : List ℕ) → IsFramed type (w ++ t) body t)
+    after type body f = (f.0 ∷ long_field body, f.3, λ t. (f.0, f.1, f.2, refl))
 
-    by : (r : ValueRef) → IsViewIn s r rest → IsLeft s rest
+    by : (r : ValueRef) → IsViewIn s r rest → (w : List ℕ) × (s ≡ w ++ rest) × ((t : List ℕ) → IsViewIn (w ++ t) r t)
     by (at.LongString b) y = after amqp.LongString b.now y
     by (at.ByteArray b) y = after amqp.ByteArray b.now y
     by (at.FieldArray a) y = after amqp.FieldArray (array_body a) y
     by (at.FieldTable t) y = after amqp.FieldTable (table_body t) y
-    by _ y = (y.0, y.2)
+    by _ y = (y.0, y.2, λ t. (y.0, y.1, refl))
+
+-- so the rest of the bytes is left
+is_in_before : (s : List ℕ) (r : ValueRef) (rest : List ℕ) → IsViewIn s r rest → IsLeft s rest
+is_in_before s r rest x = let f = view_parts s r rest x in (f.0, f.1)
 
 -- what is left of what is left
 pub left_of_left : (s mid rest : List ℕ) → IsLeft s mid → IsLeft mid rest → IsLeft s rest

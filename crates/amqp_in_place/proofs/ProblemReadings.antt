@@ -28,7 +28,7 @@ use Rattle.amqp_in_place.specs.declared.problems.Rules.{Rules}
 use Rattle.amqp_in_place.specs.declared.problems.Rules.TheVariants.{Reading as ByReading, AnyKeys as ByAnyKeys}
 use Rattle.amqp_in_place.specs.Problems.{Search, here, further, in_entries, in_payload, in_value, in_pair, pair_len, inside, problem_of, problem_in_table_of, without_tag}
 use Rattle.amqp_in_place.specs.ProblemResults.{FindsValue, FailsAt}
-use Rattle.amqp_in_place.proofs.AnyKeys.{none_of_any_keys}
+use Rattle.amqp_in_place.proofs.AnyKeys.{none_of_any_keys, no_fixed_problem}
 use Rattle.amqp_in_place.proofs.Canonicals.{no_short_letter}
 use Rattle.amqp_in_place.proofs.FirstProblems.{counted_there, entry_passed, entry_stops, first_there}
 
@@ -226,15 +226,6 @@ framed_tells mean c len b x is there h = by x (mean (take (counted w32 b) (drop 
     by None None h = absurd h
     by (Some p) (Some v) h = absurd h
 
--- in a payload of fixed width is no problem
-fixed_sound : (d : ℕ) (type : AMQPType) (f : Layout) (b : List ℕ) → fixed type ≡ Some f → inside ByReading d type b ≡ None
-fixed_sound d amqp.ShortString f b row = absurd cc
-fixed_sound d amqp.LongString f b row = absurd cc
-fixed_sound d amqp.ByteArray f b row = absurd cc
-fixed_sound d amqp.FieldArray f b row = absurd cc
-fixed_sound d amqp.FieldTable f b row = absurd cc
-fixed_sound d _ f b row = refl
-
 -- a type with a length field has it in four bytes, but for short strings
 four_bytes : (type : AMQPType) → fixed type ≡ None → type ≢ amqp.ShortString → length_field type ≡ w32
 four_bytes amqp.ShortString row long = absurd (long refl)
@@ -292,7 +283,7 @@ whole_tells : (d : ℕ) → FieldsMean d → (c : ℕ) (type : AMQPType) (b : Li
     → extent_of o (length_field type) b ≤ length b
     → ProblemExplains (suc (extent_of o (length_field type) b)) (c ∷ b) (by_layout d type b o) (inside ByReading d type (take (extent_of o (length_field type) b) b))
 whole_tells d mean c type b bytes long (Some f) row there =
-    rw (fixed_sound d type f (take f.width b) row) (scalar (f.denotes (take f.width b)), refl, omega arith, omega arith)
+    rw (no_fixed_problem ByReading d type f (take f.width b) refl row) (scalar (f.denotes (take f.width b)), refl, omega arith, omega arith)
 whole_tells d mean c type b bytes long None row there =
     subst (λ (w : Width). extent_of None w b ≤ length b
     → ProblemExplains (suc (extent_of None w b)) (c ∷ b) (framed w (meaning d type) b) (inside ByReading d type (take (extent_of None w b) b))) (sym (four_bytes type row long))

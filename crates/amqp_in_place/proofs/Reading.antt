@@ -8,9 +8,10 @@ use Rattle.amqp_value_core.specs.Payloads.{RawOutcome}
 use Rattle.amqp_value_core.specs.Outcomes.{Outcome}
 use Rattle.amqp_value_core.proofs.GrammarLaws.{unlimited, prefix_within}
 use Rattle.amqp_in_place.specs.InPlaceResults.{IsLeft}
+use Rattle.amqp_in_place.proofs.Refusals.{by_outcome}
 use Rattle.amq_protocol_types.specs.declared.parsing.errors.Err.TheVariants.{Incomplete, Error, Failure}
-use Rattle.amq_protocol_types.specs.declared.parsing.errors.Needed.TheVariants.{Unknown, Size}
-use Rattle.amq_protocol_types.specs.declared.parsing.errors.ErrorKind.TheVariants.{MapOpt, MapRes, Eof, OutOfMemory, TooLarge}
+use Rattle.amq_protocol_types.specs.declared.parsing.errors.Needed.TheVariants.{Size}
+use Rattle.amq_protocol_types.specs.declared.parsing.errors.ErrorKind.TheVariants.{MapRes}
 use Rattle.amq_protocol_types.specs.parsing.Refusals.{Refusal, inside}
 use Rattle.amq_protocol_types.specs.parsing.ParseResults.{IsRefusal}
 use Rattle.amq_protocol_types.specs.parsing.Bodies.{IsNoBody, IsNoTable}
@@ -50,14 +51,9 @@ no_key_there d s es rest g h x = TableBodyRead-bad_key d s es rest (Error MapRes
 
 pub bad_key : (d : ℕ) (s : List ℕ) (es : Entries) (rest : List ℕ) (e : Refusal) → TableBodyRead d s es rest → 0 < length rest
     → IsRefusal (RawOutcome amqp.ShortString rest) ⊥ e → IsNoTable d s malformed
-bad_key d s es rest (Incomplete Unknown) g h x = absurd x
-bad_key d s es rest (Incomplete (Size n)) g h x = TableBodyRead-bad_key d s es rest (Incomplete (Size n)) g h x
-bad_key d s es rest (Error Eof) g h x = no_key_there d s es rest g h x
-bad_key d s es rest (Error MapOpt) g h x = absurd x
-bad_key d s es rest (Error MapRes) g h x = absurd x
-bad_key d s es rest (Error OutOfMemory) g h x = absurd x
-bad_key d s es rest (Error TooLarge) g h x = absurd x
-bad_key d s es rest (Failure k) g h x = absurd x.1
+bad_key d s es rest e g h x =
+    by_outcome (λ (e : Refusal). IsNoTable d s malformed) (RawOutcome amqp.ShortString rest) ⊥ (λ n y. TableBodyRead-bad_key d s es rest (Incomplete (Size n)) g h y)
+    (λ y. absurd y) (no_key_there d s es rest g h) (λ k h. absurd h) e x
 
 -- a depth that the bytes can't pass limits no error
 pub unlimited_refused : (d : ℕ) (s : List ℕ) (e : Refusal) → d ≡ length s → IsRefusal (OutcomeWithin d s) ⊥ e → IsRefusal (Outcome s) ⊥ e

@@ -1,5 +1,6 @@
 -- Keys that occur more than once, and keys that are ascending.
 use Rattle.std.proofs.Common.{◌≡◌, ◌<◌, ◌≤◌, ◌+◌, ◌↔◌, ℕ, Bool, true, false, cond, List, Option, Some, None, refl, sym, ap, ◌∙◌, subst, arith}
+use Rattle.std.specs.Prelude.{◌||◌}
 use Rattle.std.specs.List.{list_any}
 use Rattle.std.specs.Borrow.{Bor}
 use Rattle.std.specs.Ordering.{nat_cmp, is_eq}
@@ -26,23 +27,18 @@ one_if b = cond b 1 0
 
 -- ---- keys that are ascending occur once
 
--- a key below the first of sorted keys isn't one of them
-times-below : (j k : List ℕ) (ps : Entries) → slice_cmp nat_cmp j k ≡ Less → ComesBefore k ps → IsRising ps → times_at j ps ≡ 0
-times-below j k no_entries less before rises = refl
-times-below j k (entry i v ps) less before rises =
-    let far = nat_list_cmp_total.trans j k i less before in
-    let apart : same_bytes j i ≡ false = texts_ties j i ∙ ap is_eq far in
-    let here : times_at j (entry i v ps) ≡ 0 + times_at j ps = ap (λ (b : Bool). one_if b + times_at j ps) apart in
-    let others = times-below j i ps far rises.0 rises.1 in
-    omega (arith, here, others)
+-- a key below one that comes before some keys does too
+comes-below : (j k : List ℕ) (ps : Entries) → slice_cmp nat_cmp j k ≡ Less → ComesBefore k ps → ComesBefore j ps
+comes-below j k no_entries less before = tt
+comes-below j k (entry i v ps) less before = nat_list_cmp_total.trans j k i less before
 
--- nor is one that comes before them
+-- a key that comes before sorted keys isn't one of them
 times-before : (j : List ℕ) (ps : Entries) → ComesBefore j ps → IsRising ps → times_at j ps ≡ 0
 times-before j no_entries before rises = refl
 times-before j (entry k v ps) before rises =
     let apart : same_bytes j k ≡ false = texts_ties j k ∙ ap is_eq before in
     let here : times_at j (entry k v ps) ≡ 0 + times_at j ps = ap (λ (b : Bool). one_if b + times_at j ps) apart in
-    let others = times-below j k ps before rises.0 rises.1 in
+    let others = times-before j ps (comes-below j k ps before rises.0) rises.1 in
     omega (arith, here, others)
 
 pub rising_once : (ps : Entries) → IsRising ps → (k : List ℕ) → times_at k ps ≤ 1
@@ -119,6 +115,21 @@ has t k = contains_by (λ (j : Bor (List ℕ)). slice_cmp nat_cmp k j.now) t
 abbrev pub by_bytes : Bor (List ℕ) → Bor (List ℕ) → Ordering
 by_bytes x y = slice_cmp nat_cmp x.now y.now
 
+-- a set into which a key is put has it, and what it had
+pub has_put : (t u : BTreeSet (Bor (List ℕ))) (x : Bor (List ℕ)) → Updates by_bytes t u x true → (k : List ℕ) → has u k ≡ (same_bytes k x.now || has t k)
+has_put t u x updates k = by (same_bytes k x.now) refl
+  where
+    other : (b : Bool) → same_bytes k x.now ≡ false → same_bytes x.now k ≡ b → b ≡ false
+    other true is e = absurd (false≢true (sym is ∙ (bytes_decides k x.now).1 (sym ((bytes_decides x.now k).0 e))))
+    other false is e = refl
+
+    by : (b : Bool) → same_bytes k x.now ≡ b → has u k ≡ (b || has t k)
+    by true is = ap (has u) ((bytes_decides k x.now).0 is) ∙ updates.1
+    by false is =
+        let q : Bor (List ℕ) = record { ref_ptr = (0, 0); now = k } in
+        let apart : is_at (by_bytes x) q ≡ false = sym (texts_ties x.now k) ∙ other (same_bytes x.now k) is refl in
+        updates.2 q apart
+
 -- a key occurs once more than among the pairs that are left if the set has it
 abbrev pub KeysAreSeen : List ℕ → List ℕ → BTreeSet (Bor (List ℕ)) → Type 0
 KeysAreSeen s rest t = (ps : Entries) → TableBody s ps → (qs : Entries) × TableBody rest qs × ((k : List ℕ) → times_at k ps ≡ one_if (has t k) + times_at k qs)
@@ -142,20 +153,16 @@ module _ (s rest : List ℕ) (t : BTreeSet (Bor (List ℕ))) (seen : KeysAreSeen
       by at.0 (next at.0 at.1) at.2
     where
       count : (k : List ℕ) (b : Bool) → same_bytes k x.0.now ≡ b → one_if (has t k) + one_if b ≡ one_if (has u k)
-      count k true is =
-          let e : k ≡ x.0.now = (bytes_decides k x.0.now).0 is in
-          let old : one_if (has t k) ≡ 0 = ap one_if (ap (has t) e ∙ new) in
-          let now : one_if (has u k) ≡ 1 = ap one_if (ap (has u) e ∙ updates.1) in
-          omega (arith, old, now)
-      count k false is =
-          let q : Bor (List ℕ) = record { ref_ptr = (0, 0); now = k } in
-          let apart : is_at (by_bytes x.0) q ≡ false = sym (texts_ties x.0.now k) ∙ other (same_bytes x.0.now k) refl in
-          let stays : one_if (has u k) ≡ one_if (has t k) = ap one_if (updates.2 q apart) in
-          omega (arith, stays)
+      count k b is =
+          let put : has u k ≡ (b || has t k) = has_put t u x.0 updates k ∙ ap (λ (c : Bool). c || has t k) is in
+          by b is put
         where
-          other : (b : Bool) → same_bytes x.0.now k ≡ b → b ≡ false
-          other true e = absurd (false≢true (sym is ∙ (bytes_decides k x.0.now).1 (sym ((bytes_decides x.0.now k).0 e))))
-          other false e = refl
+          by : (b : Bool) → same_bytes k x.0.now ≡ b → has u k ≡ (b || has t k) → one_if (has t k) + one_if b ≡ one_if (has u k)
+          by true is put =
+              let old : one_if (has t k) ≡ 0 = ap one_if (ap (has t) ((bytes_decides k x.0.now).0 is) ∙ new) in
+              let now : one_if (has u k) ≡ 1 = ap one_if put in
+              omega (arith, old, now)
+          by false is put = let stays : one_if (has u k) ≡ one_if (has t k) = ap one_if put in omega (arith, stays)
 
       by : {n : List ℕ → ℕ} (qs : Entries) → NextPairIs qs (Some x) → ((k : List ℕ) → n k ≡ one_if (has t k) + times_at k qs)
           → (rs : Entries) × TableBody (slice_bytes x.2) rs × ((k : List ℕ) → n k ≡ one_if (has u k) + times_at k rs)

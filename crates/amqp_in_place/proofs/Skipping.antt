@@ -23,7 +23,7 @@ use Rattle.amqp_in_place.specs.Heads.{IsHead, AtAnyDepth}
 use Rattle.amqp_in_place.proofs.HeadLemmas.{plain_read}
 
 -- the extent of a length-prefixed field is that of a long string with the same bytes
-frame_extent : (s mid body rest : List ℕ) (type : AMQPType) → IsType s type mid → IsLengthPrefixed mid body rest → extent_at (Some type) mid ≡ suc (extent_of None w32 mid)
+pub frame_extent : (s mid body rest : List ℕ) (type : AMQPType) → IsType s type mid → IsLengthPrefixed mid body rest → extent_at (Some type) mid ≡ suc (extent_of None w32 mid)
     → extent s + length rest ≡ length s
 frame_extent s mid body rest type p f is =
     let string = wire_extent (83 ∷ long_field body) rest (long body) (wire 83 amqp.LongString (long_field body) (long body) refl (raw_long body f.fits)) in

@@ -9,16 +9,13 @@ use Rattle.std.specs.Borrow.{Bor}
 use Rattle.amqp_value_core.specs.Strings.{IsShort}
 use Rattle.amqp_value_core.specs.declared.types.amqp_type.AMQPType.TheVariants as amqp
 use Rattle.amqp_value_core.specs.Values.{Tree, Trees, tree, Entries, entry, short}
-use Rattle.amqp_value_core.specs.Grammar.{short_field, Wire, raw_short, ArrayBody, no_values, value, TableBody, no_pairs, pair}
+use Rattle.amqp_value_core.specs.Grammar.{short_field, raw_short, ArrayBody, no_values, value, TableBody, no_pairs, pair}
 use Rattle.amqp_value_core.specs.Nesting.{nesting, OutcomeWithin}
-use Rattle.amqp_value_core.specs.Outcomes.{Reading, found, more, unknown, malformed, Outcome}
+use Rattle.amqp_value_core.specs.Outcomes.{Reading, found, more, unknown, malformed}
 use Rattle.amqp_value_core.specs.Payloads.{RawOutcome}
-use Rattle.amqp_value_core.proofs.GrammarLaws.{wire_within, length-wire, found_prefix, one_outcome_within, one_raw_reading, one_raw_outcome, raw_found, wire_found_within, short_bytes}
+use Rattle.amqp_value_core.proofs.GrammarLaws.{wire_within, length-wire, one_outcome_within, one_raw_reading, one_raw_outcome, raw_found, wire_found_within, short_bytes}
 use Rattle.amqp_value_core.specs.Inputs.{slice_bytes}
 use Rattle.amqp_value_core.specs.declared.input.SliceInput.{SliceInput}
-use Rattle.amq_protocol_types.specs.declared.parsing.errors.Err.TheVariants.{Incomplete, Error, Failure}
-use Rattle.amq_protocol_types.specs.declared.parsing.errors.Needed.TheVariants.{Unknown, Size}
-use Rattle.amq_protocol_types.specs.declared.parsing.errors.ErrorKind.TheVariants.{MapOpt, MapRes, Eof, OutOfMemory, TooLarge}
 use Rattle.amq_protocol_types.specs.parsing.Refusals.{Refusal}
 use Rattle.amq_protocol_types.specs.parsing.ParseResults.{IsRefusal}
 use Rattle.amqp_in_place.specs.Bodies.{HasValues, HasPairs}
@@ -30,6 +27,7 @@ use Rattle.amqp_in_place.specs.InPlaceResults.{HeadRefuses}
 use Rattle.amqp_in_place.specs.Heads.{IsHead, AtAnyDepth, HeadMeans, HeadHasMeaning, IsKeyFrame}
 use Rattle.amqp_in_place.specs.Walks.{HasEncodingAtStart, NextValueIs, NextPairIs}
 use Rattle.amqp_in_place.proofs.HeadLemmas.{only, head_refuses}
+use Rattle.amqp_in_place.proofs.Refusals.{by_outcome}
 
 -- what can't be has one proof at most
 no_prop : IsProp ⊥
@@ -37,25 +35,11 @@ no_prop x y = absurd x
 
 -- if reading finds something it isn't rejected
 pub refusal_of_none : (Is : Reading → Type 0) → ((o : Reading) → Is o → ((v : Tree) (left : List ℕ) → o ≡ found v left → ⊥) → ⊥) → (e : Refusal) → IsRefusal Is ⊥ e → ⊥
-refusal_of_none Is f (Incomplete Unknown) x = x
-refusal_of_none Is f (Incomplete (Size n)) x = f (more n) x (λ v left e. cc)
-refusal_of_none Is f (Error MapOpt) x = f unknown x (λ v left e. cc)
-refusal_of_none Is f (Error Eof) x = f malformed x (λ v left e. cc)
-refusal_of_none Is f (Error MapRes) x = x
-refusal_of_none Is f (Error OutOfMemory) x = x
-refusal_of_none Is f (Error TooLarge) x = x
-refusal_of_none Is f (Failure k) x = x.1
+refusal_of_none Is f e x =
+    by_outcome (λ (e : Refusal). ⊥) Is ⊥ (λ n y. f (more n) y (λ v left e. cc)) (λ y. f unknown y (λ v left e. cc)) (λ y. f malformed y (λ v left e. cc)) (λ k h. h) e x
 
--- a value is at the beginning of s, and `left` after it
-pub record IsAtStart (s : List ℕ) : Type 0 where
-  pub value_there : Tree
-  pub bytes : List ℕ
-  pub left : List ℕ
-  pub is_wire : Wire bytes value_there
-  pub prefix : s ≡ bytes ++ left
-
--- so its head is read
-pub never_refused : (s : List ℕ) (e : Refusal) → IsAtStart s → HeadRefuses (AtAnyDepth s) e → ⊥
+-- the head of an encoding is read
+pub never_refused : (s : List ℕ) (e : Refusal) → HasEncodingAtStart s → HeadRefuses (AtAnyDepth s) e → ⊥
 never_refused s e a x =
     let d = nesting a.bytes a.value_there a.is_wire in
     let here : OutcomeWithin d s (found a.value_there a.left) =
@@ -63,7 +47,7 @@ never_refused s e a x =
     refusal_of_none (AtAnyDepth s) (λ o y other. other a.value_there a.left (one_outcome_within d s o (found a.value_there a.left) (y d) here)) e (head_refuses (AtAnyDepth s) e x)
 
 -- and means it
-meant : (s : List ℕ) (h : Head) (rest : List ℕ) → IsHead s h rest → (a : IsAtStart s) → HeadMeans h a.value_there × (a.left ≡ rest)
+meant : (s : List ℕ) (h : Head) (rest : List ℕ) → IsHead s h rest → (a : HasEncodingAtStart s) → HeadMeans h a.value_there × (a.left ≡ rest)
 meant s h rest is a = only s h rest a.bytes a.left a.value_there is a.is_wire a.prefix
 
 -- the bodies of heads that mean something
@@ -75,26 +59,19 @@ meant_pairs h i is m = ∥∥₁_map (subst (λ (k : Head). ∥ HeadHasMeaning k
 
 -- ---- the value at the start
 
-at_start : (s : List ℕ) (v : Tree) (rest : List ℕ) → Outcome s (found v rest) → IsAtStart s
-at_start s v rest x = let f = found_prefix s rest v x in record { value_there = v; bytes = f.0; left = rest; is_wire = f.1; prefix = f.2 }
-
 -- its head is read
-pub value_there_not_refused : (s : List ℕ) (e : Refusal) → ∥ HasEncodingAtStart s ∥₁ → HeadRefuses (AtAnyDepth s) e → ⊥
-value_there_not_refused s e has x = ∥∥₁_elim has no_prop (λ (p : HasEncodingAtStart s). never_refused s e (at_start s p.0 p.1 p.2) x)
+pub read_there : (s : List ℕ) (e : Refusal) → ∥ HasEncodingAtStart s ∥₁ → HeadRefuses (AtAnyDepth s) e → ⊥
+read_there s e has x = ∥∥₁_elim has no_prop (λ (a : HasEncodingAtStart s). never_refused s e a x)
 
 -- and means it
-pub meaning_at_start : (s : List ℕ) (h : Head) (rest : List ℕ) → IsHead s h rest → (v : Tree) (left : List ℕ) → Outcome s (found v left) → HeadMeans h v
-unfolding at_start
-meaning_at_start s h rest is v left x = (meant s h rest is (at_start s v left x)).0
-
-pub is_meant_at_start : (s : List ℕ) (h : Head) (rest : List ℕ) → IsHead s h rest → ∥ HasEncodingAtStart s ∥₁ → ∥ HeadHasMeaning h ∥₁
-is_meant_at_start s h rest is has = ∥∥₁_map has (λ (p : HasEncodingAtStart s). (p.0, meaning_at_start s h rest is p.0 p.1 p.2))
+pub meant_there : (s : List ℕ) (h : Head) (rest : List ℕ) → IsHead s h rest → ∥ HasEncodingAtStart s ∥₁ → ∥ HeadHasMeaning h ∥₁
+meant_there s h rest is has = ∥∥₁_map has (λ (a : HasEncodingAtStart s). (a.value_there, (meant s h rest is a).0))
 
 -- ---- values
 
 -- the first of some values
 record FirstValue (s : List ℕ) (vs : Trees) : Type 0 where
-  pub at : IsAtStart s
+  pub at : HasEncodingAtStart s
   pub others : Trees
   pub are : vs ≡ tree at.value_there others
   pub more_values : ArrayBody at.left others
@@ -104,18 +81,10 @@ first_value _ _ some no_values = absurd (omega arith)
 first_value _ _ some (value w left v vs p all) =
     record { at = record { value_there = v; bytes = w; left = left; is_wire = p; prefix = refl }; others = vs; are = refl; more_values = all }
 
--- a head is read
-pub value_there : (s : List ℕ) (e : Refusal) → 0 < length s → ∥ HasValues s ∥₁ → HeadRefuses (AtAnyDepth s) e → ⊥
-value_there s e some has x = ∥∥₁_elim has no_prop (λ (p : HasValues s). never_refused s e (first_value s p.0 some p.1).at x)
+pub value_at_start : (s : List ℕ) → 0 < length s → ∥ HasValues s ∥₁ → ∥ HasEncodingAtStart s ∥₁
+value_at_start s some has = ∥∥₁_map has (λ (p : HasValues s). (first_value s p.0 some p.1).at)
 
 module _ (s : List ℕ) (h : Head) (rest : List ℕ) (some : 0 < length s) (is : IsHead s h rest) where
-  -- it means something
-  pub value_meant : ∥ HasValues s ∥₁ → ∥ HeadHasMeaning h ∥₁
-  value_meant has =
-      ∥∥₁_map has (λ (p : HasValues s).
-      let a = (first_value s p.0 some p.1).at in
-      (a.value_there, (meant s h rest is a).0))
-
   -- values are after it
   pub values_after : ∥ HasValues s ∥₁ → (length rest < length s) × ∥ HasValues rest ∥₁
   values_after has = (
@@ -159,7 +128,7 @@ key_there s e some has x =
 -- the first of some pairs, whose key was read: its value is at the beginning of what is after
 -- the key
 record FirstPairStep (s key after : List ℕ) (ps : Entries) : Type 0 where
-  pub at : IsAtStart after
+  pub at : HasEncodingAtStart after
   pub others : Entries
   pub are : ps ≡ entry key at.value_there others
   pub short_key : IsShort key
@@ -185,16 +154,9 @@ module _ (s key after : List ℕ) (f : IsKeyFrame s key after) where
   key_utf8 has =
       IsUtf8-from_is_utf8 key (∥∥₁_elim has (Bool-set _ _) (λ (p : HasPairs s). is_utf8-from_IsUtf8 key (first_pair s key after p.0 f p.1).short_key.utf8))
 
-  -- a head is read after it
-  pub pair_there : (e : Refusal) → ∥ HasPairs s ∥₁ → HeadRefuses (AtAnyDepth after) e → ⊥
-  pair_there e has x = ∥∥₁_elim has no_prop (λ (p : HasPairs s). never_refused after e (first_pair s key after p.0 f p.1).at x)
-
-  -- it means something
-  pub pair_meant : (h : Head) (rest : List ℕ) → IsHead after h rest → ∥ HasPairs s ∥₁ → ∥ HeadHasMeaning h ∥₁
-  pair_meant h rest is has =
-      ∥∥₁_map has (λ (p : HasPairs s).
-      let a = (first_pair s key after p.0 f p.1).at in
-      (a.value_there, (meant after h rest is a).0))
+  -- an encoding is after it
+  pub pair_at_start : ∥ HasPairs s ∥₁ → ∥ HasEncodingAtStart after ∥₁
+  pair_at_start has = ∥∥₁_map has (λ (p : HasPairs s). (first_pair s key after p.0 f p.1).at)
 
   -- pairs are after it
   pub pairs_after : (h : Head) (rest : List ℕ) → IsHead after h rest → ∥ HasPairs s ∥₁ → (length rest < length s) × ∥ HasPairs rest ∥₁

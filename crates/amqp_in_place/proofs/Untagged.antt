@@ -1,25 +1,21 @@
 -- Tables without their type tag.
-use Rattle.std.proofs.Common.{◌≡◌, ◌<◌, ◌≤◌, ◌-◌, ℕ, zero, suc, List, refl, arith, subst, sym}
+use Rattle.std.proofs.Common.{◌≡◌, ◌<◌, ◌≤◌, ℕ, zero, suc, List, refl, arith, subst, sym}
 use Rattle.std.specs.Int.{w32}
 use Rattle.amqp_value_core.specs.declared.types.amqp_type.AMQPType.TheVariants as amqp
-use Rattle.amqp_value_core.specs.Values.{Entries, table}
 use Rattle.amqp_value_core.specs.Nesting.{OutcomeWithin}
-use Rattle.amqp_value_core.specs.Outcomes.{Reading, found, more, malformed, frame_lack, needs_more}
+use Rattle.amqp_value_core.specs.Outcomes.{Reading, more, frame_lack, needs_more}
 use Rattle.amqp_value_core.specs.Inputs.{slice_bytes}
 use Rattle.amqp_value_core.specs.declared.input.SliceInput.{SliceInput}
-use Rattle.amq_protocol_types.specs.declared.parsing.errors.Err.TheVariants.{Incomplete, Error, Failure}
-use Rattle.amq_protocol_types.specs.declared.parsing.errors.Needed.TheVariants.{Unknown, Size}
-use Rattle.amq_protocol_types.specs.declared.parsing.errors.ErrorKind.TheVariants.{MapOpt, MapRes, Eof, OutOfMemory, TooLarge}
 use Rattle.amq_protocol_types.specs.declared.parsing.limits.Limits.{Limits}
 use Rattle.amq_protocol_types.specs.parsing.Refusals.{Refusal}
 use Rattle.amq_protocol_types.specs.parsing.ParseResults.{IsRefusal}
-use Rattle.amq_protocol_types.specs.parsing.Bodies.{IsLengthPrefixed, IsCutLengthPrefixed, IsTable, IsNoTable}
+use Rattle.amq_protocol_types.specs.parsing.Bodies.{IsLengthPrefixed, IsCutLengthPrefixed}
 use Rattle.amq_protocol_types.specs.parsing.Headers.{extent}
-use Rattle.amq_protocol_types.specs.parsing.Untagged.{tagged, UntaggedWithin, RefusesUntagged}
+use Rattle.amq_protocol_types.specs.parsing.Untagged.{tagged, RefusesUntagged}
 use Rattle.amqp_in_place.specs.declared.head.Head.TheVariants as head
 use Rattle.amqp_in_place.specs.Heads.{IsHead}
 use Rattle.amqp_in_place.specs.InPlaceResults.{NeedsNoMemory}
-use Rattle.amqp_in_place.proofs.HeadLemmas.{table_read, table_bad, table_deep}
+use Rattle.amqp_in_place.proofs.Refusals.{by_outcome}
 
 -- after its type tag the table is what the head of a value is
 pub table_head : (s : List ℕ) (i : SliceInput) (rest : List ℕ) → IsLengthPrefixed s (slice_bytes i) rest → IsHead (tagged amqp.FieldTable s) (head.FieldTable i) rest
@@ -36,22 +32,6 @@ lacking d s o x = subst (OutcomeWithin d (tagged amqp.FieldTable s)) (sym x.1) (
 -- the error of the length-prefixed field is the table's, and needs no memory
 pub cut_table : (l : Limits) (s : List ℕ) (e : Refusal) → extent (tagged amqp.FieldTable s) ≤ l.frame → IsRefusal (IsCutLengthPrefixed s) ⊥ e
     → RefusesUntagged l amqp.FieldTable s e × NeedsNoMemory e
-cut_table l s (Incomplete Unknown) fits x = absurd x
-cut_table l s (Incomplete (Size n)) fits x = ((fits, lacking l.depth s (more n) x), tt)
-cut_table l s (Error MapOpt) fits x = absurd (let e = x.1 in cc)
-cut_table l s (Error Eof) fits x = absurd (let e = x.1 in cc)
-cut_table l s (Error MapRes) fits x = absurd x
-cut_table l s (Error OutOfMemory) fits x = absurd x
-cut_table l s (Error TooLarge) fits x = absurd x
-cut_table l s (Failure k) fits x = absurd x.1
-
--- a table is read if its body is pairs, and rejected if it isn't, or if no container may be
-module _ (l : Limits) (s : List ℕ) (i : SliceInput) (rest : List ℕ) (f : IsLengthPrefixed s (slice_bytes i) rest) (fits : extent (tagged amqp.FieldTable s) ≤ l.frame) where
-  pub untagged_read : (es : Entries) → 0 < l.depth → IsTable (l.depth - 1) (slice_bytes i) es → UntaggedWithin l amqp.FieldTable s (found (table es) rest)
-  untagged_read es some x = (fits, table_read l.depth (tagged amqp.FieldTable s) i rest (table_head s i rest f) es some x)
-
-  pub untagged_bad : IsNoTable (l.depth - 1) (slice_bytes i) malformed → UntaggedWithin l amqp.FieldTable s malformed
-  untagged_bad x = (fits, table_bad l.depth (tagged amqp.FieldTable s) i rest (table_head s i rest f) x)
-
-  pub untagged_deep : l.depth ≡ 0 → UntaggedWithin l amqp.FieldTable s malformed
-  untagged_deep none = (fits, table_deep l.depth (tagged amqp.FieldTable s) i rest (table_head s i rest f) none)
+cut_table l s e fits x =
+    by_outcome (λ (e : Refusal). RefusesUntagged l amqp.FieldTable s e × NeedsNoMemory e) (IsCutLengthPrefixed s) ⊥ (λ n y. ((fits, lacking l.depth s (more n) y), tt))
+    (λ y. absurd (let e = y.1 in cc)) (λ y. absurd (let e = y.1 in cc)) (λ k h. absurd h) e x

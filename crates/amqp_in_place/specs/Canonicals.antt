@@ -1,5 +1,5 @@
 -- Canonical encodings at the start of bytes.
-use Rattle.std.specs.Prelude.{ℕ, ◌≤◌, ◌≡◌, ◌≢◌, Option, Some, None, List, [], ◌∷◌, ◌++◌, length}
+use Rattle.std.specs.Prelude.{ℕ, ◌<◌, ◌≤◌, ◌-◌, ◌≡◌, ◌≢◌, Option, Some, None, List, [], ◌∷◌, ◌++◌, length}
 use Rattle.std.specs.Borrow.{Bor}
 use Rattle.std.specs.Ordering.{nat_cmp}
 use Rattle.std.specs.Cmp.Lexicographic.{slice_cmp}
@@ -10,8 +10,11 @@ use Rattle.amqp_value_core.specs.Outcomes.{found}
 use Rattle.amqp_value_core.specs.Texts.{text}
 use Rattle.amqp_value_core.specs.Members.{greatest_depth, entries_depth, CanonBody, CanonPairs}
 use Rattle.amqp_value_core.specs.Canonical.{IsStrict, Canon}
+use Rattle.amqp_value_core.specs.Inputs.{slice_bytes}
 use Rattle.amq_protocol_types.specs.declared.parsing.limits.Limits.{Limits}
 use Rattle.amq_protocol_types.specs.parsing.Limits.{Within}
+use Rattle.amqp_in_place.specs.declared.head.Head.{Head}
+use Rattle.amqp_in_place.specs.declared.head.Head.TheVariants as head
 
 -- the first n bytes of s are the canonical encoding of a value that is read within the limits
 abbrev pub IsCanonicalLen : Limits → List ℕ → ℕ → Type 0
@@ -46,6 +49,13 @@ AreAbove (Some j) es = ComesBefore j.now es
 -- the bytes are pairs one after another in a canonical encoding, that go on from a key
 abbrev pub CanonEntries : ℕ → Option (Bor (List ℕ)) → List ℕ → Type 0
 CanonEntries d j s = (es : Entries) × CanonPairs s es × AreAbove j es × (entries_depth es ≤ d)
+
+-- the body of the container that the head is of, if it is one, is canonical, and containers nest at most
+-- d deep in the value
+abbrev pub HasCanonicalBody : ℕ → Head → Type 0
+HasCanonicalBody d (head.Plain r) = Unit {0}
+HasCanonicalBody d (head.FieldArray i) = (0 < d) × CanonValues (d - 1) (slice_bytes i)
+HasCanonicalBody d (head.FieldTable i) = (0 < d) × CanonEntries (d - 1) None (slice_bytes i)
 
 -- no alternate tag is first, and after a boolean's 0 or 1
 abbrev pub IsFirstSpelling : List ℕ → Type 0

@@ -1,15 +1,15 @@
 -- What is after a type tag, one level deep.
-use Rattle.std.specs.Prelude.{ℕ, ◌≤◌, ◌≡◌, List, length, ◌++◌}
+use Rattle.std.specs.Prelude.{ℕ, ◌<◌, ◌≤◌, ◌≡◌, ◌-◌, List, length, ◌++◌}
 use Rattle.amqp_value_core.specs.declared.types.amqp_type.AMQPType.{AMQPType}
 use Rattle.amqp_value_core.specs.declared.types.amqp_type.AMQPType.TheVariants as amqp
 use Rattle.amqp_value_core.specs.Values.{Tree, Trees, Entries, array, table}
 use Rattle.amqp_value_core.specs.Grammar.{ArrayBody, short_field}
 use Rattle.amqp_value_core.specs.Outcomes.{Reading, found}
 use Rattle.amqp_value_core.specs.Payloads.{RawOutcome}
-use Rattle.amqp_value_core.specs.Nesting.{OutcomeWithin}
+use Rattle.amqp_value_core.specs.Nesting.{BodyWithin, OutcomeWithin}
 use Rattle.amqp_value_core.specs.Inputs.{slice_bytes}
 use Rattle.amq_protocol_types.specs.parsing.PayloadResults.{IsType}
-use Rattle.amq_protocol_types.specs.parsing.Bodies.{IsLengthPrefixed}
+use Rattle.amq_protocol_types.specs.parsing.Bodies.{IsLengthPrefixed, IsTable}
 use Rattle.amqp_in_place.specs.declared.head.Head.{Head}
 use Rattle.amqp_in_place.specs.declared.head.Head.TheVariants as head
 use Rattle.amqp_in_place.specs.declared.refs.ValueRef.{ValueRef}
@@ -42,6 +42,13 @@ IsHead s h rest = (type : AMQPType) × (mid : List ℕ) × IsType s type mid × 
 -- whatever the limit on depth is, reading s results in o
 abbrev pub AtAnyDepth : List ℕ → Reading → Type 0
 AtAnyDepth s o = (d : ℕ) → OutcomeWithin d s o
+
+-- the body of the container that the head is of, if it is one, is values or pairs, and containers nest
+-- at most d deep in the value
+abbrev pub HasValidBody : ℕ → Head → Type 0
+HasValidBody d (head.Plain r) = Unit {0}
+HasValidBody d (head.FieldArray i) = (0 < d) × (vs : Trees) × BodyWithin (d - 1) (slice_bytes i) vs
+HasValidBody d (head.FieldTable i) = (0 < d) × (es : Entries) × IsTable (d - 1) (slice_bytes i) es
 
 -- v is what the head means
 abbrev pub HeadMeans : Head → Tree → Type 0

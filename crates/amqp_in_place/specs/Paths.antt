@@ -13,29 +13,31 @@ use Rattle.amqp_in_place.specs.Keys.{first_at}
 use Rattle.amqp_in_place.specs.Encoded.{EncodedValues, EncodedPairs}
 use Rattle.amqp_in_place.specs.Walks.{ViewIs, tree_at}
 
--- the value of the pair with the key that counts
-abbrev pub pair_at : EqualKeys → List ℕ → Entries → Option Tree
-pair_at equal.First k ps = first_at k ps
-pair_at equal.Last k ps = last_at k ps
+-- the value of the first or the last of the pairs with the key
+abbrev pub value_of_pair : EqualKeys → List ℕ → Entries → Option Tree
+value_of_pair equal.First k ps = first_at k ps
+value_of_pair equal.Last k ps = last_at k ps
 
--- what a step leads to: a key in a table, or a position in an array
+-- what a step leads to: a key of a table, or a position of an array. A key that isn't there leads nowhere,
+-- as does a position past the end, a key in anything but a table, and a position in anything but an array
 abbrev pub at_step : EqualKeys → PathStep → Tree → Option Tree
-at_step of (step.Key k) (table ps) = pair_at of k.now ps
+at_step of (step.Key k) (table ps) = value_of_pair of k.now ps
 at_step of (step.Index n) (array vs) = tree_at n vs
 at_step of _ _ = None
 
--- what a path leads to: step by step, and no steps to the value itself
+-- what a path leads to, step by step: nowhere if a step does, and an empty path to the value itself
 abbrev pub at_path : EqualKeys → List PathStep → Tree → Option Tree
 at_path of [] v = Some v
 at_path of (s ∷ path) v = option_and_then (at_path of path) (at_step of s v)
 
--- a step leads from a view to another: that of exactly the encoding at the key, or at the position
+-- a step leads from a view to another: to that of exactly the encoding at the key of a table, or at the
+-- position of an array, and nowhere from anything else
 abbrev pub StepsTo : EqualKeys → PathStep → ValueRef → ValueRef → Type 0
-StepsTo of (step.Key k) (at.FieldTable t) r = (es : Entries) → EncodedPairs (table_body t) es → ViewIs (pair_at of k.now es) (Some r)
+StepsTo of (step.Key k) (at.FieldTable t) r = (es : Entries) → EncodedPairs (table_body t) es → ViewIs (value_of_pair of k.now es) (Some r)
 StepsTo of (step.Index n) (at.FieldArray a) r = (es : Trees) → EncodedValues (array_body a) es → ViewIs (tree_at n es) (Some r)
 StepsTo of _ _ r = ⊥
 
--- and so does a path, step by step
+-- a path leads from a view to another, step by step, and an empty one to the view itself
 abbrev pub LeadsTo : EqualKeys → List PathStep → ValueRef → ValueRef → Type 0
 LeadsTo of [] q r = r ≡ q
 LeadsTo of (s ∷ path) q r = (next : ValueRef) × StepsTo of s q next × LeadsTo of path next r

@@ -2,6 +2,7 @@
 -- has it; by those of any keys a key is any bytes; and by RabbitMQ's besides, for which it closes the
 -- connection, `U` is no type tag, and a Float or a Double is a finite number.
 use Rattle.std.specs.Prelude.{ℕ, zero, suc, ◌+◌, ◌-◌, ◌/◌, ◌%◌, ◌^◌, ◌==◌, ◌&&◌, nat_lt, Bool, true, false, Option, Some, None, option_map, List, [], ◌∷◌, length, take, drop, if◌then◌else◌}
+use Rattle.std.specs.Option.{option_or}
 use Rattle.std.specs.Int.{w32, w64, from_be_bytes}
 use Rattle.std.specs.Str.{is_utf8}
 use Rattle.amqp_value_core.specs.declared.types.amqp_type.AMQPType.{AMQPType}
@@ -44,16 +45,11 @@ further n p = record { offset = n + p.offset; kind = p.kind }
 abbrev pub Search : Type 0
 Search = List ℕ → Option Problem
 
--- the first of two, or the other if there is none
-abbrev pub or_else : Option Problem → Option Problem → Option Problem
-or_else None q = q
-or_else (Some p) q = Some p
-
 -- the first problem in entries one after another: `first` is that in the entry at the start, `len`
 -- how many bytes this has, and n how many bytes are left of an entry before them
 abbrev pub in_entries : Search → (List ℕ → ℕ) → ℕ → Search
 in_entries first len n [] = None
-in_entries first len zero (c ∷ s) = or_else (first (c ∷ s)) (option_map (further 1) (in_entries first len (len (c ∷ s) - 1) s))
+in_entries first len zero (c ∷ s) = option_or (first (c ∷ s)) (option_map (further 1) (in_entries first len (len (c ∷ s) - 1) s))
 in_entries first len (suc n) (c ∷ s) = option_map (further 1) (in_entries first len n s)
 
 -- the first problem in a value: its type tag is missing or unknown, by its header it has more bytes

@@ -1,7 +1,7 @@
 -- What `warnings` finds: a repeated key, a key that isn't UTF-8, an empty key, a container that nests too
 -- deep, a decimal, and a value that exceeds the frame-max with its frame. In malformed bytes an entry has
 -- the bytes that its header counts, or those that are left, but at least one.
-use Rattle.std.specs.Prelude.{ℕ, zero, suc, ◌<◌, ◌+◌, ◌-◌, ◌==◌, min, Bool, true, false, not, ◌&&◌, nat_lt, Option, Some, None, IfSome, option_map, List, [], ◌∷◌, length, take, drop, if◌then◌else◌}
+use Rattle.std.specs.Prelude.{ℕ, zero, suc, ◌<◌, ◌+◌, ◌-◌, ◌==◌, Bool, true, false, not, ◌&&◌, nat_lt, Option, Some, None, IfSome, option_map, List, [], ◌∷◌, length, take, drop, if◌then◌else◌}
 use Rattle.std.specs.Bool.{then_some}
 use Rattle.std.specs.Option.{option_or}
 use Rattle.std.specs.List.{list_any}
@@ -10,9 +10,7 @@ use Rattle.amqp_value_core.specs.declared.types.amqp_type.AMQPType.{AMQPType}
 use Rattle.amqp_value_core.specs.declared.types.amqp_type.AMQPType.TheVariants as amqp
 use Rattle.amqp_value_core.specs.Ids.{kind, id_of}
 use Rattle.amqp_value_core.specs.Maps.{same_bytes}
-use Rattle.amq_protocol_types.specs.declared.parsing.limits.Limits.{Limits}
 use Rattle.amq_protocol_types.specs.parsing.Headers.{extent}
-use Rattle.amqp_in_place.specs.Problems.{pair_len}
 use Rattle.amqp_in_place.specs.declared.rabbitmq.warning.Fault.{Fault}
 use Rattle.amqp_in_place.specs.declared.rabbitmq.warning.Fault.TheVariants.{Repeated, NotUtf8, Empty, TooDeep, Decimal}
 use Rattle.amqp_in_place.specs.declared.rabbitmq.warning.Warned.{Warned}
@@ -47,7 +45,7 @@ fault_in_values value (suc n) (c ∷ s) = option_map suc (fault_in_values value 
 -- then one in the pairs after it
 abbrev pub fault_in_pairs : Fault → WarningPlace → List (List ℕ) → ℕ → WarningPlace
 fault_in_pairs fault value earlier n [] = None
-fault_in_pairs fault value earlier zero (k ∷ s) = if is_key_faulty fault earlier (take k s) then Some 0 else option_or (option_map (λ n. 1 + k + n) (value (drop k s))) (option_map suc (fault_in_pairs fault value (take k s ∷ earlier) (pair_len (k ∷ s) - 1) s))
+fault_in_pairs fault value earlier zero (k ∷ s) = if is_key_faulty fault earlier (take k s) then Some 0 else option_or (option_map (λ n. 1 + length (take k s) + n) (value (drop k s))) (option_map suc (fault_in_pairs fault value (take k s ∷ earlier) (length (take k s) + extent (drop k s)) s))
 fault_in_pairs fault value earlier (suc n) (k ∷ s) = option_map suc (fault_in_pairs fault value earlier n s)
 
 -- and in a value, by what is in its payload

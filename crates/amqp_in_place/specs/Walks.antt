@@ -1,32 +1,22 @@
 -- Stepping through bodies in place.
-use Rattle.std.specs.Prelude.{ℕ, zero, suc, ◌≡◌, ◌<◌, List, length, Option, Some, None}
+use Rattle.std.specs.Prelude.{ℕ, zero, suc, ◌≡◌, ◌<◌, List, ◌++◌, length, Option, Some, None}
 use Rattle.std.specs.Borrow.{Bor}
 use Rattle.amqp_value_core.specs.Values.{Tree, Trees, no_trees, tree, Entries, no_entries, entry}
-use Rattle.amqp_value_core.specs.Grammar.{TableBody, ArrayBody}
-use Rattle.amqp_value_core.specs.Outcomes.{Outcome, found}
+use Rattle.amqp_value_core.specs.Grammar.{Wire, TableBody, ArrayBody}
 use Rattle.amqp_value_core.specs.Inputs.{slice_bytes}
 use Rattle.amqp_value_core.specs.declared.input.SliceInput.{SliceInput}
 use Rattle.amqp_in_place.specs.declared.refs.ValueRef.{ValueRef}
 use Rattle.amqp_in_place.specs.Refs.{Denotes}
 use Rattle.amqp_in_place.specs.Bodies.{HasValues, HasPairs}
-use Rattle.amqp_in_place.specs.Written.{IsWrittenAs, WrittenValues, WrittenPairs, WrittenAt}
-use Rattle.amqp_in_place.specs.Encoded.{IsViewOf, EncodedValues, EncodedPairs, EncodedAt}
+use Rattle.amqp_in_place.specs.Places.{IsViewIn}
+use Rattle.amqp_in_place.specs.Written.{IsWrittenAs}
+use Rattle.amqp_in_place.specs.Encoded.{EncodedValue, StandsFor, IsViewOf}
 
--- the first of the values is returned, and the bytes of the others: a value by `Is`, bytes by
--- `Body`
-abbrev pub NextValueBy : (ValueRef → Tree → Type 0) → (List ℕ → Trees → Type 0) → Trees → Option (ValueRef × SliceInput) → Type 0
-NextValueBy Is Body no_trees None = Unit {0}
-NextValueBy Is Body (tree v vs) (Some x) = Is x.0 v × Body (slice_bytes x.1) vs
-NextValueBy Is Body _ _ = ⊥
-
+-- the first of the values is returned, and the bytes of the others
 abbrev pub NextValueIs : Trees → Option (ValueRef × SliceInput) → Type 0
-NextValueIs vs x = NextValueBy Denotes ArrayBody vs x
-
-abbrev pub NextWrittenIs : Trees → Option (ValueRef × SliceInput) → Type 0
-NextWrittenIs ts x = NextValueBy IsWrittenAs WrittenValues ts x
-
-abbrev pub NextViewIs : Trees → Option (ValueRef × SliceInput) → Type 0
-NextViewIs es x = NextValueBy IsViewOf EncodedValues es x
+NextValueIs no_trees None = Unit {0}
+NextValueIs (tree v vs) (Some x) = Denotes x.0 v × ArrayBody (slice_bytes x.1) vs
+NextValueIs _ _ = ⊥
 
 -- after the value that is returned are fewer bytes than n, which are values
 abbrev pub MoreValues : ℕ → Option (ValueRef × SliceInput) → Type 0
@@ -44,48 +34,25 @@ abbrev pub MorePairs : ℕ → Option (Bor (List ℕ) × ValueRef × SliceInput)
 MorePairs n None = Unit {0}
 MorePairs n (Some x) = (length (slice_bytes x.2) < n) × ∥ HasPairs (slice_bytes x.2) ∥₁
 
--- a value is read from the start
-abbrev pub HasEncodingAtStart : List ℕ → Type 0
-HasEncodingAtStart s = (v : Tree) × (rest : List ℕ) × Outcome s (found v rest)
+-- an encoding is at the start of s, and `left` after it
+pub record HasEncodingAtStart (s : List ℕ) : Type 0 where
+  pub value_there : Tree
+  pub bytes : List ℕ
+  pub left : List ℕ
+  pub is_wire : Wire bytes value_there
+  pub prefix : s ≡ bytes ++ left
 
--- the value is read from the start of s, and `rest` is left
-abbrev pub IsReadAt : Tree → List ℕ → List ℕ → Type 0
-IsReadAt v s rest = Outcome s (found v rest)
+-- the bytes begin with the encoding, if there is one
+abbrev pub BeginsWith : Option EncodedValue → Option (Bor (List ℕ)) → Type 0
+BeginsWith None None = Unit {0}
+BeginsWith (Some e) (Some at) = (rest : List ℕ) × (at.now ≡ e.bytes ++ rest)
+BeginsWith _ _ = ⊥
 
--- the first pair's key is given, the bytes from its value on, and those of the others
-abbrev pub NextKeyBy : (Tree → List ℕ → List ℕ → Type 0) → (List ℕ → Entries → Type 0) → Entries → Option (Bor (List ℕ) × Bor (List ℕ) × Bor (List ℕ)) → Type 0
-NextKeyBy Is Body no_entries None = Unit {0}
-NextKeyBy Is Body (entry k v ps) (Some x) = (x.0.now ≡ k) × Is v x.1.now x.2.now × Body x.2.now ps
-NextKeyBy Is Body _ _ = ⊥
-
-abbrev pub NextKeyIs : Entries → Option (Bor (List ℕ) × Bor (List ℕ) × Bor (List ℕ)) → Type 0
-NextKeyIs ps x = NextKeyBy IsReadAt TableBody ps x
-
-abbrev pub NextWrittenKeyIs : Entries → Option (Bor (List ℕ) × Bor (List ℕ) × Bor (List ℕ)) → Type 0
-NextWrittenKeyIs ps x = NextKeyBy WrittenAt WrittenPairs ps x
-
-abbrev pub NextEncodedKeyIs : Entries → Option (Bor (List ℕ) × Bor (List ℕ) × Bor (List ℕ)) → Type 0
-NextEncodedKeyIs es x = NextKeyBy EncodedAt EncodedPairs es x
-
--- after the pair whose key is returned are fewer bytes than n, which are pairs
-abbrev pub MoreKeys : ℕ → Option (Bor (List ℕ) × Bor (List ℕ) × Bor (List ℕ)) → Type 0
-MoreKeys n None = Unit {0}
-MoreKeys n (Some x) = (length x.2.now < n) × ∥ HasPairs x.2.now ∥₁
-
--- the bytes begin with an encoding of the tree, if there is one
-abbrev pub BeginsBy : (Tree → List ℕ → List ℕ → Type 0) → Option Tree → Option (Bor (List ℕ)) → Type 0
-BeginsBy Is None None = Unit {0}
-BeginsBy Is (Some v) (Some at) = (rest : List ℕ) × Is v at.now rest
-BeginsBy Is _ _ = ⊥
-
-abbrev pub BeginsAt : Option Tree → Option (Bor (List ℕ)) → Type 0
-BeginsAt v at = BeginsBy IsReadAt v at
-
-abbrev pub WrittenBegins : Option Tree → Option (Bor (List ℕ)) → Type 0
-WrittenBegins t at = BeginsBy WrittenAt t at
-
-abbrev pub EncodedBegins : Option Tree → Option (Bor (List ℕ)) → Type 0
-EncodedBegins e at = BeginsBy EncodedAt e at
+-- the value at the start of the bytes, if there are any
+abbrev pub IsValueThere : Option (Bor (List ℕ)) → Option ValueRef → Type 0
+IsValueThere None None = Unit {0}
+IsValueThere (Some bytes) (Some r) = (rest : List ℕ) × IsViewIn bytes.now r rest
+IsValueThere _ _ = ⊥
 
 -- a step returns the first of the values, and leaves the others
 abbrev pub ValueStep : Trees → Option ValueRef → List ℕ → Type 0
@@ -99,8 +66,8 @@ PairStep no_entries None left = TableBody left no_entries
 PairStep (entry k v ps) (Some x) left = (x.0.now ≡ k) × Denotes x.1 v × TableBody left ps
 PairStep _ _ left = ⊥
 
--- what is found is the tree, if there is one
-abbrev pub FoundBy : (ValueRef → Tree → Type 0) → Option Tree → Option ValueRef → Type 0
+-- what is found is what there is, if there is anything
+abbrev pub FoundBy : {A : Type 0} → (ValueRef → A → Type 0) → Option A → Option ValueRef → Type 0
 FoundBy Is None None = Unit {0}
 FoundBy Is (Some v) (Some r) = Is r v
 FoundBy Is _ _ = ⊥
@@ -116,6 +83,10 @@ WrittenIs t r = FoundBy IsWrittenAs t r
 -- what is found is a view of exactly the encoding, if there is one
 abbrev pub ViewIs : Option Tree → Option ValueRef → Type 0
 ViewIs e r = FoundBy IsViewOf e r
+
+-- what is found is the encoding's value, if there is an encoding
+abbrev pub ValueIs : Option EncodedValue → Option ValueRef → Type 0
+ValueIs e r = FoundBy StandsFor e r
 
 -- the value at a place of an array, counted from 0
 abbrev pub tree_at : ℕ → Trees → Option Tree

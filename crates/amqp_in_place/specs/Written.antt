@@ -1,5 +1,5 @@
 -- Values as they are written: their tables with every pair, in the order in which they are written.
-use Rattle.std.specs.Prelude.{ℕ, ◌≡◌, List, ◌++◌}
+use Rattle.std.specs.Prelude.{ℕ, ◌≡◌, List}
 use Rattle.amqp_value_core.specs.declared.types.amqp_type.AMQPType.{AMQPType}
 use Rattle.amqp_value_core.specs.Values.{Tree, scalar, short, long, octets, array, table, Trees, no_trees, tree, Entries, no_entries, entry}
 use Rattle.amqp_value_core.specs.Grammar.{Wire, Raw, ArrayBody, TableBody, wire, raw_fixed, raw_short, raw_long, raw_octets, raw_array, raw_table, no_values, value, no_pairs, pair}
@@ -41,7 +41,3 @@ abbrev pub IsWrittenAs : ValueRef → Tree → Type 0
 IsWrittenAs (at.FieldArray a) t = (ts : Trees) × WrittenValues (array_body a) ts × (t ≡ array ts)
 IsWrittenAs (at.FieldTable b) t = (ps : Entries) × WrittenPairs (table_body b) ps × (t ≡ table ps)
 IsWrittenAs r t = t ≡ plain_tree r
-
--- an encoding is at the start of s and `rest` after it; t is its value, as it is written
-abbrev pub WrittenAt : Tree → List ℕ → List ℕ → Type 0
-WrittenAt t s rest = (w : List ℕ) × (v : Tree) × (p : Wire w v) × (s ≡ w ++ rest) × (t ≡ written w v p)

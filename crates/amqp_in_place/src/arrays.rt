@@ -4,16 +4,18 @@ ghost use Rattle.std.specs.Prelude.{◌≡◌, ◌<◌, ◌↔◌, IsTrue, IfSom
 ghost use Rattle.amqp_value_core.specs.Values.{Trees, no_trees};
 ghost use Rattle.amqp_value_core.specs.Grammar.{ArrayBody};
 ghost use Rattle.amqp_value_core.specs.Containers.{array_view};
+ghost use Rattle.amqp_value_core.specs.Inputs.{slice_bytes};
+ghost use Rattle.amqp_in_place.specs.Bodies.{HasValues};
 ghost use Rattle.amqp_in_place.specs.Refs.{array_body};
-ghost use Rattle.amqp_in_place.specs.Walks.{FoundIs, WrittenIs, ViewIs, tree_at};
+ghost use Rattle.amqp_in_place.specs.Walks.{FoundIs, WrittenIs, ViewIs, ValueIs, tree_at};
 ghost use Rattle.amqp_in_place.specs.Written.{WrittenValues};
-ghost use Rattle.amqp_in_place.specs.Encoded.{EncodedValues};
+ghost use Rattle.amqp_in_place.specs.Encoded.{EncodedValues, nth_encoded};
 ghost use Rattle.amqp_in_place.specs.Places.{IsViewWithin};
 
 use super::refs::{ArrayRef, ValueRef};
 use super::steps::next_value;
 use amq_protocol_types::parsing::{Err, parse_array_body};
-use amqp_value_core::input::ParsableInput;
+use amqp_value_core::input::{ParsableInput, SliceInput};
 use amqp_value_core::types::FieldArray;
 use std::alloc::{AllocError, Global};
 
@@ -39,16 +41,7 @@ impl<'a> ArrayRef<'a> {
         ensures view { (es : Trees) → EncodedValues (array_body self.entry) es → ViewIs (tree_at index es) result }
         ensures inside { IfSome result (λ r. IsViewWithin (array_body self.entry) r) }
     {
-        let mut left = index;
-        let mut rest = self.body();
-        'values: while let Some((value, after)) = next_value(rest) {
-            if left == 0 {
-                return Some(value);
-            }
-            left -= 1;
-            rest = after;
-        }
-        None
+        nth_value(self.body(), index)
     }
 
     /// Copies the array to an owned one, the one that `parse_value` returns. An empty array doesn't
@@ -67,4 +60,23 @@ impl<'a> ArrayRef<'a> {
             Err(Err::Error(_)) => unreachable!(),
         }
     }
+}
+
+// The value at a position, in bytes that are values.
+fn nth_value<'a>(values: SliceInput<'a>, index: usize) -> Option<ValueRef<'a>>
+    requires { ∥ HasValues (slice_bytes values) ∥₁ }
+    ensures found { (vs : Trees) (p : ArrayBody (slice_bytes values.entry) vs)
+        → ValueIs (nth_encoded index (slice_bytes values.entry) vs p) result }
+    ensures inside { IfSome result (λ r. IsViewWithin (slice_bytes values.entry) r) }
+{
+    let mut left = index;
+    let mut rest = values;
+    'values: while let Some((value, after)) = next_value(rest) {
+        if left == 0 {
+            return Some(value);
+        }
+        left -= 1;
+        rest = after;
+    }
+    None
 }

@@ -1,9 +1,9 @@
 //! Canonical encodings, checked in place.
 
-ghost use Rattle.std.specs.Prelude.{◌≡◌, ◌+◌, true, false, ℕ, List, length, None, IfSome};
+ghost use Rattle.std.specs.Prelude.{◌≡◌, ◌+◌, true, false, ℕ, List, None, IfSome};
 ghost use Rattle.amqp_value_core.specs.Inputs.{slice_bytes};
 ghost use Rattle.amq_protocol_types.specs.parsing.Untagged.{tagged};
-ghost use Rattle.amqp_in_place.specs.Canonicals.{IsCanonicalLen, IsCanonicalWithin, IsReadAsWritten, CanonPrefix, CanonValues, CanonEntries, IsAbove, IsFirstSpelling};
+ghost use Rattle.amqp_in_place.specs.Canonicals.{IsCanonicalLen, IsCanonicalWithin, IsReadAsWritten, CanonPrefix, CanonValues, CanonEntries, HasCanonicalBody, IsAbove, IsFirstSpelling};
 
 use super::head::{Head, read_head, read_key, read_table_head};
 use super::read::check_utf8;
@@ -69,8 +69,10 @@ pub fn canonical_table_len(bytes: &[u8], limits: Limits) -> Option<usize>
     let Ok((rest, body)) = read_table_head(SliceInput::new(bytes), limits) else {
         return None;
     };
-    let depth = (limits.depth as usize).checked_sub(1)?;
-    are_canonical_pairs(body, depth).then_some(bytes.len() - rest.input_len())
+    if !has_canonical_body(Head::FieldTable(body), limits.depth as usize) {
+        return None;
+    }
+    Some(bytes.len() - rest.input_len())
 }
 
 // What is after a canonical encoding in which containers nest at most `depth` deep.
@@ -86,12 +88,24 @@ fn after_canonical<'a>(i: SliceInput<'a>, depth: usize) -> Option<SliceInput<'a>
     let Ok((rest, head)) = read_head(i) else {
         return None;
     };
+    if !has_canonical_body(head, depth) {
+        return None;
+    }
+    Some(rest)
+}
+
+// Whether the body of a container is canonical, if the head is of one, and containers nest at most
+// `depth` deep.
+#[cycle(canonical)]
+#[inline(always)]
+fn has_canonical_body<'a>(head: Head<'a>, depth: usize) -> bool
+    ensures yes { result ≡ true → HasCanonicalBody depth head.entry }
+    ensures no { result ≡ false → HasCanonicalBody depth head.entry → ⊥ }
+{
     match head {
-        Head::Plain(_) => Some(rest),
-        Head::FieldArray(body) => {
-            are_canonical_values(body, depth.checked_sub(1)?).then_some(rest)
-        }
-        Head::FieldTable(body) => are_canonical_pairs(body, depth.checked_sub(1)?).then_some(rest),
+        Head::Plain(_) => true,
+        Head::FieldArray(body) => depth > 0 && are_canonical_values(body, depth - 1),
+        Head::FieldTable(body) => depth > 0 && are_canonical_pairs(body, depth - 1),
     }
 }
 

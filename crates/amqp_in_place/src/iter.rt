@@ -38,8 +38,7 @@ impl<'a> ArrayRef<'a> {
 }
 
 impl<'a> TableRef<'a> {
-    ghost use Rattle.std.specs.Prelude.{◌≡◌, drop};
-    ghost use Rattle.amqp_in_place.specs.Bodies.{HasPairs};
+    ghost use Rattle.std.specs.Prelude.{◌≡◌};
     ghost use Rattle.amqp_in_place.specs.Refs.{table_body};
     ghost use Rattle.amqp_in_place.specs.Suffix.{pairs_left};
 
@@ -49,20 +48,6 @@ impl<'a> TableRef<'a> {
         ensures { pairs_left result ≡ table_body self.entry }
     {
         TablePairs { pairs: self.body() }
-    }
-
-    /// Iterates over the pairs from an offset of its bytes on, without reading those before it. A
-    /// pair begins there, or the bytes end: `as_bytes().len()` of the table, less that of an iterator
-    /// that has come to the pair.
-    #[inline(always)]
-    pub fn iter_from(self, offset: usize) -> TablePairs<'a>
-        requires { ∥ HasPairs (drop offset (table_body self)) ∥₁ }
-        ensures { pairs_left result ≡ drop offset (table_body self.entry) }
-    {
-        let pairs = self.as_bytes().get(offset..).unwrap_or_default();
-        TablePairs {
-            pairs: SliceInput::new(pairs),
-        }
     }
 }
 

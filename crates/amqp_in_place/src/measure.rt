@@ -2,15 +2,15 @@
 
 ghost use Rattle.std.specs.Prelude.{ℕ, List, ◌≡◌, ◌+◌, ◌^◌, ◌<◌, ◌≤◌, max, drop, length, MatchResult, IfErr, IfOk};
 ghost use Rattle.amqp_value_core.specs.Values.{Tree, count, depth};
-ghost use Rattle.amqp_value_core.specs.Nesting.{nesting};
 ghost use Rattle.amqp_value_core.specs.Outcomes.{found};
 ghost use Rattle.amqp_value_core.specs.Inputs.{slice_bytes};
 ghost use Rattle.amq_protocol_types.specs.parsing.Limits.{Within, RefusesWithin};
 ghost use Rattle.amq_protocol_types.specs.parsing.Untagged.{tagged, UntaggedWithin, RefusesUntagged};
 ghost use Rattle.amqp_in_place.specs.Bodies.{HasValues, HasPairs};
 ghost use Rattle.amqp_in_place.specs.InPlaceResults.{NeedsNoMemory};
-ghost use Rattle.amqp_in_place.specs.Places.{IsViewIn};
-ghost use Rattle.amqp_in_place.specs.Measures.{written, OfEncoding, IsValueView, HoldsFirst, HoldsValues, HoldsPairs};
+ghost use Rattle.amqp_in_place.specs.Paths.{content};
+ghost use Rattle.amqp_in_place.specs.Written.{written};
+ghost use Rattle.amqp_in_place.specs.Measures.{OfEncoding, HoldsValue, HoldsValues, HoldsPairs};
 
 use super::read::{read_in_place, read_table_in_place};
 use super::refs::ValueRef;
@@ -45,8 +45,8 @@ pub fn measure_value(bytes: &[u8], limits: Limits) -> Result<Measure, ParserErro
     ensures no_memory { IfErr result NeedsNoMemory }
     ensures bytes { IfOk result (λ m. (m.bytes ≤ length bytes.now)
         × OfEncoding bytes.now (λ w v p. m.bytes ≡ length w)) }
-    ensures values { IfOk result (λ m. OfEncoding bytes.now (λ w v p. m.values ≡ written w v p)) }
-    ensures levels { IfOk result (λ m. OfEncoding bytes.now (λ w v p. m.levels ≡ nesting w v p)) }
+    ensures values { IfOk result (λ m. OfEncoding bytes.now (λ w v p. m.values ≡ count (written w v p))) }
+    ensures levels { IfOk result (λ m. OfEncoding bytes.now (λ w v p. m.levels ≡ depth (written w v p))) }
     ensures tree { IfOk result (λ m.
         OfEncoding bytes.now (λ w v p. (count v ≤ m.values) × (depth v ≤ m.levels))) }
 {
@@ -67,9 +67,9 @@ pub fn measure_table(bytes: &[u8], limits: Limits) -> Result<Measure, ParserErro
     ensures bytes { IfOk result (λ m. (m.bytes ≤ length bytes.now)
         × OfEncoding (tagged AMQPType.FieldTable bytes.now) (λ w v p. 1 + m.bytes ≡ length w)) }
     ensures values { IfOk result (λ m.
-        OfEncoding (tagged AMQPType.FieldTable bytes.now) (λ w v p. m.values ≡ written w v p)) }
+        OfEncoding (tagged AMQPType.FieldTable bytes.now) (λ w v p. m.values ≡ count (written w v p))) }
     ensures levels { IfOk result (λ m.
-        OfEncoding (tagged AMQPType.FieldTable bytes.now) (λ w v p. m.levels ≡ nesting w v p)) }
+        OfEncoding (tagged AMQPType.FieldTable bytes.now) (λ w v p. m.levels ≡ depth (written w v p))) }
     ensures tree { IfOk result (λ m. OfEncoding (tagged AMQPType.FieldTable bytes.now)
         (λ w v p. (count v ≤ m.values) × (depth v ≤ m.levels))) }
 {
@@ -128,9 +128,8 @@ impl Held {
 // What a value holds: itself, and if it is a container, what its body holds.
 #[cycle(measurer)]
 fn counts_of_value<'a>(value: ValueRef<'a>) -> Held
-    requires { IsValueView value }
-    ensures { (s rest : List ℕ) → IsViewIn s value.entry rest
-        → HoldsFirst s rest result.values result.levels }
+    requires { length (content value) < 2 ^ 32 }
+    ensures { HoldsValue value.entry result.values result.levels }
 {
     match value {
         ValueRef::FieldArray(array) => counts_of_values(array.body()).with_container(),
@@ -145,7 +144,7 @@ fn counts_of_value<'a>(value: ValueRef<'a>) -> Held
 // What an array's body holds.
 #[cycle(measurer)]
 fn counts_of_values<'a>(body: SliceInput<'a>) -> Held
-    requires { HasValues (slice_bytes body) × (length (slice_bytes body) < 2 ^ 32) }
+    requires { ∥ HasValues (slice_bytes body) ∥₁ × (length (slice_bytes body) < 2 ^ 32) }
     ensures { HoldsValues (slice_bytes body.entry) result.values result.levels }
 {
     let mut held = Held {
@@ -163,7 +162,7 @@ fn counts_of_values<'a>(body: SliceInput<'a>) -> Held
 // What a table's body holds: of each pair its value.
 #[cycle(measurer)]
 fn counts_of_pairs<'a>(body: SliceInput<'a>) -> Held
-    requires { HasPairs (slice_bytes body) × (length (slice_bytes body) < 2 ^ 32) }
+    requires { ∥ HasPairs (slice_bytes body) ∥₁ × (length (slice_bytes body) < 2 ^ 32) }
     ensures { HoldsPairs (slice_bytes body.entry) result.values result.levels }
 {
     let mut held = Held {

@@ -30,10 +30,11 @@ pub enum EqualKeys {
 }
 
 impl<'a> ValueRef<'a> {
-    /// Returns the value that the steps lead to, one after another from this value on; no steps
-    /// lead to the value itself. `None` if a step finds nothing: no such key, no such position, or
-    /// no table or array. Each step iterates over the pairs or values of one container, by their
-    /// lengths; it doesn't recurse.
+    /// Returns the value that the steps lead to, one after another from this value on. An empty
+    /// path leads to the value itself. Returns `None` if a step finds nothing: a key that isn't
+    /// there, or in anything but a table; a position past the end, or in anything but an array.
+    /// Each step iterates over the pairs or values of one container, by their lengths; it doesn't
+    /// recurse.
     pub fn get_path(self, path: &[PathStep<'_>], of_equal: EqualKeys) -> Option<ValueRef<'a>>
         ensures written { (t : Tree) → IsWrittenAs self.entry t → WrittenIs (at_path of_equal path.now t) result }
         ensures last { of_equal ≡ EqualKeys.Last → (v : Tree) → Denotes self.entry v
@@ -78,8 +79,7 @@ impl<'a> ValueRef<'a> {
 }
 
 impl<'a> TableRef<'a> {
-    /// Returns the value that the steps lead to, the first of them a key of this table; otherwise as
-    /// [`ValueRef::get_path`].
+    /// Returns the value that the steps lead to: as [`ValueRef::get_path`] from this table.
     pub fn get_path(self, path: &[PathStep<'_>], of_equal: EqualKeys) -> Option<ValueRef<'a>>
         ensures written { (t : Tree) → IsWrittenAs (at.FieldTable self.entry) t
             → WrittenIs (at_path of_equal path.now t) result }

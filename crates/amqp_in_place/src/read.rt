@@ -6,7 +6,7 @@ ghost use Rattle.std.specs.Str.{IsUtf8};
 ghost use Rattle.std.specs.Prelude.{◌≡◌, ◌++◌, ◌↔◌, ◌<◌, ◌^◌, IsTrue, true, false, length, MatchResult, IfErr, IfOk};
 ghost use Rattle.amqp_value_core.specs.Values.{Tree, Trees, Entries, table};
 ghost use Rattle.amqp_value_core.specs.Grammar.{long_field};
-ghost use Rattle.amqp_value_core.specs.Nesting.{BodyWithin, PairsWithin, OutcomeWithin};
+ghost use Rattle.amqp_value_core.specs.Nesting.{BodyWithin, OutcomeWithin};
 ghost use Rattle.amqp_value_core.specs.Outcomes.{Outcome, found, malformed};
 ghost use Rattle.amqp_value_core.specs.Inputs.{slice_bytes};
 ghost use Rattle.amq_protocol_types.specs.parsing.ParseResults.{IsRefusal};
@@ -14,12 +14,14 @@ ghost use Rattle.amq_protocol_types.specs.parsing.Bodies.{IsNoBody, IsTable, IsN
 ghost use Rattle.amq_protocol_types.specs.parsing.Limits.{Within, RefusesWithin};
 ghost use Rattle.amq_protocol_types.specs.parsing.Untagged.{UntaggedWithin, RefusesUntagged};
 ghost use Rattle.amqp_in_place.specs.Bodies.{HasEntries};
+ghost use Rattle.amqp_in_place.specs.Heads.{HasValidBody};
 ghost use Rattle.amqp_in_place.specs.Refs.{table_body, Denotes, IsOneValue, IsOneTable};
 ghost use Rattle.amqp_in_place.specs.InPlaceResults.{IsLeft, IsReadInPlaceWithin, NeedsNoMemory};
 ghost use Rattle.amqp_in_place.specs.Places.{IsViewIn};
 
 use super::head::{Head, read_head, read_key, read_table_head};
-use super::refs::{ArrayRef, TableRef, ValueRef};
+use super::refs::{TableRef, ValueRef};
+use super::steps::value_of;
 use amq_protocol_types::parsing::header::{Header, header_of};
 use amq_protocol_types::parsing::{
     ErrorKind, Limits, ParserError, ParserResult, error_of_kind, lacks,
@@ -95,10 +97,7 @@ pub fn read_table_in_place(
     ensures few { IfOk result (λ x. length (table_body x.0) < 2 ^ 32) }
 {
     let (rest, body) = read_table_head(SliceInput::new(bytes), limits)?;
-    if limits.depth == 0 {
-        return Err(error_of_kind(ErrorKind::Eof));
-    }
-    if !are_pairs(body, limits.depth as usize - 1) {
+    if !has_valid_body(Head::FieldTable(body), limits.depth as usize) {
         return Err(error_of_kind(ErrorKind::Eof));
     }
     Ok((TableRef::of(body), rest.as_slice()))
@@ -115,26 +114,24 @@ fn value_within<'a>(i: SliceInput<'a>, depth: usize) -> ParserResult<SliceInput<
     ensures inside { IfOk result (λ x. IsViewIn (slice_bytes i.entry) x.1 (slice_bytes x.0)) }
 {
     let (rest, head) = read_head(i)?;
+    if !has_valid_body(head, depth) {
+        return Err(error_of_kind(ErrorKind::Eof));
+    }
+    Ok((rest, value_of(head)))
+}
+
+// Whether the body of a container is values or pairs, if the head is of one, and containers nest at
+// most `depth` deep.
+#[cycle(reader)]
+#[inline(always)]
+fn has_valid_body<'a>(head: Head<'a>, depth: usize) -> bool
+    ensures yes { result ≡ true → HasValidBody depth head.entry }
+    ensures no { result ≡ false → HasValidBody depth head.entry → ⊥ }
+{
     match head {
-        Head::Plain(value) => Ok((rest, value)),
-        Head::FieldArray(body) => {
-            if depth == 0 {
-                return Err(error_of_kind(ErrorKind::Eof));
-            }
-            if !are_values(body, depth - 1) {
-                return Err(error_of_kind(ErrorKind::Eof));
-            }
-            Ok((rest, ValueRef::FieldArray(ArrayRef::of(body))))
-        }
-        Head::FieldTable(body) => {
-            if depth == 0 {
-                return Err(error_of_kind(ErrorKind::Eof));
-            }
-            if !are_pairs(body, depth - 1) {
-                return Err(error_of_kind(ErrorKind::Eof));
-            }
-            Ok((rest, ValueRef::FieldTable(TableRef::of(body))))
-        }
+        Head::Plain(_) => true,
+        Head::FieldArray(body) => depth > 0 && are_values(body, depth - 1),
+        Head::FieldTable(body) => depth > 0 && are_pairs(body, depth - 1),
     }
 }
 

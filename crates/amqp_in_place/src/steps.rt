@@ -1,18 +1,15 @@
 //! Iterating over bodies that were validated.
 
-ghost use Rattle.std.specs.Prelude.{ℕ, List, length, IfSome};
+ghost use Rattle.std.specs.Prelude.{◌≡◌, ◌++◌, length, drop, IfSome, IsNone};
 ghost use Rattle.amqp_value_core.specs.Values.{Tree, Trees, Entries};
-ghost use Rattle.amqp_value_core.specs.Grammar.{ArrayBody, TableBody};
-ghost use Rattle.amqp_value_core.specs.Outcomes.{Outcome, found};
+ghost use Rattle.amqp_value_core.specs.Grammar.{short_field, ArrayBody, TableBody};
 ghost use Rattle.amqp_value_core.specs.Inputs.{slice_bytes};
 ghost use Rattle.amqp_in_place.specs.Bodies.{HasValues, HasPairs};
 ghost use Rattle.amqp_in_place.specs.Refs.{Denotes};
 ghost use Rattle.amqp_in_place.specs.Heads.{HeadHasMeaning, HeadMeans, RefersTo};
 ghost use Rattle.amqp_in_place.specs.Places.{IsViewIn, IsPairViewIn};
-ghost use Rattle.amqp_in_place.specs.InPlaceResults.{IsLeft};
-ghost use Rattle.amqp_in_place.specs.Walks.{HasEncodingAtStart, NextValueIs, NextWrittenIs, NextViewIs, MoreValues, NextPairIs, MorePairs, NextKeyIs, NextWrittenKeyIs, NextEncodedKeyIs, MoreKeys};
-ghost use Rattle.amqp_in_place.specs.Encoded.{IsViewOf, EncodedAt, EncodedValues, EncodedPairs};
-ghost use Rattle.amqp_in_place.specs.Written.{IsWrittenAs, WrittenAt, WrittenValues, WrittenPairs};
+ghost use Rattle.amq_protocol_types.specs.parsing.Headers.{extent};
+ghost use Rattle.amqp_in_place.specs.Walks.{HasEncodingAtStart, IsValueThere, NextValueIs, MoreValues, NextPairIs, MorePairs};
 
 use super::head::{Head, read_head, read_key};
 use super::refs::{ArrayRef, TableRef, ValueRef};
@@ -22,7 +19,7 @@ use std::str;
 
 // The value of a head that is known to have one.
 #[inline(always)]
-fn value_of<'a>(head: Head<'a>) -> ValueRef<'a>
+pub(crate) fn value_of<'a>(head: Head<'a>) -> ValueRef<'a>
     requires { ∥ HeadHasMeaning head ∥₁ }
     ensures means { (v : Tree) → HeadMeans head.entry v → Denotes result v }
     ensures refers { RefersTo head.entry result }
@@ -34,18 +31,20 @@ fn value_of<'a>(head: Head<'a>) -> ValueRef<'a>
     }
 }
 
-// The value at the start of bytes, if there is one.
-pub(crate) fn first_value_there<'a>(bytes: &'a [u8]) -> ValueRef<'a>
-    requires { ∥ HasEncodingAtStart bytes.now ∥₁ }
-    ensures value { (v : Tree) (rest : List ℕ) → Outcome bytes.now (found v rest) → Denotes result v }
-    ensures written { (t : Tree) (rest : List ℕ) → WrittenAt t bytes.now rest → IsWrittenAs result t }
-    ensures view { (e : Tree) (rest : List ℕ) → EncodedAt e bytes.now rest → IsViewOf result e }
-    ensures inside { (rest : List ℕ) × IsViewIn bytes.now result rest }
+// The value at the start of bytes, if there are any.
+pub(crate) fn value_there<'a>(place: Option<&'a [u8]>) -> Option<ValueRef<'a>>
+    requires { IfSome place (λ bytes. ∥ HasEncodingAtStart bytes.now ∥₁) }
+    ensures { IsValueThere place.entry result }
 {
-    let Ok((_, head)) = read_head(SliceInput::new(bytes)) else {
-        unreachable!()
-    };
-    value_of(head)
+    match place {
+        Some(bytes) => {
+            let Ok((_, head)) = read_head(SliceInput::new(bytes)) else {
+                unreachable!()
+            };
+            Some(value_of(head))
+        }
+        None => None,
+    }
 }
 
 // Takes the first value off bytes that are values, and returns those after it.
@@ -53,8 +52,6 @@ pub(crate) fn first_value_there<'a>(bytes: &'a [u8]) -> ValueRef<'a>
 pub(crate) fn next_value<'a>(bytes: SliceInput<'a>) -> Option<(ValueRef<'a>, SliceInput<'a>)>
     requires { ∥ HasValues (slice_bytes bytes) ∥₁ }
     ensures value { (vs : Trees) → ArrayBody (slice_bytes bytes.entry) vs → NextValueIs vs result }
-    ensures written { (ts : Trees) → WrittenValues (slice_bytes bytes.entry) ts → NextWrittenIs ts result }
-    ensures view { (es : Trees) → EncodedValues (slice_bytes bytes.entry) es → NextViewIs es result }
     ensures more { MoreValues (length (slice_bytes bytes.entry)) result }
     ensures inside { IfSome result (λ x. IsViewIn (slice_bytes bytes.entry) x.0 (slice_bytes x.1)) }
 {
@@ -95,13 +92,9 @@ pub(crate) fn next_pair<'a>(
 #[inline(always)]
 pub(crate) fn next_key<'a>(pairs: &'a [u8]) -> Option<(&'a [u8], &'a [u8], &'a [u8])>
     requires { ∥ HasPairs pairs.now ∥₁ }
-    ensures key { (ps : Entries) → TableBody pairs.now ps → NextKeyIs ps result }
-    ensures written { (ps : Entries) → WrittenPairs pairs.now ps → NextWrittenKeyIs ps result }
-    ensures encoded { (es : Entries) → EncodedPairs pairs.now es → NextEncodedKeyIs es result }
-    ensures more { MoreKeys (length pairs.now) result }
-    ensures prefix { IfSome result (λ x. ∥ HasEncodingAtStart x.1.now ∥₁) }
-    ensures value { IfSome result (λ x. IsLeft pairs.now x.1.now) }
-    ensures left { IfSome result (λ x. IsLeft pairs.now x.2.now) }
+    ensures none { IsNone result → length pairs.now ≡ 0 }
+    ensures key { IfSome result (λ x. pairs.now ≡ short_field x.0.now ++ x.1.now) }
+    ensures rest { IfSome result (λ x. x.2.now ≡ drop (extent x.1.now) x.1.now) }
 {
     let (count, named) = pairs.split_first()?;
     let (key, value) = named.split_at(usize::from(*count));

@@ -10,14 +10,14 @@ ghost use Rattle.amqp_value_core.specs.Containers.{table_view};
 ghost use Rattle.amqp_in_place.specs.InPlaceResults.{IsLeft};
 ghost use Rattle.amqp_in_place.specs.Bodies.{HasPairs, HasEntries};
 ghost use Rattle.amqp_in_place.specs.Refs.{table_body};
-ghost use Rattle.amqp_in_place.specs.Walks.{FoundIs, WrittenIs, ViewIs, HasEncodingAtStart, BeginsAt, WrittenBegins, EncodedBegins};
+ghost use Rattle.amqp_in_place.specs.Walks.{FoundIs, WrittenIs, ViewIs, BeginsWith};
 ghost use Rattle.amqp_in_place.specs.Written.{WrittenPairs};
-ghost use Rattle.amqp_in_place.specs.Encoded.{EncodedPairs};
+ghost use Rattle.amqp_in_place.specs.Encoded.{EncodedPairs, first_encoded, last_encoded};
 ghost use Rattle.amqp_in_place.specs.Keys.{first_at};
 ghost use Rattle.amqp_in_place.specs.Places.{IsViewWithin};
 
 use super::refs::{TableRef, ValueRef};
-use super::steps::{first_value_there, next_key};
+use super::steps::{next_key, value_there};
 use amq_protocol_types::parsing::{Err, parse_table_body};
 use amqp_value_core::input::ParsableInput;
 use amqp_value_core::types::FieldTable;
@@ -47,8 +47,7 @@ impl<'a> TableRef<'a> {
         ensures view { (es : Entries) → EncodedPairs (table_body self.entry) es → ViewIs (last_at key.now es) result }
         ensures inside { IfSome result (λ r. IsViewWithin (table_body self.entry) r) }
     {
-        let at = last_at(self.as_bytes(), key.as_bytes())?;
-        Some(first_value_there(at))
+        value_there(last_place(self.as_bytes(), key.as_bytes()))
     }
 
     /// Returns the value of the first pair with the key; `get` returns the last pair's. Skips over
@@ -59,20 +58,19 @@ impl<'a> TableRef<'a> {
         ensures view { (es : Entries) → EncodedPairs (table_body self.entry) es → ViewIs (first_at key.now es) result }
         ensures inside { IfSome result (λ r. IsViewWithin (table_body self.entry) r) }
     {
-        let at = first_at(self.as_bytes(), key.as_bytes())?;
-        Some(first_value_there(at))
+        value_there(first_place(self.as_bytes(), key.as_bytes()))
     }
 
     /// Whether the table has the key.
     pub fn contains_key(self, key: &str) -> bool
         ensures { (es : Entries) → HasEntries (table_body self.entry) es → result ≡ has_key key.now es }
     {
-        last_at(self.as_bytes(), key.as_bytes()).is_some()
+        last_place(self.as_bytes(), key.as_bytes()).is_some()
     }
 
     /// Copies the table to an owned one, the one that `parse_value` returns. An empty table doesn't
     /// allocate. It uses stack for each level of nesting; docs/PROMISES.md has measurements.
-    #[tactic(auto, using(crate::proofs::Owning::entries_of_table))]
+    #[tactic(auto, using(crate::proofs::HeadLemmas::entries_of_table))]
     pub fn to_owned(self, alloc: Global) -> Result<FieldTable, AllocError>
         ensures { MatchResult result
             (λ t. HasEntries (table_body self.entry) (table_view t))
@@ -89,12 +87,9 @@ impl<'a> TableRef<'a> {
 }
 
 // The bytes from the last value at the key on, in bytes that are pairs.
-fn last_at<'a>(pairs: &'a [u8], key: &[u8]) -> Option<&'a [u8]>
+fn last_place<'a>(pairs: &'a [u8], key: &[u8]) -> Option<&'a [u8]>
     requires { ∥ HasPairs pairs.now ∥₁ }
-    ensures value { (es : Entries) → HasEntries pairs.now es → BeginsAt (value_at key.now es) result }
-    ensures written { (ps : Entries) → WrittenPairs pairs.now ps → WrittenBegins (last_at key.now ps) result }
-    ensures encoded { (es : Entries) → EncodedPairs pairs.now es → EncodedBegins (last_at key.now es) result }
-    ensures prefix { IfSome result (λ at. ∥ HasEncodingAtStart at.now ∥₁) }
+    ensures found { (ps : Entries) (p : TableBody pairs.now ps) → BeginsWith (last_encoded key.now pairs.now ps p) result }
     ensures left { IfSome result (λ at. IsLeft pairs.now at.now) }
 {
     let mut at = None;
@@ -109,12 +104,9 @@ fn last_at<'a>(pairs: &'a [u8], key: &[u8]) -> Option<&'a [u8]>
 }
 
 // The bytes from the first value at the key on, in bytes that are pairs.
-fn first_at<'a>(pairs: &'a [u8], key: &[u8]) -> Option<&'a [u8]>
+fn first_place<'a>(pairs: &'a [u8], key: &[u8]) -> Option<&'a [u8]>
     requires { ∥ HasPairs pairs.now ∥₁ }
-    ensures value { (ps : Entries) → TableBody pairs.now ps → BeginsAt (first_at key.now ps) result }
-    ensures written { (ps : Entries) → WrittenPairs pairs.now ps → WrittenBegins (first_at key.now ps) result }
-    ensures encoded { (es : Entries) → EncodedPairs pairs.now es → EncodedBegins (first_at key.now es) result }
-    ensures prefix { IfSome result (λ at. ∥ HasEncodingAtStart at.now ∥₁) }
+    ensures found { (ps : Entries) (p : TableBody pairs.now ps) → BeginsWith (first_encoded key.now pairs.now ps p) result }
     ensures left { IfSome result (λ at. IsLeft pairs.now at.now) }
 {
     let mut rest = pairs;

@@ -7,11 +7,9 @@ use Rattle.amqp_value_core.specs.Outcomes.{Reading, more, unknown, malformed, fo
 use Rattle.amqp_value_core.specs.Readings.{read_back, unread}
 use Rattle.amqp_value_core.proofs.GrammarLaws.{one_outcome, found_prefix}
 use Rattle.amqp_value_core.proofs.Bytes.{bytes_before}
-use Rattle.amq_protocol_types.specs.declared.parsing.errors.Err.TheVariants.{Incomplete, Error, Failure}
-use Rattle.amq_protocol_types.specs.declared.parsing.errors.Needed.TheVariants.{Unknown, Size}
-use Rattle.amq_protocol_types.specs.declared.parsing.errors.ErrorKind.TheVariants.{MapOpt, MapRes, Eof, OutOfMemory, TooLarge}
 use Rattle.amq_protocol_types.specs.parsing.Refusals.{Refusal}
 use Rattle.amq_protocol_types.specs.parsing.ParseResults.{IsRefusal}
+use Rattle.amqp_in_place.proofs.Refusals.{by_outcome}
 use Rattle.amqp_json.specs.Views.{IsReadBack}
 use Rattle.amqp_json.specs.Written.{HasJson}
 use Rattle.amqp_json.proofs.Encoded.{has_json}
@@ -48,14 +46,10 @@ refused v o true is back at other =
 
 -- if no value is read from v's canonical encoding, v isn't readable
 pub not_again : (v : Tree) (e : Refusal) → IsReadBack v → IsRefusal (Outcome (text v)) ⊥ e → readable v ≡ false
-not_again v (Incomplete Unknown) back h = absurd h
-not_again v (Incomplete (Size n)) back h = refused v (more n) (readable v) refl back h (λ e. absurd (cc e))
-not_again v (Error MapOpt) back h = refused v unknown (readable v) refl back h (λ e. absurd (cc e))
-not_again v (Error Eof) back h = refused v malformed (readable v) refl back h (λ e. absurd (cc e))
-not_again v (Error MapRes) back h = absurd h
-not_again v (Error OutOfMemory) back h = absurd h
-not_again v (Error TooLarge) back h = absurd h
-not_again v (Failure kind) back h = absurd h.1
+not_again v e back h =
+    by_outcome (λ (e : Refusal). readable v ≡ false) (Outcome (text v)) ⊥ (λ n y. refused v (more n) (readable v) refl back y (λ e. absurd (cc e)))
+    (λ y. refused v unknown (readable v) refl back y (λ e. absurd (cc e))) (λ y. refused v malformed (readable v) refl back y (λ e. absurd (cc e)))
+    (λ k h. absurd h) e h
 
 -- a value that is read from bytes has a JSON text
 pub found_has_json : (s rest : List ℕ) (v : Tree) → IsBytes s → Outcome s (found v rest) → HasJson v

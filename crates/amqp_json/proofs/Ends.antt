@@ -1,7 +1,6 @@
 -- From the tokens of a whole text to what the text means, and from an encoding to the canonical one.
-use Rattle.std.proofs.Common.{◌≡◌, ◌≢◌, ℕ, List, [], ◌∷◌, Option, Some, None, option_map, option_and_then, refl, sym, ap, ◌∙◌, subst, append-nil}
+use Rattle.std.proofs.Common.{◌≡◌, ℕ, List, [], ◌∷◌, Option, Some, None, option_and_then, refl, sym, ap, ◌∙◌, subst, append-nil, arith, ◌≤◌}
 use Rattle.json.specs.Token.{Token}
-use Rattle.json.specs.Lex.{tokens}
 use Rattle.json.specs.Json.{Json, value, if_last}
 use Rattle.amq_protocol_types.specs.declared.parsing.limits.Limits.{Limits}
 use Rattle.amqp_in_place.specs.Canonicals.{IsReadAsWritten}
@@ -11,11 +10,12 @@ use Rattle.amqp_value_core.specs.Texts.{text}
 use Rattle.amqp_value_core.specs.InMemory.{IsValue}
 use Rattle.amqp_value_core.specs.Outcomes.{Reading, found, more, unknown, malformed, Outcome}
 use Rattle.amqp_value_core.proofs.GrammarLaws.{one_outcome, one_reading, prefix_within, wire_found, text_is_wire, what_is_read, wire_of}
-use Rattle.amqp_json.specs.Conversions.{IsEncodingOf, IsRefused}
-use Rattle.amqp_json.specs.Meaning.{meaning, meant}
-use Rattle.amqp_json.specs.Puts.{IsEncodedAsItComes, OnRefusal, converted}
+use Rattle.amqp_json.specs.Conversions.{IsEncodingWithin, IsRefusedAs}
+use Rattle.amqp_json.specs.Meaning.{json_of, meaning, meant_within}
+use Rattle.amqp_json.specs.Puts.{IsEncodedAsItComes, IsRead, IsRefusal, converted}
+use Rattle.amqp_json.proofs.Turns.{converted_some, none_is}
 use Rattle.amqp_json.specs.declared.error.JsonError.{JsonError}
-use Rattle.amqp_json.specs.declared.error.JsonError.TheVariants.{OutOfMemory, TooLarge, Syntax, NotAValue}
+use Rattle.amqp_json.specs.declared.error.JsonError.TheVariants.{OutOfMemory, TooLarge, Syntax, TooDeep, NotAValue}
 
 abbrev pub pick : Tree → Reading → Tree
 pick v (found u rest) = u
@@ -30,8 +30,8 @@ same_value s rest v u is o =
     ap (pick v) (one_outcome s (found v []) (found u rest) at o)
 
 -- an encoding that is what is written for the value that is read from it is the canonical one
-pub as_written : (l : Limits) (t s b : List ℕ) → IsEncodedAsItComes t s → b ≡ s → IsReadAsWritten l b → IsEncodingOf t s
-as_written l t s b (v, means, is) slice (u, within, same) =
+pub as_written : (most : ℕ) (l : Limits) (t s b : List ℕ) → IsEncodedAsItComes most t s → b ≡ s → IsReadAsWritten l b → IsEncodingWithin most t s
+as_written most l t s b (v, means, is) slice (u, within, same) =
     let f = prefix_within l.depth b [] u within.1 in
     let one = one_reading s f.0 [] [] v u is (wire_of l.depth f.0 u f.1) (append-nil s ∙ sym slice ∙ f.2) in
     (v, means, sym slice ∙ same ∙ ap text (sym one.1))
@@ -43,27 +43,32 @@ encoded_again s out v u is same value e =
     subst (λ (b : List ℕ). Wire b v) (ap text same ∙ sym e) (text_is_wire v (subst IsValue (sym same) value) fits reads)
 
 -- a text means one value
-pub encodes_meant : (t s : List ℕ) (v : Tree) → IsEncodedAsItComes t s → meant t ≡ Some v → Wire s v
-encodes_meant t s v (u, means, is) other =
+pub encodes_meant : (most : ℕ) (t s : List ℕ) (v : Tree) → IsEncodedAsItComes most t s → meant_within most t ≡ Some v → Wire s v
+encodes_meant most t s v (u, means, is) other =
     let both : Some u ≡ Some v = sym means ∙ other in
     let same : u ≡ v = cc in
     subst (Wire s) same is
 
-left_over : (m : Option Tree) (ts : List Token) → ((v : Tree) → option_map {U = Tree × List Token} (λ u. (u, ts)) m ≢ Some (v, [])) → (j : Json) → meaning j ≡ m → option_and_then meaning (if_last j ts) ≡ None
-left_over None [] none j is = is
-left_over (Some v) [] none j is = absurd (none v refl)
-left_over m (t ∷ ts) none j is = refl
+-- ---- a whole text
 
-by : (o : Option (Json × List Token)) → ((v : Tree) → converted meaning o ≢ Some (v, [])) → option_and_then meaning (option_and_then (λ p. if_last p.0 p.1) o) ≡ None
-by None none = refl
-by (Some p) none = left_over (meaning p.0) p.1 none p.0 refl
+whole : (o : Option (Json × List Token)) → converted meaning o ≡ None → option_and_then meaning (option_and_then (λ p. if_last p.0 p.1) o) ≡ None
+whole None none = refl
+whole (Some (j, [])) none = none_is (Some (j, [])) j [] refl none
+whole (Some (j, t ∷ ts)) none = refl
 
-none_meant : (t : List ℕ) → ((v : Tree) → converted meaning (value 127 (tokens t)) ≢ Some (v, [])) → meant t ≡ None
-none_meant t none = by (value 127 (tokens t)) none
+pub document_refused : (e : JsonError) (depth : ℕ) (ts : List Token) → IsRefusal depth e meaning (λ d. value d ts) → IsRefusedAs depth e (λ d. json_of d ts)
+document_refused OutOfMemory depth ts h = tt
+document_refused TooLarge depth ts h = tt
+document_refused (Syntax at error) depth ts h = λ d le. ap (option_and_then (λ p. if_last p.0 p.1)) (h d le)
+document_refused (TooDeep at) depth ts h = whole (value depth ts) h
+document_refused (NotAValue at mismatch) depth ts h = λ d le. whole (value d ts) (h d le)
 
--- a text of which no value is read, and nothing after it, means none
-pub refused : (e : JsonError) (t : List ℕ) → OnRefusal e ((v : Tree) → converted meaning (value 127 (tokens t)) ≢ Some (v, [])) → IsRefused e t
-refused OutOfMemory t none = tt
-refused TooLarge t none = tt
-refused (Syntax at) t none = none_meant t none
-refused (NotAValue at mismatch) t none = none_meant t none
+-- a token is left
+pub document_unfinished : (depth : ℕ) (ts r : List Token) (t : Token) (v : Tree) → IsRead depth meaning (λ d. value d ts) v (t ∷ r) → (d : ℕ) → depth ≤ d → json_of d ts ≡ None
+document_unfinished depth ts r t v read d le = let j = converted_some meaning (value d ts) v (t ∷ r) (read d le) in ap (option_and_then (λ p. if_last p.0 p.1)) j.1
+
+-- none is
+pub document_read : (depth : ℕ) (ts : List Token) (v : Tree) → IsRead depth meaning (λ d. value d ts) v [] → option_and_then meaning (json_of depth ts) ≡ Some v
+document_read depth ts v read =
+    let j = converted_some meaning (value depth ts) v [] (read depth (omega arith)) in
+    ap (λ o. option_and_then meaning (option_and_then (λ p. if_last p.0 p.1) o)) j.1 ∙ j.2

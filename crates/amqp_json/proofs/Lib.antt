@@ -1,7 +1,7 @@
 pub mod Keys
 pub mod Turns
-pub mod Loops
 pub mod Refusals
+pub mod Loops
 pub mod Soles
 pub mod Scalars
 pub mod Integers

@@ -2,34 +2,39 @@
 use Rattle.std.proofs.Common.{◌≡◌, ℕ, ◌-◌, ◌+◌, ◌<◌, ◌≤◌, ◌^◌, List, [], ◌∷◌, ◌++◌, length, take, drop, Option, Some, None, option_map, refl, sym, ap, ◌∙◌, subst, arith, append_assoc, append-nil, length-append}
 use Rattle.std.specs.Int.{w32, to_be_bytes}
 use Rattle.std.proofs.Math.Seq.{take-append_seam, drop-append-add}
-use Rattle.json.specs.Token.{Token}
+use Rattle.json.specs.Token.{Token, key}
 use Rattle.json.specs.Json as json
-use Rattle.json.specs.Json.{Parse, parse_map, after_end_array, read_key, items, members}
-use Rattle.json.proofs.Grammar.{read_key-shorter}
+use Rattle.json.specs.Json.{parse_map, after_end_array, read_key, items, members}
+use Rattle.json.proofs.Grammar.{read_key-shorter, items_fail, members_fail, members_no_key}
 use Rattle.amqp_value_core.specs.Values.{Tree, scalar, long, octets, array, Trees, no_trees, tree, Entries, no_entries, entry}
 use Rattle.amqp_value_core.specs.Inserting.{insert_all}
 use Rattle.amqp_value_core.specs.Grammar.{Wire, wire, raw_array, raw_table, raw_long, raw_octets, ArrayBody, no_values, value, TableBody, no_pairs, pair, short_field, long_field}
 use Rattle.amqp_value_core.specs.Strings.{IsShort}
 use Rattle.amqp_value_core.specs.Texts.{text}
 use Rattle.amqp_value_core.proofs.GrammarLaws.{put_mean, text_is_wire}
+use Rattle.amqp_json.specs.declared.error.JsonError.{JsonError}
 use Rattle.amqp_json.specs.Meaning.{entry_key, with_entry, meaning, meanings, pairs_of, table_of}
-use Rattle.amqp_json.specs.Puts.{PutsEncodingOf, PutsValues, PutsPairs, PutsScalar, next_token, pairs_read, converted}
-use Rattle.amqp_json.proofs.Turns.{map_twice, map_same, item_read, item_refused, items_over, member_read, member_refused, members_over, key_refused, next_is}
+use Rattle.amqp_json.specs.Puts.{OnMismatch, IsRead, IsRefusal, PutsEncodingOf, PutsValues, PutsPairs, PutsScalar, items_at, members_at, next_token, converted}
+use Rattle.amqp_json.proofs.Keys.{no_entry}
+use Rattle.amqp_json.proofs.Refusals.{refusal_of, refusal_by, refusal_on}
+use Rattle.amqp_json.proofs.Turns.{map_twice, map_same, item_read, no_item_after, item_refused, items_over, member_read, no_member_after, member_refused, members_over, next_is, none_is}
 
 -- ---- an array
 
--- the values of the tokens before `now` are put, and with those that are left they are the array's
-pub record ItemsLeft (p : Parse json.Json) (first now : List Token) (old new : List ℕ) : Type 0 where
+-- the values of the tokens before `now` are put, and with those that are left they are the array's, at each depth from
+-- `depth` on
+pub record ItemsLeft (depth : ℕ) (first now : List Token) (old new : List ℕ) : Type 0 where
   pub count : ℕ
   pub enough : length now ≤ count
   pub body : List ℕ
   pub put : new ≡ old ++ body
   pub ahead : Trees → Trees
   pub rest : (tail : List ℕ) (vs : Trees) → ArrayBody tail vs → ArrayBody (body ++ tail) (ahead vs)
-  pub read : converted meanings (items p (length first) first) ≡ parse_map ahead (converted meanings (items p count now))
+  pub read : (d : ℕ) → depth ≤ d → converted meanings (items_at d first) ≡ parse_map ahead (converted meanings (items (json.value d) count now))
+  pub none : (d : ℕ) → depth ≤ d → items (json.value d) count now ≡ None → items_at d first ≡ None
 
-module _ (p : Parse json.Json) (first : List Token) (old : List ℕ) where
-  pub items_first : ItemsLeft p first first old old
+module _ (depth : ℕ) (first : List Token) (old : List ℕ) where
+  pub items_first : ItemsLeft depth first first old old
   items_first = record {
     count = length first;
     enough = omega arith;
@@ -37,11 +42,12 @@ module _ (p : Parse json.Json) (first : List Token) (old : List ℕ) where
     put = sym (append-nil old);
     ahead = λ vs. vs;
     rest = λ tail vs all. all;
-    read = map_same _;
+    read = λ d le. map_same _;
+    none = λ d le h. h;
   }
 
-  pub items_next : (now r : List Token) (mid new : List ℕ) → ItemsLeft p first now old mid → after_end_array now ≡ None → length r < length now
-      → PutsEncodingOf (λ v. converted meaning (p now) ≡ Some (v, r)) mid new → ItemsLeft p first r old new
+  pub items_next : (now r : List Token) (mid new : List ℕ) → ItemsLeft depth first now old mid → after_end_array now ≡ None → length r < length now
+      → PutsEncodingOf (λ v. IsRead depth meaning (λ d. json.value d now) v r) mid new → ItemsLeft depth first r old new
   items_next now r mid new l going less (w, v, same, is, read) =
       let some : 0 < l.count = omega (arith, less, l.enough) in
       record {
@@ -51,36 +57,42 @@ module _ (p : Parse json.Json) (first : List Token) (old : List ℕ) where
         put = same ∙ ap (λ b. b ++ w) l.put ∙ append_assoc old l.body w;
         ahead = λ vs. l.ahead (tree v vs);
         rest = λ tail vs all. subst (λ (b : List ℕ). ArrayBody b (l.ahead (tree v vs))) (sym (append_assoc l.body w tail)) (l.rest (w ++ tail) (tree v vs) (value w tail v vs is all));
-        read = l.read ∙ ap (parse_map l.ahead) (item_read p l.count now r v some going read) ∙ map_twice l.ahead (tree v) _;
+        read = λ d le. l.read d le ∙ ap (parse_map l.ahead) (item_read (json.value d) l.count now r v some going (read d le)) ∙ map_twice l.ahead (tree v) _;
+        none = λ d le h. l.none d le (no_item_after (json.value d) l.count now r v some going (read d le) h);
       }
 
-  pub items_done : (now r : List Token) (new : List ℕ) → ItemsLeft p first now old new → after_end_array now ≡ Some r
-      → PutsValues (λ vs. converted meanings (items p (length first) first) ≡ Some (vs, r)) old new
+  pub items_done : (now r : List Token) (new : List ℕ) → ItemsLeft depth first now old new → after_end_array now ≡ Some r
+      → PutsValues (λ vs. IsRead depth meanings (λ d. items_at d first) vs r) old new
   items_done now r new l end = (
     l.body,
     l.ahead no_trees,
     l.put,
     subst (λ (b : List ℕ). ArrayBody b (l.ahead no_trees)) (append-nil l.body) (l.rest [] no_trees no_values),
-    l.read ∙ ap (parse_map l.ahead) (items_over p l.count now r l.enough end),
+    λ d le. l.read d le ∙ ap (parse_map l.ahead) (items_over (json.value d) l.count now r l.enough end),
   )
 
-  pub items_none : (now : List Token) (new : List ℕ) → ItemsLeft p first now old new → after_end_array now ≡ None → converted meaning (p now) ≡ None → converted meanings (items p (length first) first) ≡ None
-  items_none now new l going none = l.read ∙ ap (parse_map l.ahead) (item_refused p l.count now going none)
+  pub items_none : (now : List Token) (new : List ℕ) (e : JsonError) → ItemsLeft depth first now old new → after_end_array now ≡ None
+      → IsRefusal depth e meaning (λ d. json.value d now) → IsRefusal depth e meanings (λ d. items_at d first)
+  items_none now new e l going =
+      refusal_on depth meanings (λ d. items_at d first) e meaning (λ d. json.value d now)
+      (λ d le h. l.none d le (items_fail (json.value d) l.count now going h))
+      (λ d le h. l.read d le ∙ ap (parse_map l.ahead) (item_refused (json.value d) l.count now going h))
 
 -- ---- a table
 
 -- the pairs of the tokens before `now` are put, and `next` is the key that was read after them
-pub record PairsLeft (p : Parse json.Json) (start : List Token) (next : Option (List ℕ)) (now : List Token) (old new : List ℕ) : Type 0 where
+pub record PairsLeft (depth : ℕ) (start : List Token) (next : Option (List ℕ)) (now : List Token) (old new : List ℕ) : Type 0 where
   pub count : ℕ
   pub enough : length now < count
   pub body : List ℕ
   pub put : new ≡ old ++ body
   pub ahead : Entries → Entries
   pub rest : (tail : List ℕ) (ps : Entries) → TableBody tail ps → TableBody (body ++ tail) (ahead ps)
-  pub read : pairs_read p start ≡ parse_map ahead (converted pairs_of (members p count (next_token next ∷ now)))
+  pub read : (d : ℕ) → depth ≤ d → converted pairs_of (members_at d start) ≡ parse_map ahead (converted pairs_of (members (json.value d) count (next_token next ∷ now)))
+  pub none : (d : ℕ) → depth ≤ d → members (json.value d) count (next_token next ∷ now) ≡ None → members_at d start ≡ None
 
-module _ (p : Parse json.Json) (start : List Token) (old : List ℕ) where
-  pub pairs_first : (next : Option (List ℕ)) (now : List Token) → start ≡ next_token next ∷ now → PairsLeft p start next now old old
+module _ (depth : ℕ) (start : List Token) (old : List ℕ) where
+  pub pairs_first : (next : Option (List ℕ)) (now : List Token) → start ≡ next_token next ∷ now → PairsLeft depth start next now old old
   pairs_first next now is = record {
     count = length start;
     enough = let size = ap length is in omega (arith, size);
@@ -88,12 +100,13 @@ module _ (p : Parse json.Json) (start : List Token) (old : List ℕ) where
     put = sym (append-nil old);
     ahead = λ ps. ps;
     rest = λ tail ps all. all;
-    read = map_same _ ∙ ap (λ ts. parse_map (λ ps. ps) (converted pairs_of (members p (length start) ts))) is;
+    read = λ d le. map_same _ ∙ ap (λ ts. parse_map (λ ps. ps) (converted pairs_of (members (json.value d) (length start) ts))) is;
+    none = λ d le h. ap (members (json.value d) (length start)) is ∙ h;
   }
 
-  pub pairs_next : (k : List ℕ) (next : Option (List ℕ)) (now r s : List Token) (mid keyed new : List ℕ) → PairsLeft p start (Some k) now old mid → IsShort (entry_key k)
+  pub pairs_next : (k : List ℕ) (next : Option (List ℕ)) (now r s : List Token) (mid keyed new : List ℕ) → PairsLeft depth start (Some k) now old mid → IsShort (entry_key k)
       → ((v : Tree) (ps : Option Entries) → with_entry k (Some v) ps ≡ option_map (entry (entry_key k) v) ps) → keyed ≡ mid ++ short_field (entry_key k)
-      → PutsEncodingOf (λ v. converted meaning (p now) ≡ Some (v, r)) keyed new → length r < length now → read_key r ≡ Some (next, s) → PairsLeft p start next s old new
+      → PutsEncodingOf (λ v. IsRead depth meaning (λ d. json.value d now) v r) keyed new → length r < length now → read_key r ≡ Some (next, s) → PairsLeft depth start next s old new
   pairs_next k next now r s mid keyed new l is_key fits key_put (w, v, same, is, found) less after =
       let more = short_field (entry_key k) ++ w in
       let some : 0 < l.count = omega (arith, less, l.enough) in
@@ -107,29 +120,38 @@ module _ (p : Parse json.Json) (start : List Token) (old : List ℕ) where
         rest = λ tail ps all.
             let joined : (l.body ++ more) ++ tail ≡ l.body ++ (short_field (entry_key k) ++ (w ++ tail)) = append_assoc l.body more tail ∙ ap (λ b. l.body ++ b) (append_assoc (short_field (entry_key k)) w tail) in
             subst (λ (b : List ℕ). TableBody b (l.ahead (entry (entry_key k) v ps))) (sym joined) (l.rest (short_field (entry_key k) ++ (w ++ tail)) (entry (entry_key k) v ps) (pair (entry_key k) w tail v ps is_key is all));
-        read = l.read ∙ ap (parse_map l.ahead) (member_read p l.count k now r v some (fits v) found) ∙ map_twice l.ahead (entry (entry_key k) v) _
-            ∙ ap (λ ts. parse_map (λ ps. l.ahead (entry (entry_key k) v ps)) (converted pairs_of (members p (l.count - 1) ts))) (next_is r next s after);
+        read = λ d le. l.read d le ∙ ap (parse_map l.ahead) (member_read (json.value d) l.count k now r v some (fits v) (found d le)) ∙ map_twice l.ahead (entry (entry_key k) v) _
+            ∙ ap (λ ts. parse_map (λ ps. l.ahead (entry (entry_key k) v ps)) (converted pairs_of (members (json.value d) (l.count - 1) ts))) (next_is r next s after);
+        none = λ d le h. l.none d le (no_member_after (json.value d) l.count k now r v some (found d le) (ap (members (json.value d) (l.count - 1)) (next_is r next s after) ∙ h));
       }
 
-  pub pairs_done : (now : List Token) (new : List ℕ) → PairsLeft p start None now old new → PutsPairs (λ ps. pairs_read p start ≡ Some (ps, now)) old new
+  pub pairs_done : (now : List Token) (new : List ℕ) → PairsLeft depth start None now old new → PutsPairs (λ ps. IsRead depth pairs_of (λ d. members_at d start) ps now) old new
   pairs_done now new l = (
     l.body,
     l.ahead no_entries,
     l.put,
     subst (λ (b : List ℕ). TableBody b (l.ahead no_entries)) (append-nil l.body) (l.rest [] no_entries no_pairs),
-    l.read ∙ ap (parse_map l.ahead) (members_over p l.count now (omega (arith, l.enough))),
+    λ d le. l.read d le ∙ ap (parse_map l.ahead) (members_over (json.value d) l.count now (omega (arith, l.enough))),
   )
 
-  pub pair_none : (k : List ℕ) (now : List Token) (new : List ℕ) → PairsLeft p start (Some k) now old new → ((j : json.Json) (r : List Token) → p now ≡ Some (j, r) → (ps : Option Entries) → with_entry k (meaning j) ps ≡ None)
-      → pairs_read p start ≡ None
-  pair_none k now new l none = l.read ∙ ap (parse_map l.ahead) (member_refused p l.count k now none)
+  module _ (k : List ℕ) (now : List Token) (new : List ℕ) (e : JsonError) (l : PairsLeft depth start (Some k) now old new) where
+    -- the key is none of a table
+    pub key_none : OnMismatch e ((v : Option Tree) (ps : Option Entries) → with_entry k v ps ≡ None) → IsRefusal depth e pairs_of (λ d. members_at d start)
+    key_none =
+        refusal_by depth pairs_of (λ d. members_at d start) e ((v : Option Tree) (ps : Option Entries) → with_entry k v ps ≡ None)
+        (λ h d le. l.read d le ∙ ap (parse_map l.ahead) (member_refused (json.value d) l.count k now (λ j r at ps. h (meaning j) ps)))
 
-  -- no key follows, nor the end
-  pub key_none : (k : List ℕ) (now r : List Token) (mid keyed new : List ℕ) → PairsLeft p start (Some k) now old mid
-      → ((v : Tree) (ps : Option Entries) → with_entry k (Some v) ps ≡ option_map (entry (entry_key k) v) ps) → PutsEncodingOf (λ v. converted meaning (p now) ≡ Some (v, r)) keyed new → read_key r ≡ None → pairs_read p start ≡ None
-  key_none k now r mid keyed new l fits (w, v, same, is, found) none =
-      l.read ∙ ap (parse_map l.ahead) (member_read p l.count k now r v (omega (arith, l.enough)) (fits v) found)
-      ∙ ap (λ o. parse_map l.ahead (parse_map (entry (entry_key k) v) o)) (key_refused p (l.count - 1) r none)
+    pub pair_none : IsRefusal depth e meaning (λ d. json.value d now) → IsRefusal depth e pairs_of (λ d. members_at d start)
+    pair_none =
+        refusal_on depth pairs_of (λ d. members_at d start) e meaning (λ d. json.value d now)
+        (λ d le h. l.none d le (members_fail (json.value d) l.count k (key k ∷ now) now refl h))
+        (λ d le h. l.read d le ∙ ap (parse_map l.ahead) (member_refused (json.value d) l.count k now (λ j r at ps. no_entry k (meaning j) ps (none_is (json.value d now) j r at h))))
+
+    -- no key follows, nor the end
+    pub next_none : (r : List Token) (keyed put : List ℕ) → PutsEncodingOf (λ v. IsRead depth meaning (λ d. json.value d now) v r) keyed put → read_key r ≡ None → IsRefusal depth e pairs_of (λ d. members_at d start)
+    next_none r keyed put (w, v, same, is, found) none =
+        refusal_of depth pairs_of (λ d. members_at d start) e
+        (λ d le. l.none d le (no_member_after (json.value d) l.count k now r v (omega (arith, l.enough)) (found d le) (members_no_key (json.value d) (l.count - 1) r none)))
 
 -- ---- a container's head
 

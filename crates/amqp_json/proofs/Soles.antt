@@ -7,21 +7,20 @@ use Rattle.json.specs.Json.{Parse, parse_map, read_key, items, members, value}
 use Rattle.json.specs.Reads.{token_of}
 use Rattle.json.specs.declared.token.Token.{Token as KitToken}
 use Rattle.json.specs.declared.token.Token.TheVariants as kit
-use Rattle.json.proofs.Grammar.{value_is, members_end, members_more, members_no_key}
+use Rattle.json.proofs.Grammar.{value_is, members_end, members_more, members_no_key, members_fail}
 use Rattle.amqp_value_core.specs.declared.types.amqp_type.AMQPType.{AMQPType}
 use Rattle.amqp_value_core.specs.Values.{Tree}
 use Rattle.amqp_json.specs.Names.{type_named}
 use Rattle.amqp_json.specs.Meaning.{is_type_key, meaning, pairs_of, object_of, value_as, number_as, string_as}
-use Rattle.amqp_json.specs.Puts.{object_read, IsLeaf, IsNoLeaf, converted}
-
-abbrev obj : json.Members → Option Tree
-obj ms = object_of ms (pairs_of ms)
+use Rattle.amqp_json.specs.Puts.{IsLeaf, IsNoLeaf, IsLeafRefusal, IsNamed, IsRefusal, members_at, object_meant, converted}
+use Rattle.amqp_json.specs.declared.error.JsonError.{JsonError}
+use Rattle.amqp_json.specs.declared.error.JsonError.TheVariants.{OutOfMemory, TooLarge, Syntax, TooDeep, NotAValue}
 
 -- beside another member it is none of a table
-beside : (k l : List ℕ) (j i : json.Json) (ms : json.Members) → is_type_key k ≡ true → obj (json.member k j (json.member l i ms)) ≡ None
+beside : (k l : List ℕ) (j i : json.Json) (ms : json.Members) → is_type_key k ≡ true → object_meant (json.member k j (json.member l i ms)) ≡ None
 beside k l j i ms e = rw e refl
 
-alone : (k : List ℕ) (j : json.Json) (type : Option AMQPType) → is_type_key k ≡ true → type_named (drop 1 k) ≡ type → obj (json.member k j json.no_members) ≡ option_and_then (λ t. value_as t j) type
+alone : (k : List ℕ) (j : json.Json) (type : Option AMQPType) → is_type_key k ≡ true → type_named (drop 1 k) ≡ type → object_meant (json.member k j json.no_members) ≡ option_and_then (λ t. value_as t j) type
 alone k j type e known = rw (e, known) refl
 
 module _ (depth : ℕ) (k : List ℕ) (is : is_type_key k ≡ true) where
@@ -29,50 +28,54 @@ module _ (depth : ℕ) (k : List ℕ) (is : is_type_key k ≡ true) where
   p = value depth
 
   -- what it is with the value of that token, if the object ends there
-  pub sole : (t : Token) (ts r : List Token) (type : AMQPType) (v : Tree) → type_named (drop 1 k) ≡ Some type → IsLeaf type t v → read_key ts ≡ Some (None, r) → object_read p (key k ∷ t ∷ ts) ≡ Some (v, r)
+  pub sole : (t : Token) (ts r : List Token) (type : AMQPType) (v : Tree) → type_named (drop 1 k) ≡ Some type → IsLeaf type t v → read_key ts ≡ Some (None, r) → converted object_meant (members_at depth (key k ∷ t ∷ ts)) ≡ Some (v, r)
   sole t ts r type v known (j, at, means) closed =
       let size = suc (length ts) in
-      ap (converted obj) (members_more p (suc size) k (key k ∷ t ∷ ts) (t ∷ ts) ts j (omega arith) refl (at depth ts) ∙ ap (parse_map (json.member k j)) (members_end p (suc size - 1) ts r (omega arith) closed))
+      ap (converted object_meant) (members_more p (suc size) k (key k ∷ t ∷ ts) (t ∷ ts) ts j (omega arith) refl (at depth ts) ∙ ap (parse_map (json.member k j)) (members_end p (suc size - 1) ts r (omega arith) closed))
       ∙ ap (option_map (λ x. (x, r))) (alone k j (Some type) is known ∙ means)
 
   -- it isn't closed
-  pub not_closed : (t : Token) (ts : List Token) (type : AMQPType) (v : Tree) → IsLeaf type t v → read_key ts ≡ None → object_read p (key k ∷ t ∷ ts) ≡ None
+  pub not_closed : (t : Token) (ts : List Token) (type : AMQPType) (v : Tree) → IsLeaf type t v → read_key ts ≡ None → members_at depth (key k ∷ t ∷ ts) ≡ None
   not_closed t ts type v (j, at, means) none =
       let size = suc (length ts) in
-      ap (converted obj) (members_more p (suc size) k (key k ∷ t ∷ ts) (t ∷ ts) ts j (omega arith) refl (at depth ts) ∙ ap (parse_map (json.member k j)) (members_no_key p (suc size - 1) ts none))
+      members_more p (suc size) k (key k ∷ t ∷ ts) (t ∷ ts) ts j (omega arith) refl (at depth ts) ∙ ap (parse_map (json.member k j)) (members_no_key p (suc size - 1) ts none)
+
+  -- no value follows
+  pub no_value : (us : List Token) → p us ≡ None → members_at depth (key k ∷ us) ≡ None
+  no_value us none = members_fail p (suc (length us)) k (key k ∷ us) us refl none
 
   others : (l : List ℕ) (j : json.Json) (more : Parse json.Members) (o : Option (json.Json × List Token))
-      → converted obj (parse_map (json.member k j) (option_and_then (λ q. parse_map (json.member l q.0) (more q.1)) o)) ≡ None
+      → converted object_meant (parse_map (json.member k j) (option_and_then (λ q. parse_map (json.member l q.0) (more q.1)) o)) ≡ None
   others l j more None = refl
   others l j more (Some q) = other (more q.1)
     where
-      other : (o : Option (json.Members × List Token)) → converted obj (parse_map (json.member k j) (parse_map (json.member l q.0) o)) ≡ None
+      other : (o : Option (json.Members × List Token)) → converted object_meant (parse_map (json.member k j) (parse_map (json.member l q.0) o)) ≡ None
       other None = refl
       other (Some m) = ap (option_map (λ v. (v, m.1))) (beside k l j q.0 m.0 is)
 
-  next_member : (l : List ℕ) (j : json.Json) (n : ℕ) (ts s : List Token) → read_key ts ≡ Some (Some l, s) → converted obj (parse_map (json.member k j) (members p n ts)) ≡ None
+  next_member : (l : List ℕ) (j : json.Json) (n : ℕ) (ts s : List Token) → read_key ts ≡ Some (Some l, s) → converted object_meant (parse_map (json.member k j) (members p n ts)) ≡ None
   unfolding members
   next_member l j zero ts s at = refl
   next_member l j (suc n) ts s at = rw at (others l j (members p n) (p s))
 
   -- another member follows
-  pub not_alone : (t : Token) (ts s : List Token) (l : List ℕ) (type : AMQPType) (v : Tree) → IsLeaf type t v → read_key ts ≡ Some (Some l, s) → object_read p (key k ∷ t ∷ ts) ≡ None
+  pub not_alone : (t : Token) (ts s : List Token) (l : List ℕ) (type : AMQPType) (v : Tree) → IsLeaf type t v → read_key ts ≡ Some (Some l, s) → converted object_meant (members_at depth (key k ∷ t ∷ ts)) ≡ None
   not_alone t ts s l type v (j, at, means) next =
       let size = suc (length ts) in
-      ap (converted obj) (members_more p (suc size) k (key k ∷ t ∷ ts) (t ∷ ts) ts j (omega arith) refl (at depth ts)) ∙ next_member l j (suc size - 1) ts s next
+      ap (converted object_meant) (members_more p (suc size) k (key k ∷ t ∷ ts) (t ∷ ts) ts j (omega arith) refl (at depth ts)) ∙ next_member l j (suc size - 1) ts s next
 
-  without : (type : Option AMQPType) (j : json.Json) (o : Option (json.Members × List Token)) → type_named (drop 1 k) ≡ type → option_and_then (λ t. value_as t j) type ≡ None → converted obj (parse_map (json.member k j) o) ≡ None
+  without : (type : Option AMQPType) (j : json.Json) (o : Option (json.Members × List Token)) → type_named (drop 1 k) ≡ type → option_and_then (λ t. value_as t j) type ≡ None → converted object_meant (parse_map (json.member k j) o) ≡ None
   without type j None known none = refl
   without type j (Some (json.no_members, r)) known none = ap (option_map (λ v. (v, r))) (alone k j type is known ∙ none)
   without type j (Some (json.member l i ms, r)) known none = ap (option_map (λ v. (v, r))) (beside k l j i ms is)
 
   -- what follows is no value of the type
-  pub no_named : (us : List Token) (type : Option AMQPType) → type_named (drop 1 k) ≡ type → ((j : json.Json) (r : List Token) → p us ≡ Some (j, r) → option_and_then (λ t. value_as t j) type ≡ None) → object_read p (key k ∷ us) ≡ None
+  pub no_named : (us : List Token) (type : Option AMQPType) → type_named (drop 1 k) ≡ type → ((j : json.Json) (r : List Token) → p us ≡ Some (j, r) → option_and_then (λ t. value_as t j) type ≡ None) → converted object_meant (members_at depth (key k ∷ us)) ≡ None
   unfolding members
   no_named us type known none = by (p us) none
     where
       by : (o : Option (json.Json × List Token)) → ((j : json.Json) (r : List Token) → o ≡ Some (j, r) → option_and_then (λ t. value_as t j) type ≡ None)
-          → converted obj (option_and_then (λ q. parse_map (json.member k q.0) (members p (length us) q.1)) o) ≡ None
+          → converted object_meant (option_and_then (λ q. parse_map (json.member k q.0) (members p (length us) q.1)) o) ≡ None
       by None h = refl
       by (Some q) h = without type q.0 (members p (length us) q.1) known (h q.0 q.1 refl)
 
@@ -126,12 +129,19 @@ no_leaf type (kit.Bool x) a b depth ts r j e = ap (value_as type) (sym (ap (pick
 no_leaf type kit.Null a b depth ts r j e = ap (value_as type) (sym (ap (pick j) (sym (value_is depth (spec.null ∷ ts)) ∙ e)))
 no_leaf type kit.Bad a b depth ts r j e = unread type spec.bad depth ts r j (value_is depth (spec.bad ∷ ts)) e
 
-pub no_token : {P : Type 0} (depth : ℕ) (ts r : List Token) (j : json.Json) → ts ≡ [] → value depth ts ≡ Some (j, r) → P
-no_token depth ts r j end e = absurd (cc (sym (value_is depth []) ∙ ap (value depth) (sym end) ∙ e))
-
 -- no value begins with such a token
-pub closer : (depth : ℕ) (ts : List Token) (t : KitToken) → (t ≡ kit.EndArray) ⊎ ((t ≡ kit.EndObject) ⊎ (((x : Bor (List ℕ)) × (t ≡ kit.Key x)) ⊎ (t ≡ kit.Bad))) → converted meaning (value depth (token_of t ∷ ts)) ≡ None
-closer depth ts t (inl e) = ap (λ k. converted meaning (value depth (token_of k ∷ ts))) e ∙ ap (converted meaning) (value_is depth (spec.end_array ∷ ts))
-closer depth ts t (inr (inl e)) = ap (λ k. converted meaning (value depth (token_of k ∷ ts))) e ∙ ap (converted meaning) (value_is depth (spec.end_object ∷ ts))
-closer depth ts t (inr (inr (inl (x, e)))) = ap (λ k. converted meaning (value depth (token_of k ∷ ts))) e ∙ ap (converted meaning) (value_is depth (spec.key x.now ∷ ts))
-closer depth ts t (inr (inr (inr e))) = ap (λ k. converted meaning (value depth (token_of k ∷ ts))) e ∙ ap (converted meaning) (value_is depth (spec.bad ∷ ts))
+pub closer : (depth : ℕ) (ts : List Token) (t : KitToken) → (t ≡ kit.EndArray) ⊎ ((t ≡ kit.EndObject) ⊎ (((x : Bor (List ℕ)) × (t ≡ kit.Key x)) ⊎ (t ≡ kit.Bad))) → value depth (token_of t ∷ ts) ≡ None
+closer depth ts t (inl e) = ap (λ k. value depth (token_of k ∷ ts)) e ∙ value_is depth (spec.end_array ∷ ts)
+closer depth ts t (inr (inl e)) = ap (λ k. value depth (token_of k ∷ ts)) e ∙ value_is depth (spec.end_object ∷ ts)
+closer depth ts t (inr (inr (inl (x, e)))) = ap (λ k. value depth (token_of k ∷ ts)) e ∙ value_is depth (spec.key x.now ∷ ts)
+closer depth ts t (inr (inr (inr e))) = ap (λ k. value depth (token_of k ∷ ts)) e ∙ value_is depth (spec.bad ∷ ts)
+
+-- ---- why no value is named
+
+module _ (type : AMQPType) (name : List ℕ) (known : type_named name ≡ Some type) (t : Token) (ts : List Token) where
+  pub leaf_refused : (e : JsonError) → IsLeafRefusal e type t → IsNamed name (t ∷ ts) (λ depth read. IsRefusal depth e object_meant read)
+  leaf_refused OutOfMemory h k depth is same = tt
+  leaf_refused TooLarge h k depth is same = tt
+  leaf_refused (Syntax at error) h k depth is same = λ d le. no_value d k is (t ∷ ts) (h d ts)
+  leaf_refused (TooDeep at) h k depth is same = absurd h
+  leaf_refused (NotAValue at m) h k depth is same = λ d le. no_named d k is (t ∷ ts) (Some type) (ap type_named (sym same) ∙ known) (λ j r at. h d ts r j at)

@@ -3,10 +3,10 @@ use Rattle.std.proofs.Common.{◌≡◌, ℕ, zero, suc, ◌-◌, ◌<◌, ◌�
 use Rattle.json.specs.Token.{Token, key}
 use Rattle.json.specs.Json as json
 use Rattle.json.specs.Json.{Parse, parse_map, after_end_array, read_key, items_step, items, members}
-use Rattle.json.proofs.Grammar.{items_end, items_more, members_no_key, members_more, read_key_is}
+use Rattle.json.proofs.Grammar.{value-begin_array, value-begin_object, items_end, items_more, members_more, read_key_is}
 use Rattle.amqp_value_core.specs.Values.{Tree, array, no_trees, tree, Entries, no_entries, entry}
 use Rattle.amqp_json.specs.Meaning.{is_type_key, entry_key, with_entry, meaning, meanings, pairs_of, object_of, table_of}
-use Rattle.amqp_json.specs.Puts.{next_token, object_read, pairs_read, converted}
+use Rattle.amqp_json.specs.Puts.{array_of, object_meant, items_at, members_at, next_token, converted}
 
 abbrev pick : {A : Type 0} → A → Option A → A
 pick d None = d
@@ -37,11 +37,15 @@ pub map_same : {A : Type 0} (o : Option (A × List Token)) → o ≡ parse_map (
 map_same None = refl
 map_same (Some p) = refl
 
-pub converted-array : (o : Option (json.Items × List Token)) → converted meaning (parse_map json.array o) ≡ parse_map array (converted meanings o)
+pub converted-array : (o : Option (json.Items × List Token)) → converted meaning (parse_map json.array o) ≡ converted array_of o
 converted-array None = refl
-converted-array (Some p) = twice array p.1 (meanings p.0)
+converted-array (Some p) = refl
 
-pub converted-object : (o : Option (json.Members × List Token)) → converted meaning (parse_map json.object o) ≡ converted (λ ms. object_of ms (pairs_of ms)) o
+pub converted-items : (o : Option (json.Items × List Token)) → converted array_of o ≡ parse_map array (converted meanings o)
+converted-items None = refl
+converted-items (Some p) = twice array p.1 (meanings p.0)
+
+pub converted-object : (o : Option (json.Members × List Token)) → converted meaning (parse_map json.object o) ≡ converted object_meant o
 converted-object None = refl
 converted-object (Some p) = refl
 
@@ -72,6 +76,10 @@ module _ (p : Parse json.Json) where
       → converted meanings (items p n ts) ≡ parse_map (tree v) (converted meanings (items p (n - 1) r))
   item_read n ts r v some going e = let j = converted_some meaning (p ts) v r e in ap (converted meanings) (items_more p n ts r j.0 some going j.1) ∙ with_item j.0 v j.2 _
 
+  -- after an item nothing is read
+  pub no_item_after : (n : ℕ) (ts r : List Token) (v : Tree) → 0 < n → after_end_array ts ≡ None → converted meaning (p ts) ≡ Some (v, r) → items p (n - 1) r ≡ None → items p n ts ≡ None
+  no_item_after n ts r v some going e none = let j = converted_some meaning (p ts) v r e in items_more p n ts r j.0 some going j.1 ∙ ap (parse_map (json.item j.0)) none
+
   no_item : (more : Parse json.Items) (o : Option (json.Json × List Token)) → converted meaning o ≡ None → converted meanings (option_and_then (λ q. parse_map (json.item q.0) (more q.1)) o) ≡ None
   no_item more None e = refl
   no_item more (Some q) e = without_item q.0 (none_of q.1 (meaning q.0) e) (more q.1)
@@ -90,6 +98,9 @@ module _ (p : Parse json.Json) where
       let j = converted_some meaning (p s) v r e in
       ap (converted pairs_of) (members_more p n k (key k ∷ s) s r j.0 some refl j.1) ∙ with_member k j.0 v put j.2 _
 
+  pub no_member_after : (n : ℕ) (k : List ℕ) (s r : List Token) (v : Tree) → 0 < n → converted meaning (p s) ≡ Some (v, r) → members p (n - 1) r ≡ None → members p n (key k ∷ s) ≡ None
+  no_member_after n k s r v some e none = let j = converted_some meaning (p s) v r e in members_more p n k (key k ∷ s) s r j.0 some refl j.1 ∙ ap (parse_map (json.member k j.0)) none
+
   no_member : (k : List ℕ) (more : Parse json.Members) (o : Option (json.Json × List Token)) → ((j : json.Json) (r : List Token) → o ≡ Some (j, r) → (ps : Option Entries) → with_entry k (meaning j) ps ≡ None)
       → converted pairs_of (option_and_then (λ q. parse_map (json.member k q.0) (more q.1)) o) ≡ None
   no_member k more None e = refl
@@ -107,12 +118,6 @@ module _ (p : Parse json.Json) where
   members_over zero r some = let never : ⊥ = omega (arith, some) in absurd never
   members_over (suc n) r some = refl
 
-  pub key_refused : (n : ℕ) (ts : List Token) → read_key ts ≡ None → converted pairs_of (members p n ts) ≡ None
-  key_refused n ts e = ap (converted pairs_of) (members_no_key p n ts e)
-
-  pub no_object : (n : ℕ) (ts : List Token) → read_key ts ≡ None → converted (λ ms. object_of ms (pairs_of ms)) (members p n ts) ≡ None
-  no_object n ts e = ap (converted (λ ms. object_of ms (pairs_of ms))) (members_no_key p n ts e)
-
   -- ---- an object whose first key is no name is a table
 
   entries_of_object : (k : List ℕ) (j : json.Json) (ms : json.Members) (o : Option Entries) → is_type_key k ≡ false → object_of (json.member k j ms) o ≡ option_map table_of o
@@ -120,19 +125,32 @@ module _ (p : Parse json.Json) where
   entries_of_object k j (json.member l i ms) o e = refl
 
   as_table : (k : List ℕ) (j : json.Json) (o : Option (json.Members × List Token)) → is_type_key k ≡ false
-      → converted (λ ms. object_of ms (pairs_of ms)) (parse_map (json.member k j) o) ≡ parse_map table_of (converted pairs_of (parse_map (json.member k j) o))
+      → converted object_meant (parse_map (json.member k j) o) ≡ parse_map table_of (converted pairs_of (parse_map (json.member k j) o))
   as_table k j None e = refl
   as_table k j (Some q) e = ap (option_map (λ v. (v, q.1))) (entries_of_object k j q.0 (pairs_of (json.member k j q.0)) e) ∙ twice table_of q.1 (pairs_of (json.member k j q.0))
 
   as_tables : (k : List ℕ) (more : Parse json.Members) (o : Option (json.Json × List Token)) → is_type_key k ≡ false
-      → converted (λ ms. object_of ms (pairs_of ms)) (option_and_then (λ q. parse_map (json.member k q.0) (more q.1)) o) ≡ parse_map table_of (converted pairs_of (option_and_then (λ q. parse_map (json.member k q.0) (more q.1)) o))
+      → converted object_meant (option_and_then (λ q. parse_map (json.member k q.0) (more q.1)) o) ≡ parse_map table_of (converted pairs_of (option_and_then (λ q. parse_map (json.member k q.0) (more q.1)) o))
   as_tables k more None e = refl
   as_tables k more (Some q) e = as_table k q.0 (more q.1) e
 
-  pub table_first : (o : Option (List ℕ)) (r : List Token) → ((k : List ℕ) → o ≡ Some k → is_type_key k ≡ false) → object_read p (next_token o ∷ r) ≡ parse_map table_of (pairs_read p (next_token o ∷ r))
+  pub table_first : (o : Option (List ℕ)) (r : List Token) → ((k : List ℕ) → o ≡ Some k → is_type_key k ≡ false)
+      → converted object_meant (members p (length (next_token o ∷ r)) (next_token o ∷ r)) ≡ parse_map table_of (converted pairs_of (members p (length (next_token o ∷ r)) (next_token o ∷ r)))
   unfolding members
   table_first None r plain = refl
   table_first (Some k) r plain = as_tables k (members p (length r)) (p r) (plain k refl)
 
 pub none_is : (o : Option (json.Json × List Token)) (j : json.Json) (r : List Token) → o ≡ Some (j, r) → converted meaning o ≡ None → meaning j ≡ None
 none_is o j r is none = none_of r (meaning j) (sym (ap (converted meaning) is) ∙ none)
+
+-- ---- what a value is that is an array or an object
+
+pub array_meant : (d : ℕ) (s : List Token) → 0 < d → converted meaning (json.value d (Token.begin_array ∷ s)) ≡ converted array_of (items_at (d - 1) s)
+array_meant d s some = ap (converted meaning) (value-begin_array d s some) ∙ converted-array (items_at (d - 1) s)
+
+pub object_is : (d : ℕ) (s : List Token) → 0 < d → converted meaning (json.value d (Token.begin_object ∷ s)) ≡ converted object_meant (members_at (d - 1) s)
+object_is d s some = ap (converted meaning) (value-begin_object d s some) ∙ converted-object (members_at (d - 1) s)
+
+pub table_is : (d : ℕ) (s mid : List Token) (o : Option (List ℕ)) → ((k : List ℕ) → o ≡ Some k → is_type_key k ≡ false) → read_key s ≡ Some (o, mid)
+    → converted object_meant (members_at d s) ≡ parse_map table_of (converted pairs_of (members_at d (next_token o ∷ mid)))
+table_is d s mid o plain first = ap (λ ts. converted object_meant (members_at d ts)) (next_is s o mid first) ∙ table_first (json.value d) o mid plain

@@ -1,5 +1,6 @@
 -- From JSON texts to values and encodings, and back: what the calls' clauses say.
-use Rattle.std.specs.Prelude.{ℕ, ◌≡◌, ◌<◌, ◌≤◌, List, ◌++◌, length, drop, Some, None, false}
+use Rattle.std.specs.Prelude.{ℕ, ◌≡◌, ◌<◌, ◌≤◌, List, ◌++◌, length, drop, Option, Some, None, option_and_then, false}
+use Rattle.json.specs.Json.{Json}
 use Rattle.amq_protocol_types.specs.declared.parsing.limits.Limits.{Limits}
 use Rattle.amq_protocol_types.specs.parsing.Headers.{extent, IsWholeValue}
 use Rattle.amq_protocol_types.specs.parsing.Limits.{Within, RefusesWithin}
@@ -8,10 +9,10 @@ use Rattle.amqp_value_core.specs.Values.{Tree, readable}
 use Rattle.amqp_value_core.specs.Outcomes.{found}
 use Rattle.amqp_value_core.specs.Texts.{text, Fits}
 use Rattle.amqp_json.specs.Ascending.{InOrder, OutOfOrder}
-use Rattle.amqp_json.specs.Meaning.{meant}
+use Rattle.amqp_json.specs.Meaning.{meaning, meant_within, json_within}
 use Rattle.amqp_json.specs.Written.{json_text, counted, MeansIfShallow}
 use Rattle.amqp_json.specs.declared.error.JsonError.{JsonError}
-use Rattle.amqp_json.specs.declared.error.JsonError.TheVariants.{Syntax, NotAValue}
+use Rattle.amqp_json.specs.declared.error.JsonError.TheVariants.{Syntax, TooDeep, NotAValue}
 use Rattle.amqp_json.specs.declared.error.EncodeError.{EncodeError}
 use Rattle.amqp_json.specs.declared.error.EncodeError.TheVariants as encode
 use Rattle.amqp_json.specs.declared.error.DecodeError.{DecodeError}
@@ -21,19 +22,25 @@ use Rattle.amqp_json.specs.declared.error.WriteError.TheVariants as write
 
 -- ---- from a text
 
--- the bytes are the canonical encoding of the value that the text means
-abbrev pub IsEncodingOf : List ℕ → List ℕ → Type 0
-IsEncodingOf t bytes = (v : Tree) × (meant t ≡ Some v) × (bytes ≡ text v)
+-- the bytes are the canonical encoding of the value that the text of at most so many levels means
+abbrev pub IsEncodingWithin : ℕ → List ℕ → List ℕ → Type 0
+IsEncodingWithin most t bytes = (v : Tree) × (meant_within most t ≡ Some v) × (bytes ≡ text v)
 
--- an error that blames the text means that the text means no value
-abbrev pub IsRefused : JsonError → List ℕ → Type 0
-IsRefused (Syntax at) t = meant t ≡ None
-IsRefused (NotAValue at mismatch) t = meant t ≡ None
-IsRefused e t = Unit {0}
+-- an error that blames the text is right: it isn't JSON, or its JSON means nothing, however many more levels are allowed;
+-- or it means nothing within these levels. `json` is what the text is within so many levels
+abbrev pub IsRefusedAs : ℕ → JsonError → (ℕ → Option Json) → Type 0
+IsRefusedAs most (Syntax at error) json = (levels : ℕ) → most ≤ levels → json levels ≡ None
+IsRefusedAs most (TooDeep at) json = option_and_then meaning (json most) ≡ None
+IsRefusedAs most (NotAValue at mismatch) json = (levels : ℕ) → most ≤ levels → option_and_then meaning (json levels) ≡ None
+IsRefusedAs most e json = Unit {0}
+
+abbrev pub IsRefusedWithin : ℕ → JsonError → List ℕ → Type 0
+IsRefusedWithin most e t = IsRefusedAs most e (λ levels. json_within levels t)
 
 -- the byte of an error is in a text of that many bytes, or its end
 abbrev pub IsWithin : JsonError → ℕ → Type 0
-IsWithin (Syntax at) len = at ≤ len
+IsWithin (Syntax at error) len = at ≤ len
+IsWithin (TooDeep at) len = at ≤ len
 IsWithin (NotAValue at mismatch) len = at ≤ len
 IsWithin e len = Unit {0}
 

@@ -14,6 +14,7 @@ use Rattle.std.specs.Str.Parse.{digits_value, signed_digits_value}
 use Rattle.std.specs.Fmt.{signed_decimal}
 use Rattle.std.specs.Int.{w8, w16, w32, w64, cast_unsigned, from_be_bytes}
 use Rattle.hex.specs.Hex.{decode_of, decode_sized}
+use Rattle.json.specs.Token.{Token}
 use Rattle.json.specs.Lex.{tokens}
 use Rattle.json.specs.Json.{Json, null, boolean, number, string, array, object, Items, no_items, item, Members, no_members, member, value, if_last}
 use Rattle.amqp_value_core.specs.declared.types.amqp_type.AMQPType.{AMQPType}
@@ -132,6 +133,18 @@ abbrev mutual
 abbrev pub most_levels : ℕ
 most_levels = 127
 
--- the value that a text means: one JSON value of at most so many levels, with nothing but white space around it
+-- the JSON that some tokens are: one value of at most so many levels, and no token after it
+abbrev pub json_of : ℕ → List Token → Option Json
+json_of most ts = option_and_then (λ p. if_last p.0 p.1) (value most ts)
+
+-- the JSON that a text is, with nothing but white space around it
+abbrev pub json_within : ℕ → List ℕ → Option Json
+json_within most t = json_of most (tokens t)
+
+-- the value that a text of at most so many levels means
+abbrev pub meant_within : ℕ → List ℕ → Option Tree
+meant_within most t = option_and_then meaning (json_within most t)
+
+-- the value that a text means
 abbrev pub meant : List ℕ → Option Tree
-meant t = option_and_then meaning (option_and_then (λ p. if_last p.0 p.1) (value most_levels (tokens t)))
+meant t = meant_within most_levels t

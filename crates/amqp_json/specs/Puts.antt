@@ -1,28 +1,29 @@
 -- For private clauses: encodings that are put after other bytes.
-use Rattle.std.specs.Prelude.{◌≡◌, ◌==◌, ◌&&◌, ◌||◌, nat_le, Bool, true, false, List, ◌∷◌, ◌++◌, ℕ, drop, length, slice_index, Option, Some, None, option_map, option_and_then}
+use Rattle.std.specs.Prelude.{◌≡◌, ◌≤◌, ◌==◌, ◌&&◌, ◌||◌, nat_le, Bool, true, false, List, ◌∷◌, ◌++◌, ℕ, drop, length, slice_index, Option, Some, None, option_map, option_and_then}
 use Rattle.json.specs.Token.{Token, key, end_object}
-use Rattle.json.specs.Json.{Parse, Json, members, value}
+use Rattle.json.specs.Json.{Json, Items, items, Members, members, value}
 use Rattle.amqp_value_core.specs.declared.types.amqp_type.AMQPType.{AMQPType}
-use Rattle.amqp_value_core.specs.Values.{Scalar, scalar, Tree, Trees, Entries}
+use Rattle.amqp_value_core.specs.Values.{Scalar, scalar, array, Tree, Trees, Entries}
 use Rattle.amqp_value_core.specs.Grammar.{Wire, ArrayBody, TableBody}
 use Rattle.amqp_value_core.specs.InMemory.{IsScalar}
 use Rattle.amqp_value_core.specs.Texts.{text}
 use Rattle.amqp_json.specs.declared.error.JsonError.{JsonError}
-use Rattle.amqp_json.specs.declared.error.JsonError.TheVariants.{Syntax, NotAValue}
+use Rattle.amqp_json.specs.declared.error.JsonError.TheVariants.{Syntax, TooDeep, NotAValue}
 use Rattle.amqp_json.specs.declared.key.Key.{Key}
 use Rattle.amqp_json.specs.declared.key.Key.TheVariants.{Entry, Name}
-use Rattle.amqp_json.specs.Meaning.{is_type_key, entry_key, object_of, pairs_of, value_as, meant}
+use Rattle.amqp_json.specs.Meaning.{is_type_key, entry_key, meanings, object_of, pairs_of, value_as, meant_within}
 
 -- what a key of an object says
 abbrev pub IsKey : List ℕ → Key → Type 0
 IsKey k (Entry s) = (is_type_key k ≡ false) × (s.now ≡ entry_key k)
 IsKey k (Name s) = (is_type_key k ≡ true) × (s.now ≡ drop 1 k)
 
--- if the text is why no encoding is put, P is so; memory and size say nothing
-abbrev pub OnRefusal : JsonError → Type 0 → Type 0
-OnRefusal (Syntax at) P = P
-OnRefusal (NotAValue at mismatch) P = P
-OnRefusal e P = Unit {0}
+-- if no value has what was read, P is so; memory and size say nothing
+abbrev pub OnMismatch : JsonError → Type 0 → Type 0
+OnMismatch (Syntax at error) P = ⊥
+OnMismatch (TooDeep at) P = ⊥
+OnMismatch (NotAValue at mismatch) P = P
+OnMismatch e P = Unit {0}
 
 -- an encoding of a value is put after the bytes that were there, and P is so of the value
 abbrev pub PutsEncodingOf : (Tree → Type 0) → List ℕ → List ℕ → Type 0
@@ -44,22 +45,40 @@ PutsScalar v old new = (x : Scalar) × (v ≡ scalar x) × IsScalar x × (new �
 abbrev pub converted : {A B : Type 0} → (A → Option B) → Option (A × List Token) → Option (B × List Token)
 converted f read = option_and_then (λ p. option_map (λ b. (b, p.1)) (f p.0)) read
 
--- what an object is that has the members at the start of some tokens
-abbrev pub object_read : Parse Json → List Token → Option (Tree × List Token)
-object_read p ts = converted (λ ms. object_of ms (pairs_of ms)) (members p (length ts) ts)
+-- the items, and the members, at the start of some tokens
+abbrev pub items_at : ℕ → List Token → Option (Items × List Token)
+items_at depth ts = items (value depth) (length ts) ts
 
--- the same as the pairs of a table
-abbrev pub pairs_read : Parse Json → List Token → Option (Entries × List Token)
-pairs_read p ts = converted pairs_of (members p (length ts) ts)
+abbrev pub members_at : ℕ → List Token → Option (Members × List Token)
+members_at depth ts = members (value depth) (length ts) ts
+
+-- what an array of these items means, and an object of these members
+abbrev pub array_of : Items → Option Tree
+array_of js = option_map array (meanings js)
+
+abbrev pub object_meant : Members → Option Tree
+object_meant ms = object_of ms (pairs_of ms)
+
+-- at this depth, and at any greater one, what is read at the start of some tokens is converted to b, and `rest` is after it
+abbrev pub IsRead : {A B : Type 0} → ℕ → (A → Option B) → (ℕ → Option (A × List Token)) → B → List Token → Type 0
+IsRead depth f read b rest = (d : ℕ) → depth ≤ d → converted f (read d) ≡ Some (b, rest)
+
+-- if the text is why no encoding is put: nothing is read at this depth and any greater one; nothing is converted at this
+-- depth; or at any greater one neither
+abbrev pub IsRefusal : {A B : Type 0} → ℕ → JsonError → (A → Option B) → (ℕ → Option (A × List Token)) → Type 0
+IsRefusal depth (Syntax at error) f read = (d : ℕ) → depth ≤ d → read d ≡ None
+IsRefusal depth (TooDeep at) f read = converted f (read depth) ≡ None
+IsRefusal depth (NotAValue at mismatch) f read = (d : ℕ) → depth ≤ d → converted f (read d) ≡ None
+IsRefusal depth e f read = Unit {0}
 
 -- the token of a key, or of the closing brace
 abbrev pub next_token : Option (List ℕ) → Token
 next_token None = end_object
 next_token (Some k) = key k
 
--- what an object is whose first key is `$` and the name, with these tokens after it
-abbrev pub IsNamedRead : List ℕ → List Token → Option (Tree × List Token) → Type 0
-IsNamedRead name ts read = (k : List ℕ) (depth : ℕ) → is_type_key k ≡ true → name ≡ drop 1 k → object_read (value depth) (key k ∷ ts) ≡ read
+-- P is so, at each depth, of what is read with a key before these tokens that is `$` and the name
+abbrev pub IsNamed : List ℕ → List Token → (ℕ → (ℕ → Option (Members × List Token)) → Type 0) → Type 0
+IsNamed name ts P = (k : List ℕ) (depth : ℕ) → is_type_key k ≡ true → name ≡ drop 1 k → P depth (λ d. members_at d (key k ∷ ts))
 
 -- there is such a number, and its canonical encoding is put
 abbrev pub PutsInteger : Option Tree → List ℕ → List ℕ → Type 0
@@ -73,9 +92,16 @@ IsLeaf type t v = (j : Json) × ((depth : ℕ) (ts : List Token) → value depth
 abbrev pub IsNoLeaf : AMQPType → Token → Type 0
 IsNoLeaf type t = (depth : ℕ) (ts r : List Token) (j : Json) → value depth (t ∷ ts) ≡ Some (j, r) → value_as type j ≡ None
 
+-- why a token is no value of the type: it begins no JSON value, or none that the type takes
+abbrev pub IsLeafRefusal : JsonError → AMQPType → Token → Type 0
+IsLeafRefusal (Syntax at error) type t = (depth : ℕ) (ts : List Token) → value depth (t ∷ ts) ≡ None
+IsLeafRefusal (TooDeep at) type t = ⊥
+IsLeafRefusal (NotAValue at mismatch) type t = IsNoLeaf type t
+IsLeafRefusal e type t = Unit {0}
+
 -- the bytes are an encoding of the value that the text means
-abbrev pub IsEncodedAsItComes : List ℕ → List ℕ → Type 0
-IsEncodedAsItComes t bytes = (v : Tree) × (meant t ≡ Some v) × Wire bytes v
+abbrev pub IsEncodedAsItComes : ℕ → List ℕ → List ℕ → Type 0
+IsEncodedAsItComes most t bytes = (v : Tree) × (meant_within most t ≡ Some v) × Wire bytes v
 
 abbrev pub is_first_digit : ℕ → Bool
 is_first_digit c = nat_le 49 c && nat_le c 57

@@ -21,8 +21,8 @@ use amqp_in_place::{Limits, ValueRef, read_in_place, read_in_place_unlimited};
 use amqp_value_core::value::AMQPValue;
 use std::alloc::{AllocError, Global};
 
-/// Converts a value to its JSON text, without spaces. `from_json` reads the text as the value if it
-/// nests at most 127 deep.
+/// Converts a value to its JSON text, without spaces. `from_json` reads the text as the value if the
+/// text nests at most 127 deep.
 ///
 /// It allocates the canonical encoding and the text. It uses stack for each level of nesting.
 pub fn to_json(alloc: Global, value: &AMQPValue) -> Result<String, EncodeError>

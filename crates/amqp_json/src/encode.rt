@@ -2,17 +2,18 @@
 
 // The tactics at the functions name the lemmas that clauses are proved by.
 
-ghost use Rattle.std.specs.Prelude.{◌≡◌, ◌≢◌, Some, IfOk, IfErr, List, ℕ, length};
+ghost use Rattle.std.specs.Prelude.{◌≡◌, ◌≢◌, Some, IfOk, IfErr, List, ℕ, length, min};
 ghost use Rattle.amqp_value_core.specs.Grammar.{Wire};
 ghost use Rattle.amqp_value_core.specs.Texts.{text, Fits};
 ghost use Rattle.amqp_value_core.specs.Values.{Tree};
 ghost use Rattle.amqp_value_core.specs.View.{view};
-ghost use Rattle.amqp_json.specs.Conversions.{IsEncodingOf, IsRefused, IsWithin};
-ghost use Rattle.amqp_json.specs.Meaning.{meant};
+ghost use Rattle.amqp_json.specs.Conversions.{IsEncodingWithin, IsRefusedWithin, IsWithin};
+ghost use Rattle.amqp_json.specs.Meaning.{meant, meant_within, most_levels};
 ghost use Rattle.amqp_json.specs.declared.error.JsonError.TheVariants.{TooLarge};
 ghost use Rattle.amqp_json.specs.Puts.{IsEncodedAsItComes};
 
 use crate::error::JsonError;
+use crate::syntax::first_fault;
 use crate::walk::put_document;
 use amq_protocol_types::generation::{GenError, WriteContext, gen_value};
 use amq_protocol_types::parsing::{SliceInput, parse_value};
@@ -27,15 +28,41 @@ const UNLIMITED: Limits = Limits {
     depth: 128,
 };
 
+// The most arrays and objects that may be open at once in a text.
+const MOST_LEVELS: u32 = 127;
+
 /// Converts a JSON text to the canonical encoding of the value that it means.
 pub fn encoding_of_json(alloc: Global, json: &str) -> Result<Vec<u8>, JsonError>
-    ensures ok { IfOk result (λ bytes. IsEncodingOf json.now bytes.items) }
+    ensures ok { IfOk result (λ bytes. IsEncodingWithin most_levels json.now bytes.items) }
     ensures encodes { IfOk result (λ bytes. (v : Tree) → meant json.now ≡ Some v
         → Wire bytes.items v) }
-    ensures refused { IfErr result (λ e. IsRefused e json.now) }
+    ensures refused { IfErr result (λ e. IsRefusedWithin most_levels e json.now) }
     ensures within { IfErr result (λ e. IsWithin e (length json.now)) }
 {
-    let bytes = encoding_of_text(alloc, json)?;
+    canonical_encoding(alloc, json, MOST_LEVELS)
+}
+
+/// The same with another limit on nesting: of a text at most `levels` arrays and objects may be open at once. More
+/// than 127 count as 127.
+pub fn encoding_of_json_within(alloc: Global, json: &str, levels: u32) -> Result<Vec<u8>, JsonError>
+    ensures ok { IfOk result (λ bytes. IsEncodingWithin (min levels most_levels) json.now bytes.items) }
+    ensures encodes { IfOk result (λ bytes. (v : Tree)
+        → meant_within (min levels most_levels) json.now ≡ Some v → Wire bytes.items v) }
+    ensures refused { IfErr result (λ e. IsRefusedWithin (min levels most_levels) e json.now) }
+    ensures within { IfErr result (λ e. IsWithin e (length json.now)) }
+{
+    canonical_encoding(alloc, json, levels.min(MOST_LEVELS))
+}
+
+// The canonical encoding of the value that a text of at most `levels` levels means.
+fn canonical_encoding(alloc: Global, json: &str, levels: u32) -> Result<Vec<u8>, JsonError>
+    ensures ok { IfOk result (λ bytes. IsEncodingWithin levels json.now bytes.items) }
+    ensures encodes { IfOk result (λ bytes. (v : Tree) → meant_within levels json.now ≡ Some v
+        → Wire bytes.items v) }
+    ensures refused { IfErr result (λ e. IsRefusedWithin levels e json.now) }
+    ensures within { IfErr result (λ e. IsWithin e (length json.now)) }
+{
+    let bytes = encoding_of_text(alloc, json, levels)?;
     if is_canonical(bytes.as_slice(), UNLIMITED) {
         return Ok(bytes);
     }
@@ -45,10 +72,10 @@ pub fn encoding_of_json(alloc: Global, json: &str) -> Result<Vec<u8>, JsonError>
 /// Converts a JSON text to the value that it means.
 pub fn from_json(alloc: Global, json: &str) -> Result<AMQPValue, JsonError>
     ensures ok { IfOk result (λ v. meant json.now ≡ Some (view v)) }
-    ensures refused { IfErr result (λ e. IsRefused e json.now) }
+    ensures refused { IfErr result (λ e. IsRefusedWithin most_levels e json.now) }
     ensures within { IfErr result (λ e. IsWithin e (length json.now)) }
 {
-    let bytes = encoding_of_text(alloc, json)?;
+    let bytes = encoding_of_text(alloc, json, MOST_LEVELS)?;
     value_of(alloc, bytes)
 }
 
@@ -58,7 +85,7 @@ fn canonical_of(alloc: Global, bytes: Vec<u8>) -> Result<Vec<u8>, JsonError>
     ensures ok { IfOk result (λ out. (v : Tree) → Wire bytes.items v → out.items ≡ text v) }
     ensures encodes { IfOk result (λ out. (v : Tree) → Wire bytes.items v → Wire out.items v) }
     ensures size { IfErr result (λ e. e ≡ TooLarge → (v : Tree) → Wire bytes.items v → Fits v → ⊥) }
-    ensures refused { IfErr result (λ e. (t : List ℕ) → IsRefused e t) }
+    ensures refused { IfErr result (λ e. (most : ℕ) (t : List ℕ) → IsRefusedWithin most e t) }
     ensures within { IfErr result (λ e. (len : ℕ) → IsWithin e len) }
 {
     let value = value_of(alloc, bytes)?;
@@ -74,7 +101,7 @@ fn canonical_of(alloc: Global, bytes: Vec<u8>) -> Result<Vec<u8>, JsonError>
 #[tactic(auto, using(crate::proofs::Ends::same_value))]
 fn value_of(alloc: Global, bytes: Vec<u8>) -> Result<AMQPValue, JsonError>
     ensures ok { IfOk result (λ u. (v : Tree) → Wire bytes.items v → v ≡ view u) }
-    ensures refused { IfErr result (λ e. (t : List ℕ) → IsRefused e t) }
+    ensures refused { IfErr result (λ e. (most : ℕ) (t : List ℕ) → IsRefusedWithin most e t) }
     ensures size { IfErr result (λ e. e ≢ TooLarge) }
     ensures within { IfErr result (λ e. (len : ℕ) → IsWithin e len) }
 {
@@ -85,30 +112,34 @@ fn value_of(alloc: Global, bytes: Vec<u8>) -> Result<AMQPValue, JsonError>
 }
 
 // An encoding, with pairs in the order of the text.
-#[tactic(auto, using(crate::proofs::Ends::refused))]
-fn encoding_of_text(alloc: Global, text: &str) -> Result<Vec<u8>, JsonError>
-    ensures ok { IfOk result (λ bytes. IsEncodedAsItComes text.now bytes.items) }
-    ensures refused { IfErr result (λ e. IsRefused e text.now) }
+fn encoding_of_text(alloc: Global, text: &str, levels: u32) -> Result<Vec<u8>, JsonError>
+    ensures ok { IfOk result (λ bytes. IsEncodedAsItComes levels text.now bytes.items) }
+    ensures refused { IfErr result (λ e. IsRefusedWithin levels e text.now) }
     ensures within { IfErr result (λ e. IsWithin e (length text.now)) }
 {
     let mut scratch = Scratch::new(alloc);
     let mut reader = Reader::new(text, &mut scratch)?;
     let mut out = Vec::with_capacity(alloc, text.len())?;
-    match put_document(alloc, &mut reader, &mut out) {
+    match put_document(alloc, &mut reader, &mut out, levels as usize) {
         Ok(()) => Ok(out),
-        Err(error) => Err(within(error, text.len())),
+        Err(error) => Err(located(error, text)),
     }
 }
 
-// The error, with a byte within the text.
-fn within(error: JsonError, len: usize) -> JsonError
-    ensures refused { (t : List ℕ) → IsRefused error t → IsRefused result t }
-    ensures within { IsWithin result len }
+// The error with its byte, which is within the text.
+fn located(error: JsonError, text: &str) -> JsonError
+    ensures refused { (most : ℕ) (t : List ℕ) → IsRefusedWithin most error t → IsRefusedWithin most result t }
+    ensures within { IsWithin result (length text.now) }
 {
+    let len = text.len();
     match error {
         JsonError::OutOfMemory => JsonError::OutOfMemory,
         JsonError::TooLarge => JsonError::TooLarge,
-        JsonError::Syntax(at) => JsonError::Syntax(at.min(len)),
+        JsonError::Syntax(..) => {
+            let (at, error) = first_fault(text);
+            JsonError::Syntax(at.min(len), error)
+        }
+        JsonError::TooDeep(at) => JsonError::TooDeep(at.min(len)),
         JsonError::NotAValue(at, mismatch) => JsonError::NotAValue(at.min(len), mismatch),
     }
 }

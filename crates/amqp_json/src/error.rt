@@ -11,20 +11,58 @@ pub enum JsonError {
     /// The encoding would have 2^32 bytes or more in a string or a container.
     #[error("too large")]
     TooLarge,
-    /// The text isn't JSON from this byte on.
-    #[error("not JSON at byte {0}")]
-    Syntax(usize),
+    /// The text isn't JSON: the bytes before this one begin a JSON text, and no JSON text has this byte after them.
+    #[error("{1} at byte {0}")]
+    Syntax(usize, SyntaxError),
+    /// At this byte begins an array or an object too many inside one another.
+    #[error("nested too deep at byte {0}")]
+    TooDeep(usize),
     /// The text is JSON up to this byte, where something begins that no AMQP value has.
     #[error("{1} at byte {0}")]
     NotAValue(usize, Mismatch),
 }
 
+/// What is wrong where a text stops being JSON.
+#[derive(Clone, Copy, Debug, Drop, PartialEq, Eq, Error)]
+pub enum SyntaxError {
+    /// The text ends, and something is missing.
+    #[error("unexpected end")]
+    UnexpectedEnd,
+    /// The text ends in a string.
+    #[error("unfinished string")]
+    UnfinishedString,
+    /// A character that nothing has that may be here.
+    #[error("unexpected character")]
+    UnexpectedCharacter,
+    /// A control character in a string, such as a line feed, which has to be escaped.
+    #[error("control character in a string")]
+    ControlCharacter,
+    /// A character after a backslash that makes no escape, or no hexadecimal digit after `\u`.
+    #[error("unknown escape")]
+    UnknownEscape,
+    /// An escape of one half of a surrogate pair without the other.
+    #[error("lone surrogate")]
+    LoneSurrogate,
+    /// A value or a key where a comma should be.
+    #[error("missing comma")]
+    MissingComma,
+    /// Something else after a key.
+    #[error("missing colon")]
+    MissingColon,
+    /// A closing bracket after a comma.
+    #[error("trailing comma")]
+    TrailingComma,
+    /// Something after the value of the text.
+    #[error("more text after the value")]
+    AfterTheValue,
+    /// A byte order mark at the beginning.
+    #[error("byte order mark")]
+    ByteOrderMark,
+}
+
 /// What no AMQP value has.
 #[derive(Clone, Copy, Debug, Drop, PartialEq, Eq, Error)]
 pub enum Mismatch {
-    /// An array or an object inside 127 others.
-    #[error("more than 127 levels")]
-    TooDeep,
     /// A key with one `$` and no name of a type that is written by its name.
     #[error("expected the name of a type after `$`")]
     UnknownType,

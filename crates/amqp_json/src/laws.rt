@@ -17,7 +17,7 @@ pub fn read_back()
     ensures { (v : Tree) → HasJson v → meaning (written v) ≡ Some v }
 {}
 
-/// The text of a value is read as the value, if it nests at most 127 deep.
+/// The text of a value is read as the value, if the text nests at most 127 deep.
 #[tactic(auto, using(crate::proofs::ReadBack::text_is_read))]
 pub fn text_read_back()
     ensures { (v : Tree) → HasJson v → MeansIfShallow (json_text v) v }

@@ -12,8 +12,9 @@ mod names;
 mod numerals;
 mod printing;
 mod put;
+mod syntax;
 mod walk;
 
 pub use decode::{json_of_encoding, json_of_view, to_json, write_json, write_json_of_view};
-pub use encode::{encoding_of_json, from_json};
-pub use error::{DecodeError, EncodeError, JsonError, Mismatch, WriteError};
+pub use encode::{encoding_of_json, encoding_of_json_within, from_json};
+pub use error::{DecodeError, EncodeError, JsonError, Mismatch, SyntaxError, WriteError};

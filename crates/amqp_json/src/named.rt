@@ -1,13 +1,13 @@
 //! Numbers and strings, as values of named types.
 
-// The tactic at the function names the lemma that a clause is proved by.
+// The tactics at the functions name the lemmas that clauses are proved by.
 
 ghost use Rattle.std.specs.Prelude.{◌≡◌, ◌≢◌, Some, None, OnOk, IfOk, IfErr, MatchOption, option_map};
 ghost use Rattle.std.specs.Result.{result_ok};
 ghost use Rattle.hex.specs.Hex.{decode_of};
 ghost use Rattle.amqp_value_core.specs.Values.{scalar, decimal};
 ghost use Rattle.amqp_json.specs.Meaning.{number_as, string_as, decimal_of};
-ghost use Rattle.amqp_json.specs.Puts.{PutsEncodingOf, OnRefusal};
+ghost use Rattle.amqp_json.specs.Puts.{PutsEncodingOf, OnMismatch};
 ghost use Rattle.amqp_json.specs.declared.error.JsonError.TheVariants.{TooLarge};
 
 use crate::error::{JsonError, Mismatch};
@@ -27,7 +27,7 @@ pub(crate) fn put_number(
 ) -> Result<(), JsonError>
     ensures ok { OnOk result (PutsEncodingOf (λ v. number_as amqp_type text.now ≡ Some v)
         out.old.items out.new.items) }
-    ensures refused { IfErr result (λ e. OnRefusal e (number_as amqp_type text.now ≡ None)) }
+    ensures refused { IfErr result (λ e. OnMismatch e (number_as amqp_type text.now ≡ None)) }
     ensures size { IfErr result (λ e. e ≢ TooLarge) }
 {
     match put_integer(out, amqp_type, text) {
@@ -57,6 +57,7 @@ pub(crate) fn other_kind(amqp_type: AMQPType) -> Mismatch {
 }
 
 /// A string.
+#[tactic(auto, using(crate::proofs::Refusals::mismatch_of))]
 pub(crate) fn put_string(
     alloc: Global,
     out: &mut Vec<u8>,
@@ -66,7 +67,7 @@ pub(crate) fn put_string(
 ) -> Result<(), JsonError>
     ensures ok { OnOk result (PutsEncodingOf (λ v. string_as amqp_type text.now ≡ Some v)
         out.old.items out.new.items) }
-    ensures refused { IfErr result (λ e. OnRefusal e (string_as amqp_type text.now ≡ None)) }
+    ensures refused { IfErr result (λ e. OnMismatch e (string_as amqp_type text.now ≡ None)) }
 {
     match amqp_type {
         AMQPType::DecimalValue => match decimal(text) {
@@ -88,9 +89,10 @@ pub(crate) fn put_string(
 }
 
 // The bytes of hexadecimal digits.
+#[tactic(auto, using(crate::proofs::Refusals::mismatch_of))]
 fn bytes_of(alloc: Global, text: &str, at: usize) -> Result<Vec<u8>, JsonError>
     ensures ok { IfOk result (λ b. result_ok (decode_of text.now) ≡ Some b.items) }
-    ensures refused { IfErr result (λ e. OnRefusal e (result_ok (decode_of text.now) ≡ None)) }
+    ensures refused { IfErr result (λ e. OnMismatch e (result_ok (decode_of text.now) ≡ None)) }
 {
     match hex::decode(alloc, text) {
         Ok(bytes) => Ok(bytes),
@@ -100,7 +102,9 @@ fn bytes_of(alloc: Global, text: &str, at: usize) -> Result<Vec<u8>, JsonError>
 }
 
 // What is wrong with hexadecimal digits.
-fn digits_error(error: FromHexError, at: usize) -> JsonError {
+fn digits_error(error: FromHexError, at: usize) -> JsonError
+    ensures { OnMismatch result (Unit {0}) }
+{
     match error {
         FromHexError::OutOfMemory => JsonError::OutOfMemory,
         FromHexError::OddLength => JsonError::NotAValue(at, Mismatch::OddDigits),

@@ -7,7 +7,7 @@ ghost use Rattle.amqp_value_core.specs.Strings.{IsShort};
 ghost use Rattle.amqp_value_core.specs.Values.{Tree, Entries, scalar, decimal as decimal_tree};
 ghost use Rattle.amqp_json.specs.Meaning.{is_type_key, entry_key, with_entry, number_as};
 ghost use Rattle.amqp_json.specs.declared.error.JsonError.TheVariants.{OutOfMemory};
-ghost use Rattle.amqp_json.specs.Puts.{OnRefusal, PutsScalar, PutsInteger};
+ghost use Rattle.amqp_json.specs.Puts.{OnMismatch, PutsScalar, PutsInteger};
 
 use crate::error::{JsonError, Mismatch};
 use crate::key::{Key, key_of};
@@ -27,7 +27,7 @@ pub(crate) fn put(out: &mut Vec<u8>, tag: u8, bytes: &[u8]) -> Result<(), JsonEr
 pub(crate) fn put_counted(out: &mut Vec<u8>, tag: u8, bytes: &[u8]) -> Result<(), JsonError>
     ensures ok { OnOk result ((out.new.items ≡ out.old.items ++ tag ∷ long_field bytes.now)
         × (length bytes.now < 2 ^ 32)) }
-    ensures refused { IfErr result (λ e. OnRefusal e ⊥) }
+    ensures refused { IfErr result (λ e. OnMismatch e ⊥) }
 {
     let Ok(n) = u32::try_from(bytes.len()) else {
         return Err(JsonError::TooLarge);
@@ -40,7 +40,7 @@ pub(crate) fn put_counted(out: &mut Vec<u8>, tag: u8, bytes: &[u8]) -> Result<()
 pub(crate) fn put_key(out: &mut Vec<u8>, key: &str, at: usize) -> Result<(), JsonError>
     ensures ok { OnOk result ((out.new.items ≡ out.old.items ++ short_field (entry_key key.now))
         × (is_type_key key.now ≡ false) × IsShort (entry_key key.now)) }
-    ensures refused { IfErr result (λ e. OnRefusal e ((v : Option Tree) (ps : Option Entries)
+    ensures refused { IfErr result (λ e. OnMismatch e ((v : Option Tree) (ps : Option Entries)
         → with_entry key.now v ps ≡ None)) }
 {
     let Key::Entry(key) = key_of(key) else {
@@ -65,7 +65,7 @@ pub(crate) fn fill_length(out: &mut Vec<u8>, at: usize) -> Result<(), JsonError>
     ensures ok { OnOk result ((out.new.items ≡ take at out.old.items
         ++ (to_be_bytes w32 (length out.old.items - at - 4) ++ drop (at + 4) out.old.items))
         × (length out.old.items - at - 4 < 2 ^ 32)) }
-    ensures refused { IfErr result (λ e. OnRefusal e ⊥) }
+    ensures refused { IfErr result (λ e. OnMismatch e ⊥) }
 {
     if out.len() < 4 || out.len() - 4 < at {
         return Err(JsonError::TooLarge);

@@ -2,14 +2,14 @@
 
 // The tactic at the function names the lemmas that clauses are proved by.
 
-ghost use Rattle.std.specs.Prelude.{◌≡◌, ◌≢◌, ◌<◌, ◌≤◌, ◌∷◌, [], length, Some, None, option_map, OnOk, IfErr, MatchResult, MatchOption, List, ℕ, drop, true, false};
+ghost use Rattle.std.specs.Prelude.{◌≡◌, ◌<◌, ◌≤◌, ◌∷◌, length, Some, None, option_map, option_and_then, OnOk, IfErr, MatchResult, MatchOption, List, ℕ, drop, true, false};
 ghost use Rattle.json.specs.Reads.{token_of};
-ghost use Rattle.json.specs.Json.{value, items, parse_map, read_key};
-ghost use Rattle.amqp_value_core.specs.Values.{Tree, array};
-ghost use Rattle.amqp_json.specs.Meaning.{meaning, meanings, is_type_key};
-ghost use Rattle.amqp_json.specs.Puts.{OnRefusal, PutsEncodingOf, PutsValues, PutsPairs, IsNamedRead, IsLeaf, IsNoLeaf, object_read, pairs_read, next_token, converted};
+ghost use Rattle.json.specs.Json.{value, read_key};
+ghost use Rattle.amqp_json.specs.Conversions.{IsRefusedAs};
+ghost use Rattle.amqp_json.specs.Meaning.{json_of, meaning, meanings, pairs_of, is_type_key};
+ghost use Rattle.amqp_json.specs.Puts.{PutsEncodingOf, PutsValues, PutsPairs, IsNamed, IsLeaf, IsLeafRefusal, IsRead, IsRefusal, items_at, members_at, array_of, object_meant, next_token};
 
-use crate::error::{JsonError, Mismatch};
+use crate::error::{JsonError, Mismatch, SyntaxError};
 use crate::key::{Key, key_of};
 use crate::named::{other_kind, put_number, put_string};
 use crate::names::type_of_name;
@@ -18,24 +18,24 @@ use amqp_value_core::types::AMQPType;
 use json::{Reader, Token};
 use std::alloc::Global;
 
-const MAX_DEPTH: usize = 127;
+// Which byte it is, and what is wrong there, is found afterwards.
+const NOT_JSON: JsonError = JsonError::Syntax(0, SyntaxError::UnexpectedEnd);
 
-/// The value of a whole text.
+/// The value of a whole text of at most `levels` levels.
 pub(crate) fn put_document(
     alloc: Global,
     reader: &mut Reader<'_>,
     out: &mut Vec<u8>,
+    levels: usize,
 ) -> Result<(), JsonError>
-    ensures ok { OnOk result (PutsEncodingOf (λ v. converted meaning (value 127 reader.old)
-        ≡ Some (v, [])) out.old.items out.new.items) }
-    ensures refused { IfErr result (λ e. OnRefusal e ((v : Tree)
-        → converted meaning (value 127 reader.old) ≢ Some (v, []))) }
+    ensures ok { OnOk result (PutsEncodingOf (λ v. option_and_then meaning (json_of levels reader.old)
+        ≡ Some v) out.old.items out.new.items) }
+    ensures refused { IfErr result (λ e. IsRefusedAs levels e (λ d. json_of d reader.old)) }
 {
-    put_value(alloc, reader, out, MAX_DEPTH)?;
-    let end = reader.offset();
+    put_value(alloc, reader, out, levels)?;
     match reader.next() {
         None => Ok(()),
-        Some(_) => Err(JsonError::Syntax(end)),
+        Some(_) => Err(NOT_JSON),
     }
 }
 
@@ -46,14 +46,14 @@ fn put_value(
     out: &mut Vec<u8>,
     depth: usize,
 ) -> Result<(), JsonError>
-    ensures ok { OnOk result (PutsEncodingOf (λ v. converted meaning (value depth reader.old)
-        ≡ Some (v, reader.new)) out.old.items out.new.items) }
+    ensures ok { OnOk result (PutsEncodingOf (λ v. IsRead depth meaning (λ d. value d reader.old)
+        v reader.new) out.old.items out.new.items) }
     ensures shorter { OnOk result (length reader.new < length reader.old) }
-    ensures refused { IfErr result (λ e. OnRefusal e (converted meaning (value depth reader.old) ≡ None)) }
+    ensures refused { IfErr result (λ e. IsRefusal depth e meaning (λ d. value d reader.old)) }
 {
     let at = reader.offset();
     let Some(token) = reader.next() else {
-        return Err(JsonError::Syntax(at));
+        return Err(NOT_JSON);
     };
     match token {
         Token::Null => put(out, b'V', &[]),
@@ -62,19 +62,17 @@ fn put_value(
         Token::String(text) => put_counted(out, b'S', text.as_bytes()),
         Token::BeginArray => {
             if depth == 0 {
-                return Err(JsonError::NotAValue(at, Mismatch::TooDeep));
+                return Err(JsonError::TooDeep(at));
             }
             put_array(alloc, reader, out, depth - 1)
         }
         Token::BeginObject => {
             if depth == 0 {
-                return Err(JsonError::NotAValue(at, Mismatch::TooDeep));
+                return Err(JsonError::TooDeep(at));
             }
             put_object(alloc, reader, out, depth - 1)
         }
-        Token::EndArray | Token::EndObject | Token::Key(_) | Token::Bad => Err(JsonError::Syntax(
-            at,
-        )),
+        Token::EndArray | Token::EndObject | Token::Key(_) | Token::Bad => Err(NOT_JSON),
     }
 }
 
@@ -85,12 +83,10 @@ fn put_array(
     out: &mut Vec<u8>,
     depth: usize,
 ) -> Result<(), JsonError>
-    ensures ok { OnOk result (PutsEncodingOf (λ v. parse_map array (converted meanings
-        (items (value depth) (length reader.old) reader.old)) ≡ Some (v, reader.new))
-        out.old.items out.new.items) }
+    ensures ok { OnOk result (PutsEncodingOf (λ v. IsRead depth array_of (λ d. items_at d reader.old)
+        v reader.new) out.old.items out.new.items) }
     ensures shorter { OnOk result (length reader.new < length reader.old) }
-    ensures refused { IfErr result (λ e. OnRefusal e (converted meanings
-        (items (value depth) (length reader.old) reader.old) ≡ None)) }
+    ensures refused { IfErr result (λ e. IsRefusal depth e meanings (λ d. items_at d reader.old)) }
 {
     let at = out.len() + 1;
     put_head(out, b'A')?;
@@ -105,12 +101,10 @@ fn put_items(
     out: &mut Vec<u8>,
     depth: usize,
 ) -> Result<(), JsonError>
-    ensures ok { OnOk result (PutsValues (λ vs. converted meanings
-        (items (value depth) (length reader.old) reader.old) ≡ Some (vs, reader.new))
-        out.old.items out.new.items) }
+    ensures ok { OnOk result (PutsValues (λ vs. IsRead depth meanings (λ d. items_at d reader.old)
+        vs reader.new) out.old.items out.new.items) }
     ensures shorter { OnOk result (length reader.new < length reader.old) }
-    ensures refused { IfErr result (λ e. OnRefusal e (converted meanings
-        (items (value depth) (length reader.old) reader.old) ≡ None)) }
+    ensures refused { IfErr result (λ e. IsRefusal depth e meanings (λ d. items_at d reader.old)) }
 {
     'items: loop {
         if reader.take_end_array() {
@@ -127,10 +121,10 @@ fn put_object(
     out: &mut Vec<u8>,
     depth: usize,
 ) -> Result<(), JsonError>
-    ensures ok { OnOk result (PutsEncodingOf (λ v. object_read (value depth) reader.old
-        ≡ Some (v, reader.new)) out.old.items out.new.items) }
+    ensures ok { OnOk result (PutsEncodingOf (λ v. IsRead depth object_meant
+        (λ d. members_at d reader.old) v reader.new) out.old.items out.new.items) }
     ensures shorter { OnOk result (length reader.new < length reader.old) }
-    ensures refused { IfErr result (λ e. OnRefusal e (object_read (value depth) reader.old ≡ None)) }
+    ensures refused { IfErr result (λ e. IsRefusal depth e object_meant (λ d. members_at d reader.old)) }
 {
     let key_at = reader.offset();
     let first = next_key(reader)?;
@@ -167,12 +161,12 @@ fn put_pairs<'a>(
     first_at: usize,
     depth: usize,
 ) -> Result<(), JsonError>
-    ensures ok { OnOk result (PutsPairs (λ ps. pairs_read (value depth)
-        (next_token (option_map (λ s. s.now) first.entry) ∷ reader.old) ≡ Some (ps, reader.new))
-        out.old.items out.new.items) }
+    ensures ok { OnOk result (PutsPairs (λ ps. IsRead depth pairs_of
+        (λ d. members_at d (next_token (option_map (λ s. s.now) first.entry) ∷ reader.old))
+        ps reader.new) out.old.items out.new.items) }
     ensures shorter { OnOk result (length reader.new ≤ length reader.old) }
-    ensures refused { IfErr result (λ e. OnRefusal e (pairs_read (value depth)
-        (next_token (option_map (λ s. s.now) first.entry) ∷ reader.old) ≡ None)) }
+    ensures refused { IfErr result (λ e. IsRefusal depth e pairs_of
+        (λ d. members_at d (next_token (option_map (λ s. s.now) first.entry) ∷ reader.old))) }
 {
     let mut next = first;
     let mut at = first_at;
@@ -195,17 +189,18 @@ fn put_named(
     name: &str,
     name_at: usize,
 ) -> Result<(), JsonError>
-    ensures ok { OnOk result (PutsEncodingOf (λ v. IsNamedRead name.now reader.old
-        (Some (v, reader.new))) out.old.items out.new.items) }
+    ensures ok { OnOk result (PutsEncodingOf (λ v. IsNamed name.now reader.old
+        (λ depth read. IsRead depth object_meant read v reader.new)) out.old.items out.new.items) }
     ensures shorter { OnOk result (length reader.new < length reader.old) }
-    ensures refused { IfErr result (λ e. OnRefusal e (IsNamedRead name.now reader.old None)) }
+    ensures refused { IfErr result (λ e. IsNamed name.now reader.old
+        (λ depth read. IsRefusal depth e object_meant read)) }
 {
     let Some(amqp_type) = type_of_name(name) else {
         return Err(JsonError::NotAValue(name_at, Mismatch::UnknownType));
     };
     let at = reader.offset();
     let Some(token) = reader.next() else {
-        return Err(JsonError::Syntax(at));
+        return Err(NOT_JSON);
     };
     put_leaf(alloc, out, amqp_type, token, at)?;
     let next_at = reader.offset();
@@ -225,20 +220,13 @@ fn put_leaf(
     at: usize,
 ) -> Result<(), JsonError>
     ensures ok { OnOk result (PutsEncodingOf (IsLeaf amqp_type (token_of token.entry)) out.old.items out.new.items) }
-    ensures refused { IfErr result (λ e. OnRefusal e (IsNoLeaf amqp_type (token_of token.entry))) }
+    ensures refused { IfErr result (λ e. IsLeafRefusal e amqp_type (token_of token.entry)) }
 {
     match token {
         Token::Number(text) => put_number(out, amqp_type, text, at),
         Token::String(text) => put_string(alloc, out, amqp_type, text, at),
-        _ => Err(leaf_error(amqp_type, token, at)),
-    }
-}
-
-// Why a token is neither a number nor a string.
-fn leaf_error(amqp_type: AMQPType, token: Token<'_>, at: usize) -> JsonError {
-    match token {
-        Token::Bad | Token::Key(_) | Token::EndArray | Token::EndObject => JsonError::Syntax(at),
-        _ => JsonError::NotAValue(at, other_kind(amqp_type)),
+        Token::EndArray | Token::EndObject | Token::Key(_) | Token::Bad => Err(NOT_JSON),
+        _ => Err(JsonError::NotAValue(at, other_kind(amqp_type))),
     }
 }
 
@@ -248,9 +236,8 @@ fn next_key<'a>(reader: &mut Reader<'a>) -> Result<Option<&'a str>, JsonError>
         (λ _. read_key reader.old ≡ None) }
     ensures shorter { OnOk result (length reader.new < length reader.old) }
 {
-    let at = reader.offset();
     match reader.next_key() {
         Ok(key) => Ok(key),
-        Err(_) => Err(JsonError::Syntax(at)),
+        Err(_) => Err(NOT_JSON),
     }
 }

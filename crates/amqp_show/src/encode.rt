@@ -12,7 +12,7 @@ use crate::messages::complain;
 use crate::screen::Screen;
 use crate::terminal::print_raw;
 use crate::texts::quoted;
-use amqp_json::{JsonError, Mismatch, encoding_of_json};
+use amqp_json::{JsonError, Mismatch, SyntaxError, encoding_of_json_within};
 use json::{Reader, Scratch, Token};
 use std::alloc::{AllocError, Global};
 use std::collections::BTreeSet;
@@ -21,6 +21,12 @@ use std::str;
 
 // How many characters of a text are shown.
 const EXCERPT: usize = 30;
+
+// The JSON that --json shows has at most so many bytes for each byte of an encoding, in `{"$ShortShortInt":-128},`.
+const JSON_BYTES: usize = 12;
+
+// The most levels that the JSON of a value may have.
+const LEVELS: u32 = 127;
 
 // The names that may follow a `$`, and what is written there.
 const TYPES: &[(&str, &str)] = &[
@@ -51,19 +57,35 @@ pub fn encode_file(
 ) -> Result<Status> {
     let alloc = rt.alloc();
     let mut input = Input::open(rt, file, false)?;
-    let Ok(json) = str::from_utf8(input.up_to(usize::MAX)?) else {
-        complain(rt, file, "the text isn't UTF-8")?;
+    let most = settings.limits.frame;
+    let most_text = (most as usize).saturating_mul(JSON_BYTES);
+    let text = input.up_to(most_text.saturating_add(1))?;
+    if text.len() > most_text {
+        let why = format!(in alloc;
+            "the text has more than {most_text} bytes, {JSON_BYTES} times what --max-bytes {most} allows"
+        )?;
+        complain(rt, file, why.as_str())?;
         return Ok(Status::Rejected);
+    }
+    let json = match str::from_utf8(text) {
+        Ok(json) => json,
+        Err(error) => {
+            let at = place_text(alloc, text, error.valid_up_to())?;
+            let why = format!(in alloc; "the text isn't UTF-8 at {at}")?;
+            complain(rt, file, why.as_str())?;
+            return Ok(Status::Rejected);
+        }
     };
-    let why = match encoding_of_json(alloc, json) {
+    let why = match encoding_of_json_within(alloc, json, settings.limits.depth) {
+        Ok(bytes) if bytes.len() > most as usize => format!(in alloc;
+            "the value has {} bytes, more than --max-bytes {most} allows",
+            bytes.len()
+        )?,
         Ok(bytes) => match wanted_of(bytes.as_slice(), settings.is_table) {
             Some(wanted) => {
                 let repeated = repeated_key(alloc, json)?;
                 print_encoding(rt, wanted, is_raw)?;
-                if let Some(key) = repeated {
-                    let why = format!(in alloc;
-                        "the key {key} comes again; only its last value is written"
-                    )?;
+                if let Some(why) = repeated {
                     complain(rt, file, why.as_str())?;
                 }
                 return Ok(Status::Read);
@@ -73,58 +95,175 @@ pub fn encode_file(
             )?,
         },
         Err(JsonError::OutOfMemory) => return Err(Fault::OutOfMemory),
-        Err(error) => error_text(alloc, json, error)?,
+        Err(error) => error_text(alloc, json, error, settings.limits.depth)?,
     };
     complain(rt, file, why.as_str())?;
     Ok(Status::Rejected)
+}
+
+// Where a text is read in an array or an object that is open.
+#[derive(Clone, Copy)]
+enum Step {
+    // The number of items that have begun.
+    Items(usize),
+    // The byte at which the last key begins.
+    Key(usize),
+}
+
+impl Step {
+    // The step once a value begins.
+    fn at_value(self) -> Self {
+        match self {
+            Step::Items(count) => Step::Items(count.saturating_add(1)),
+            Step::Key(at) => Step::Key(at),
+        }
+    }
 }
 
 // The first key that comes again in its object.
 fn repeated_key(alloc: Global, json: &str) -> Result<Option<String>, AllocError> {
     let mut scratch = Scratch::new(alloc);
     let mut reader = Reader::new(json, &mut scratch)?;
-    let mut open = Vec::new(alloc);
+    // the keys of each open object, and a step for each open array or object
+    let mut open: Vec<BTreeSet<_>> = Vec::new(alloc);
+    let mut steps: Vec<Step> = Vec::new(alloc);
     for _ in 0..u64::MAX {
-        match reader.next() {
-            None => break,
-            Some(Token::BeginObject) => open.push(BTreeSet::new(alloc))?,
-            Some(Token::EndObject) => {
+        let at = reader.offset();
+        let Some(token) = reader.next() else {
+            break;
+        };
+        if let Token::Key(key) = token {
+            if let Some(step) = steps.last_mut() {
+                *step = Step::Key(at);
+            }
+            if let Some(keys) = open.last_mut()
+                && !keys.insert(key)?
+            {
+                return Ok(Some(repeated_text(alloc, json, at, key, steps.as_slice())?));
+            }
+            continue;
+        }
+        if let Token::EndArray | Token::EndObject = token {
+            steps.pop();
+        } else if let Some(step) = steps.last_mut() {
+            *step = step.at_value();
+        }
+        match token {
+            Token::BeginArray => steps.push(Step::Items(0))?,
+            Token::BeginObject => {
+                steps.push(Step::Key(at))?;
+                open.push(BTreeSet::new(alloc))?;
+            }
+            Token::EndObject => {
                 open.pop();
             }
-            Some(Token::Key(key)) => {
-                if let Some(keys) = open.last_mut()
-                    && !keys.insert(key)?
-                {
-                    return Ok(Some(quoted(alloc, key.as_bytes())?));
-                }
-            }
-            Some(_) => {}
+            _ => {}
         }
     }
     Ok(None)
 }
 
+// Where a key comes again, and in which object.
+fn repeated_text(
+    alloc: Global,
+    json: &str,
+    at: usize,
+    key: &str,
+    steps: &[Step],
+) -> Result<String, AllocError> {
+    let mut path = String::new(alloc);
+    let outer = steps.len().saturating_sub(1);
+    for step in steps.iter().take(outer) {
+        match step {
+            Step::Items(count) => write!(path, "[{}]", count.saturating_sub(1))?,
+            Step::Key(at) => {
+                let key = quoted_key(alloc, json, *at)?;
+                write!(path, "{}{key}", if path.is_empty() { "" } else { "." })?;
+            }
+        }
+    }
+    let inside = if path.is_empty() { "" } else { ", in " };
+    let (key, place) = (
+        quoted(alloc, key.as_bytes())?,
+        place_text(alloc, json.as_bytes(), at)?,
+    );
+    format!(in alloc;
+        "the key {key} comes again at {place}{inside}{path}; only its last value is written"
+    )
+}
+
+// The key that begins at a byte, as in a message.
+fn quoted_key(alloc: Global, json: &str, at: usize) -> Result<String, AllocError> {
+    let mut scratch = Scratch::new(alloc);
+    let mut reader = Reader::new(json.get(at..).unwrap_or(""), &mut scratch)?;
+    match reader.next() {
+        Some(Token::Key(key)) => quoted(alloc, key.as_bytes()),
+        _ => Ok(String::new(alloc)),
+    }
+}
+
+// A byte of a text, and of a text of several lines also the line and the column, counted from 1.
+fn place_text(alloc: Global, text: &[u8], at: usize) -> Result<String, AllocError> {
+    let before = text.get(..at).unwrap_or(text);
+    if !text.trim_ascii_end().contains(&b'\n') {
+        return format!(in alloc; "byte {at}");
+    }
+    let line = before.iter().filter(|byte| **byte == b'\n').count();
+    let in_line = before
+        .rsplit(|byte| *byte == b'\n')
+        .next()
+        .unwrap_or(before);
+    // (a character's other bytes begin with the bits 10)
+    let column = in_line.iter().filter(|byte| **byte & 0xc0 != 0x80).count();
+    let (line, column) = (line.saturating_add(1), column.saturating_add(1));
+    format!(in alloc; "byte {at} (line {line}, column {column})")
+}
+
 // What was expected, at which byte of a text, and what is there.
-fn error_text(alloc: Global, json: &str, error: JsonError) -> Result<String, AllocError> {
+fn error_text(
+    alloc: Global,
+    json: &str,
+    error: JsonError,
+    depth: u32,
+) -> Result<String, AllocError> {
     if json.trim().is_empty() {
         return format!(in alloc; "the input is empty");
     }
     let (at, expected, remark) = match error {
         JsonError::OutOfMemory | JsonError::TooLarge => return format!(in alloc; "{error}"),
-        // (its byte is after the key)
-        JsonError::NotAValue(_, Mismatch::KeyTooLong) => return format!(in alloc; "{error}"),
-        JsonError::Syntax(at) => (at, format!(in alloc; "not JSON")?, String::new(alloc)),
+        JsonError::Syntax(at, error) => (
+            at,
+            format!(in alloc; "not JSON: {error}")?,
+            String::new(alloc),
+        ),
+        JsonError::TooDeep(at) => (at, too_deep_text(alloc, depth)?, String::new(alloc)),
         JsonError::NotAValue(at, mismatch) => (
             at,
             expects(alloc, json, at, mismatch)?,
             detail(alloc, json, at, mismatch)?,
         ),
     };
-    let there = excerpt(alloc, json, at)?;
-    if there.is_empty() {
-        return format!(in alloc; "{expected} at byte {at}, where the line ends");
+    let place = place_text(alloc, json.as_bytes(), at)?;
+    if at >= json.len() {
+        return format!(in alloc; "{expected} at {place}, where the input ends");
     }
-    format!(in alloc; "{expected} at byte {at}{remark}: {there}")
+    let there = match error {
+        // (neither a byte order mark nor a line end can be seen)
+        JsonError::Syntax(_, SyntaxError::ByteOrderMark) => String::new(alloc),
+        _ => excerpt(alloc, json, at)?,
+    };
+    if there.is_empty() {
+        return format!(in alloc; "{expected} at {place}{remark}");
+    }
+    format!(in alloc; "{expected} at {place}{remark}: {there}")
+}
+
+// Which limit arrays and objects exceed.
+fn too_deep_text(alloc: Global, depth: u32) -> Result<String, AllocError> {
+    if depth < LEVELS {
+        return format!(in alloc; "more than the {depth} levels of --depth");
+    }
+    format!(in alloc; "more than {LEVELS} levels")
 }
 
 fn expects(alloc: Global, json: &str, at: usize, mismatch: Mismatch) -> Result<String, AllocError> {
@@ -160,20 +299,22 @@ fn detail(alloc: Global, json: &str, at: usize, mismatch: Mismatch) -> Result<St
 fn bits_text(alloc: Global, name: &str, text: &str) -> Result<String, AllocError> {
     let is_other = |c: char| !matches!(c, '0'..='9' | '-' | '+' | '.' | 'e' | 'E');
     let number = text.split(is_other).next().unwrap_or("");
+    let start: String = number.chars().take(EXCERPT).collect(alloc)?;
+    let dots = if start.len() < number.len() { ".." } else { "" };
     let may_be_double = name == "Double" || number.contains(['.', 'e', 'E']);
     if name == "Float"
         && let Ok(x) = number.parse::<f32>()
         && x.is_finite()
     {
         let bits = f32_to_bits_with_nan(x);
-        return format!(in alloc; "; {number} is {{\"$Float\":\"{bits:08x}\"}}");
+        return format!(in alloc; "; {start}{dots} is {{\"$Float\":\"{bits:08x}\"}}");
     }
     if may_be_double
         && let Ok(x) = number.parse::<f64>()
         && x.is_finite()
     {
         let bits = f64_to_bits_with_nan(x);
-        return format!(in alloc; "; {number} is {{\"$Double\":\"{bits:016x}\"}}");
+        return format!(in alloc; "; {start}{dots} is {{\"$Double\":\"{bits:016x}\"}}");
     }
     Ok(String::new(alloc))
 }

@@ -16,6 +16,15 @@ pub enum NotHexadecimal {
     /// It is a dump of xxd, whose offsets would be taken for bytes.
     #[error("a dump of xxd: `xxd -r FILE | amqp_show` reads it")]
     Xxd,
+    /// It is a dump of xxd -b, in binary.
+    #[error("a dump of xxd -b, in binary: `xxd FILE` makes one that `xxd -r` reads, and `xxd -p FILE` one that --hex reads")]
+    Bits,
+    /// It is a dump of tcpdump -x or -X, whose offsets would be taken for bytes.
+    #[error("a dump of tcpdump: `grep '^.0x' FILE | cut -c 11-49 | amqp_show --hex` reads its bytes, of which a packet's headers are the first")]
+    Tcpdump,
+    /// It is a dump of Wireshark, whose offsets would be taken for bytes.
+    #[error("a dump of Wireshark: copy the bytes of the table as a hex stream, which --hex reads")]
+    Wireshark,
     /// It is a dump of hexdump -C, whose offsets would be taken for bytes.
     #[error("a dump of hexdump -C: `cut -c 11-58 FILE | amqp_show --hex` reads it")]
     Hexdump,
@@ -87,13 +96,29 @@ impl Decoder {
 
 /// Whether a text begins as a dump does, whose offsets would be taken for bytes.
 pub fn dump_of(text: &[u8]) -> Option<NotHexadecimal> {
-    if text.starts_with(b"00000000: ") {
-        Some(NotHexadecimal::Xxd)
+    if let Some(bytes) = text.strip_prefix(b"00000000: ") {
+        let is_binary = bytes.len() > 8 && bytes.iter().take(8).all(|c| matches!(c, b'0' | b'1'));
+        Some(if is_binary {
+            NotHexadecimal::Bits
+        } else {
+            NotHexadecimal::Xxd
+        })
+    } else if has_line(text, b"\t0x0000:  ") {
+        Some(NotHexadecimal::Tcpdump)
+    } else if text.starts_with(b"0000   ") {
+        Some(NotHexadecimal::Wireshark)
     } else if text.starts_with(b"00000000  ") {
         Some(NotHexadecimal::Hexdump)
     } else {
         None
     }
+}
+
+// Whether one of the first two lines begins so.
+fn has_line(text: &[u8], start: &[u8]) -> bool {
+    text.split(|c| *c == b'\n')
+        .take(2)
+        .any(|line| line.starts_with(start))
 }
 
 /// Whether the bytes are themselves a text that spells some.

@@ -16,7 +16,9 @@ use crate::screen::{Colour, Screen};
 use crate::texts::bytes_text;
 use crate::tree::{show_parts, show_tree};
 use amq_protocol_types::parsing::{Err, Needed};
-use amqp_in_place::{Problem, ProblemKind, Rules, first_problem, read_in_place};
+use amqp_in_place::{
+    Problem, ProblemKind, Rules, first_problem, read_in_place, read_table_in_place,
+};
 use std::alloc::{AllocError, Global};
 
 const MORE_VALUES: &str = "; --stream shows values one after another";
@@ -53,10 +55,18 @@ fn show_first(
         complain(rt, file, hint)?;
         return Ok(Status::Rejected);
     }
+    let is_table = is_untagged_table(input, settings)?;
     let bytes = input.next_value(settings.limits.frame)?;
     let len = bytes.len();
     let status = show_value(rt, screen, file, bytes, settings)?;
     screen.print(rt)?;
+    if is_table {
+        complain(
+            rt,
+            file,
+            "the input seems to be a table without its type tag; --table reads it",
+        )?;
+    }
     if status == Status::Read && input.up_to(len.saturating_add(1))?.len() > len {
         let hint = if settings.is_table { "" } else { MORE_VALUES };
         let offset = settings.offset(len);
@@ -81,13 +91,22 @@ fn hint(input: &mut Input, settings: Settings) -> Result<Option<&'static str>> {
     }
     let bytes = input.up_to(most as usize)?;
     Ok(match bytes {
-        [0, ..] => Some("the input seems to be a table without its type tag; --table reads it"),
         [b'{' | b'[', ..] if !settings.hex => Some("the input seems to be JSON; --encode reads it"),
         _ if !settings.hex && is_hexadecimal(bytes) => Some(
             "the input seems to be hexadecimal; --hex reads it",
         ),
         _ => None,
     })
+}
+
+// Whether the whole input is a table without its type tag, but isn't read as one.
+fn is_untagged_table(input: &mut Input, settings: Settings) -> Result<bool> {
+    if settings.is_table || !matches!(input.up_to(1)?, [0]) {
+        return Ok(false);
+    }
+    let bytes = input.up_to(settings.limits.frame as usize)?;
+    let read = read_table_in_place(bytes, settings.limits);
+    Ok(matches!(read, Ok((_, rest)) if rest.is_empty()))
 }
 
 // Shows the values of a stream up to the first that is rejected. What is added to the screen is

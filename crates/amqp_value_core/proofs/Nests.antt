@@ -1,6 +1,6 @@
 -- How deep an encoding nests: each container that holds another takes five bytes, and an encoding is
 -- one within each depth that it doesn't pass.
-use Rattle.std.proofs.Common.{ℕ, zero, suc, ◌*◌, ◌≤◌, ◌≡◌, ◌∙◌, List, ◌++◌, length, Some, None, sym, ap, arith, length-append}
+use Rattle.std.proofs.Common.{ℕ, zero, suc, max, ◌*◌, ◌≤◌, ◌≡◌, ◌≢◌, ◌↔◌, ◌∙◌, refl, List, ◌++◌, length, Some, None, sym, ap, arith, length-append}
 use Rattle.amqp_value_core.specs.declared.types.amqp_type.AMQPType.TheVariants as amqp
 use Rattle.amqp_value_core.specs.Layouts.{Layout, fixed}
 use Rattle.amqp_value_core.specs.declared.types.amqp_type.AMQPType.{AMQPType}
@@ -80,3 +80,40 @@ mutual
   pub pairs_within : (d : ℕ) (body : List ℕ) (ps : Entries) (p : TableBody body ps) → pairs_nesting body ps p ≤ d → PairsWithin d body ps
   pairs_within d _ _ no_pairs le = within_no_pairs d
   pairs_within d _ _ (pair k w rest v ps key p all) le = within_pair d k w rest v ps key (wire_within d w v p (omega arith)) (pairs_within d rest ps all (omega arith))
+
+-- the greater of two is within a number if both are
+max_within : (m n d : ℕ) → m ≤ d → n ≤ d → max m n ≤ d
+max_within m n d p q = omega (arith, p, q)
+
+-- what isn't a container nests nothing
+plain_nesting : (d : ℕ) (type : AMQPType) (b : List ℕ) (v : Tree) → type ≢ amqp.FieldArray → type ≢ amqp.FieldTable → (p : Raw type b v) → raw_nesting type b v p ≤ d
+plain_nesting d _ _ _ no_array no_table (raw_fixed type f b row wide) = omega arith
+plain_nesting d _ _ _ no_array no_table (raw_short s is) = omega arith
+plain_nesting d _ _ _ no_array no_table (raw_long s fits) = omega arith
+plain_nesting d _ _ _ no_array no_table (raw_octets s fits) = omega arith
+plain_nesting d _ _ _ no_array no_table (raw_array body vs fits all) = absurd (no_array refl)
+plain_nesting d _ _ _ no_array no_table (raw_table body ps es fits all mean) = absurd (no_table refl)
+
+mutual
+  unfolding wire_of
+
+  -- and one within a depth nests no deeper
+  pub nesting_within : (d : ℕ) (w : List ℕ) (v : Tree) (q : WireWithin d w v) → nesting w v (wire_of d w v q) ≤ d
+  nesting_within _ _ _ (within_wire d c type b v k p) = raw_nesting_within d type b v p
+
+  pub raw_nesting_within : (d : ℕ) (type : AMQPType) (b : List ℕ) (v : Tree) (q : RawWithin d type b v) → raw_nesting type b v (raw_of d type b v q) ≤ d
+  raw_nesting_within _ _ _ _ (within_plain d type b v no_array no_table p) = plain_nesting d type b v no_array no_table p
+  raw_nesting_within _ _ _ _ (within_array d body vs fits all) = omega (arith, body_nesting_within d body vs all)
+  raw_nesting_within _ _ _ _ (within_table d body ps es fits all mean) = omega (arith, pairs_nesting_within d body ps all)
+
+  pub body_nesting_within : (d : ℕ) (body : List ℕ) (vs : Trees) (q : BodyWithin d body vs) → body_nesting body vs (body_of d body vs q) ≤ d
+  body_nesting_within _ _ _ (within_no_values d) = omega arith
+  body_nesting_within _ _ _ (within_value d w rest v vs p all) = max_within _ _ d (nesting_within d w v p) (body_nesting_within d rest vs all)
+
+  pub pairs_nesting_within : (d : ℕ) (body : List ℕ) (ps : Entries) (q : PairsWithin d body ps) → pairs_nesting body ps (pairs_of d body ps q) ≤ d
+  pairs_nesting_within _ _ _ (within_no_pairs d) = omega arith
+  pairs_nesting_within _ _ _ (within_pair d k w rest v ps key p all) = max_within _ _ d (nesting_within d w v p) (pairs_nesting_within d rest ps all)
+
+-- an encoding within a depth is one that nests no deeper
+pub within_is_nesting : (d : ℕ) (w : List ℕ) (v : Tree) → WireWithin d w v ↔ ((p : Wire w v) × (nesting w v p ≤ d))
+within_is_nesting d w v = (λ q. (wire_of d w v q, nesting_within d w v q), λ p. wire_within d w v p.0 p.1)

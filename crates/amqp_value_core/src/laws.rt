@@ -12,12 +12,13 @@ ghost use Rattle.amqp_value_core.specs.Layouts.{width_of};
 ghost use Rattle.amqp_value_core.specs.Payloads.{RawOutcome};
 ghost use Rattle.amqp_value_core.specs.Texts.{payload, text, size, Fits};
 ghost use Rattle.amqp_value_core.specs.Grammar.{Wire, Raw};
+ghost use Rattle.amqp_value_core.specs.Nesting.{WireWithin, OutcomeWithin, nesting};
 ghost use Rattle.amqp_value_core.specs.InMemory.{IsValue};
 ghost use Rattle.amqp_value_core.specs.Readings.{read_back, StillWaits, with_more};
 ghost use Rattle.amqp_value_core.specs.Ids.{kind};
 ghost use Rattle.amqp_value_core.specs.Inputs.{IsBytes};
 ghost use Rattle.amqp_value_core.specs.Outcomes.{Reading, Outcome, Heavy, RawHeavy, found, malformed};
-ghost use Rattle.amqp_value_core.specs.Decode.{compute_outcome, compute_raw_outcome};
+ghost use Rattle.amqp_value_core.specs.Decode.{compute_outcome, compute_raw_outcome, meaning, outcome_by};
 ghost use Rattle.amqp_value_core.specs.Canonical.{Canon};
 ghost use Rattle.amqp_value_core.specs.Headline.{IsCanonical, IsWritableIn, IsShortest, TellsApart};
 ghost use Rattle.amqp_value_core.specs.Maps.{has_key, value_at, last_at, IsRising};
@@ -217,6 +218,23 @@ pub fn raw_outcome_computes()
         → RawOutcome type s (compute_raw_outcome type s) }
     ensures only { (type : AMQPType) (s : List ℕ) (o : Reading) → IsBytes s
         → RawOutcome type s o ↔ (o ≡ compute_raw_outcome type s) }
+{}
+
+/// Reading within a depth has an outcome, it has no other, and the function computes it.
+#[tactic(auto, using(crate::proofs::Agreement::within_holds, crate::proofs::Agreement::within_is))]
+pub fn within_computes()
+    ensures holds { (depth : ℕ) (s : List ℕ) → IsBytes s
+        → OutcomeWithin depth s (outcome_by (meaning depth) s) }
+    ensures only { (depth : ℕ) (s : List ℕ) (o : Reading) → IsBytes s
+        → OutcomeWithin depth s o ↔ (o ≡ outcome_by (meaning depth) s) }
+{}
+
+/// An encoding within a depth is an encoding in which containers nest no deeper, each written entry
+/// counted.
+#[tactic(auto, using(crate::proofs::Nests::within_is_nesting))]
+pub fn limits_on_depth()
+    ensures { (depth : ℕ) (w : List ℕ) (v : Tree) → WireWithin depth w v
+        ↔ ((p : Wire w v) × (nesting w v p ≤ depth)) }
 {}
 
 /// A payload of fixed width, a long string and a byte array are never malformed: once all of the

@@ -31,7 +31,8 @@ pub fn run<R: Source, W: Sink>(
 }
 
 /// Does what `run` does, and passes the parser the bytes of each line as two slices, cut after `at`
-/// bytes, or after the last if there are fewer.
+/// bytes, or after the last if there are fewer. It writes the same wherever a line is cut, so its
+/// contract is that of `run`: nothing that it writes shows that a line was cut.
 pub fn run_split<R: Source, W: Sink>(
     alloc: Global,
     reader: &mut R,

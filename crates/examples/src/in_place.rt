@@ -1,9 +1,9 @@
 //! A message's headers looked up in place: nothing is copied, and nothing is allocated.
 
-use crate::headers::HEADERS;
+use crate::headers::{HEADERS, LIMITS};
 use amq_protocol_types::parsing::ParserError;
-use amqp_in_place::{EqualKeys, Limits, PathStep, read_in_place};
-use anyhow::{Result, bail};
+use amqp_in_place::{EqualKeys, Limits, PathStep, read_table_in_place};
+use anyhow::Result;
 
 /// How often a message was dead-lettered, by its headers' bytes, which anyone may have sent.
 fn deaths(headers: &[u8]) -> Result<Option<i64>, ParserError> {
@@ -11,7 +11,7 @@ fn deaths(headers: &[u8]) -> Result<Option<i64>, ParserError> {
         frame: 1_048_576,
         depth: 64,
     };
-    let (headers, _rest) = read_in_place(headers, limits)?;
+    let (headers, _rest) = read_table_in_place(headers, limits)?;
     let path = [
         PathStep::Key("x-death"),
         PathStep::Index(0),
@@ -27,17 +27,10 @@ pub fn run<P: Print>(rt: &P) -> Result<()> {
     if let Some(count) = deaths(HEADERS)? {
         println!(rt; "in place: dead-lettered {count} times")?;
     }
-    let limits = Limits {
-        frame: 1_048_576,
-        depth: 64,
-    };
-    let (value, _rest) = read_in_place(HEADERS, limits)?;
-    let Some(headers) = value.as_field_table() else {
-        bail!("the headers are no table");
-    };
+    let (headers, _rest) = read_table_in_place(HEADERS, LIMITS)?;
     let retry = headers.get("retry").and_then(|value| value.as_bool());
     println!(rt; "in place: retry is {retry:?}")?;
-    let canonical = amqp_in_place::is_canonical(HEADERS, limits);
+    let canonical = amqp_in_place::is_canonical_table(HEADERS, LIMITS);
     println!(rt; "in place: in canonical encoding: {canonical}")?;
     Ok(())
 }

@@ -1,24 +1,18 @@
 //! A message's headers that are rejected if a key is repeated in them: RabbitMQ and clients take
 //! different values of such a key.
 
-use amqp_in_place::{Limits, TableRef, read_in_place};
+use crate::headers::LIMITS;
+use amqp_in_place::{TableRef, read_table_in_place};
 use anyhow::{Result, bail};
 use std::alloc::Global;
 
-/// The headers of `amqp-publish -H "k: 1" -H "k: 2"`. RabbitMQ 4.0.5 and 4.3.6 deliver the first
-/// `k`, and a headers exchange of theirs routes by the last.
-const HEADERS: &[u8] = b"F\0\0\0\x10\x01kS\0\0\0\x011\x01kS\0\0\0\x012";
+/// The headers of `amqp-publish -H "k: 1" -H "k: 2"`. RabbitMQ 4.0.5 delivers the first `k`, and its
+/// headers exchanges route by the last.
+const HEADERS: &[u8] = b"\0\0\0\x10\x01kS\0\0\0\x011\x01kS\0\0\0\x012";
 
 /// The table of a message's headers, in which each key occurs once. What nests in it isn't checked.
 fn unambiguous<'a>(alloc: Global, headers: &'a [u8]) -> Result<TableRef<'a>> {
-    let limits = Limits {
-        frame: 1_048_576,
-        depth: 64,
-    };
-    let (value, _rest) = read_in_place(headers, limits)?;
-    let Some(table) = value.as_field_table() else {
-        bail!("the headers are no table");
-    };
+    let (table, _rest) = read_table_in_place(headers, LIMITS)?;
     match table.repeated_key(alloc)? {
         Some(key) => bail!("rejected, the key {key:?} is repeated"),
         None => Ok(table),

@@ -14,7 +14,7 @@ use amqp_in_place::{
     Rules, canonical_len, first_problem, is_canonical, measure_value, read_in_place,
     read_in_place_unlimited, skip_value,
 };
-use amqp_json::{encoding_of_json, from_json, json_of_encoding, to_json};
+use amqp_json::{encoding_of_json, encoding_of_json_within, from_json, json_of_encoding, to_json};
 use std::alloc::Global;
 use std::fmt::Debug;
 
@@ -43,6 +43,13 @@ pub fn answer(rt: &HostRuntime, alloc: Global, call: &str, words: &[&str]) -> An
         "ValueReader::next" => done(alloc, ValueReader::new(alloc, bytes, limits).next()),
         "gen_value" | "clone" | "==" | "to_json" => of_value(rt, alloc, *call, bytes),
         "encoding_of_json" => done(alloc, call!(rt; encoding_of_json(alloc, text_of(bytes)?))),
+        "encoding_of_json_within" => {
+            let text = text_of(bytes)?;
+            done(
+                alloc,
+                call!(rt; encoding_of_json_within(alloc, text, limits.depth)),
+            )
+        }
         "from_json" => done(alloc, call!(rt; from_json(alloc, text_of(bytes)?))),
         _ => in_place(rt, alloc, *call, bytes, limits),
     }

@@ -75,6 +75,32 @@ fn a_rejected_body_is_taken_back(rt: HostRuntime) -> Result<(), Fail> {
     Ok(())
 }
 
+// Puts three bytes after their length, and fails.
+fn put_three_and_fail<W: BackToTheBuffer>(x: &mut WriteContext<W>) -> GenResult {
+    gen_with_len(
+        |y| {
+            y.put(&[1, 2, 3])?;
+            Err(GenError::InvalidOffset)
+        },
+        x,
+    )
+}
+
+#[test]
+fn the_error_of_a_body_is_returned(rt: HostRuntime) -> Result<(), Fail> {
+    let mut x = WriteContext::from(Vec::from_slice(rt.alloc(), &[9])?);
+    assert_eq!(rt; put_three_and_fail(&mut x), Err(GenError::InvalidOffset));
+    assert_eq!(rt; x.position(), 0);
+    assert_eq!(rt; x.into_inner().0.as_slice(), [9].as_slice());
+    let mut slice = [0; 20];
+    let mut x = WriteContext::from(SliceOutput::new(&mut slice));
+    assert_eq!(rt; x.put(&[9]), Ok(()));
+    assert_eq!(rt; put_three_and_fail(&mut x), Err(GenError::InvalidOffset));
+    assert_eq!(rt; x.position(), 1);
+    assert_eq!(rt; x.into_inner().0.written(), [9].as_slice());
+    Ok(())
+}
+
 #[test]
 fn a_length_without_capacity_calls_nothing(rt: HostRuntime) {
     let mut slice = [7u8; 3];

@@ -1,6 +1,7 @@
 //! Several generators through one context, and an output that notes what is asked of it.
 
 use amq_protocol_types::generation::*;
+use amq_protocol_types::parsing::{SliceInput, parse_value};
 use amq_protocol_types::{
     AMQPType, AMQPValue, DecimalValue, Double, FieldArray, FieldTable, Float,
 };
@@ -141,6 +142,23 @@ impl BackToTheBuffer for Recorder {
     }
 }
 
+impl Recorder {
+    fn new(alloc: Global) -> Self {
+        Recorder {
+            inner: Vec::new(alloc),
+            calls: Vec::new(alloc),
+        }
+    }
+
+    // How many lengths were reserved, and how many filled in.
+    fn counts(&self) -> (usize, usize) {
+        let calls = self.calls.as_slice();
+        let reserved = calls.iter().filter(|it| matches!(it, Call::Reserved(4, _)));
+        let filled = calls.iter().filter(|it| matches!(it, Call::Filled(..)));
+        (reserved.count(), filled.count())
+    }
+}
+
 // an array of a table with Void at the key a
 fn array_of_a_table(alloc: Global) -> Result<AMQPValue, Fail> {
     let table = FieldTable::from_entries(alloc, [("a", AMQPValue::Void)])?;
@@ -151,10 +169,7 @@ fn array_of_a_table(alloc: Global) -> Result<AMQPValue, Fail> {
 #[test]
 fn each_length_is_filled_in_once(rt: HostRuntime) -> Result<(), Fail> {
     let value = array_of_a_table(rt.alloc())?;
-    let mut x = WriteContext::from(Recorder {
-        inner: Vec::new(rt.alloc()),
-        calls: Vec::new(rt.alloc()),
-    });
+    let mut x = WriteContext::from(Recorder::new(rt.alloc()));
     assert_eq!(rt; gen_value(&value, &mut x), Ok(()));
     let (output, _) = x.into_inner();
     let written = b"A\0\0\0\x08F\0\0\0\x03\x01aV";
@@ -166,5 +181,36 @@ fn each_length_is_filled_in_once(rt: HostRuntime) -> Result<(), Fail> {
         Call::Filled(1, Some([0, 0, 0, 8])),
     ];
     assert_eq!(rt; output.calls.as_slice(), calls.as_slice());
+    Ok(())
+}
+
+/// A table that holds two tables and two arrays.
+const LARGE_TABLE: &[u8] = b"F\0\0\0\xc2\
+    \x04aaaab*\
+    \x03barF\0\0\0\0\
+    \x04bbbbB@\
+    \x04blaht\0\
+    \x04ccccs\0\x20\
+    \x04ddddu\0\x84\
+    \x04eeeeI\xff\xff\xff\xcb\
+    \x04ffffi\0\x01\x04j\
+    \x03fooA\0\0\0\x03t\x01V\
+    \x04ggggl\xff\xff\xff\xff\xff\xff\xd8\xf1\
+    \x04hhhhx\0\0\0\x04*\x01\x02\x03\
+    \x04iiiifB)\xae\x14\
+    \x04jjjjd@E5\xc2\x8f\\(\xf6\
+    \x04kkkkT\0\0\0\0I\x96\x02\xd2\
+    \x04llllV\
+    \x03oofA\0\0\0\0\
+    \x04tablF\0\0\0\x19\x03bazS\0\0\0\x06blah42\x03fooD7\0\0\x03\xe7";
+
+#[test]
+fn each_container_has_one_length(rt: HostRuntime) -> Result<(), Fail> {
+    let (_, value) = parse_value(rt.alloc(), SliceInput::new(LARGE_TABLE))?;
+    let mut x = WriteContext::from(Recorder::new(rt.alloc()));
+    assert_eq!(rt; gen_value(&value, &mut x), Ok(()));
+    let (output, _) = x.into_inner();
+    assert_eq!(rt; output.inner.as_slice(), LARGE_TABLE);
+    assert_eq!(rt; output.counts(), (5, 5));
     Ok(())
 }

@@ -2,7 +2,7 @@ use Rattle.std.proofs.Common.{ℕ, true, false, List, sym, ◌∙◌}
 use Rattle.amq_protocol_types.specs.declared.parsing.limits.Limits.{Limits}
 use Rattle.amqp_in_place.specs.ProblemResults.{FindsValue}
 use Rattle.amqp_c.proofs.ReadErrors.{of_parts, read_without_error}
-use Rattle.amqp_c.proofs.Views.{not_read}
+use Rattle.amqp_in_place.proofs.Refusals.{not_read}
 use Rattle.amqp_c.specs.Measures.{same_measure, HasSize}
 use Rattle.amqp_c.proofs.measure.measured.Goals as goal
 

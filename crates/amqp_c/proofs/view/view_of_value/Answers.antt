@@ -1,5 +1,5 @@
 use Rattle.amqp_in_place.proofs.Canonicals.{bytes_all}
-use Rattle.amqp_c.proofs.Views.{not_read}
+use Rattle.amqp_in_place.proofs.Refusals.{not_read}
 use Rattle.amqp_c.proofs.view.view_of_value.Goals as goal
 
 pub returns-in-Ok : goal.returns-in-Ok

@@ -1,11 +1,10 @@
-use Rattle.std.proofs.Common.{ℕ, None, sym, subst, rules, arith}
+use Rattle.std.proofs.Common.{sym, subst, rules, arith}
 use Rattle.std.specs.Str.{IsUtf8}
 use Rattle.amqp_value_core.specs.Inputs.{slice_bytes}
-use Rattle.amqp_in_place.specs.Canonicals.{CanonValues, CanonEntries, IsAbove, IsFirstSpelling}
-use Rattle.amqp_in_place.specs.Heads.{IsHead}
-use Rattle.amqp_in_place.specs.declared.head.Head.{Head}
+use Rattle.amqp_in_place.specs.Canonicals.{IsAbove, IsFirstSpelling}
+use Rattle.amqp_in_place.proofs.HeadLemmas.{body_shorter}
 use Rattle.amqp_in_place.proofs.Stepping.{never_refused}
-use Rattle.amqp_in_place.proofs.Canonicals.{some_rest, no_rest, spelling_at_start, plain_at_start, array_at_start, array_inside, table_at_start, table_inside, canon_at, rest_shorter, no_values, first_value, values_after, values_before, no_pairs, key_there, key_utf8, key_above, value_after, pairs_after, pairs_before, pair_shorter}
+use Rattle.amqp_in_place.proofs.Canonicals.{spelling_at_start, head_at_start, head_inside, canon_at, rest_shorter, no_values, first_value, values_after, values_before, no_pairs, key_there, key_utf8, key_above, value_after, pairs_after, pairs_before, pair_shorter}
 use Rattle.amqp_in_place.proofs.canonical.+canonical.Goals as goal
 
 pub after_canonical-returns-then-not-is_first_spelling-clause-none : goal.after_canonical-returns-then-not-is_first_spelling-clause-none
@@ -17,70 +16,18 @@ after_canonical-returns-in_default-clause-none t c = λ _ left x.
     let s = slice_bytes c.args.i in
     never_refused s c.in_default.field-0 (canon_at c.args.depth s left x) c.in_default.ensures
 
-pub after_canonical-returns-in-Plain-clause-rest : goal.after_canonical-returns-in-Plain-clause-rest
-after_canonical-returns-in-Plain-clause-rest t c =
-    let s = slice_bytes c.args.i in
-    let rest = slice_bytes c.in-Ok.rest in
-    let h = subst (λ (h : Head). IsHead s h rest) c.in-Plain.is c.in-Ok.ensures in
-    plain_at_start c.args.depth s c.in-Plain.field-0 rest h (subst IsFirstSpelling c.as_slice.ensures (c.is_first_spelling.ensures.yes (search rules)))
+pub after_canonical-has_canonical_body-requires : goal.after_canonical-has_canonical_body-requires
+after_canonical-has_canonical_body-requires t c =
+    omega (arith, c.decreases, body_shorter (slice_bytes c.args.i) c.in-Ok.head (slice_bytes c.in-Ok.rest) c.in-Ok.ensures)
 
-pub after_canonical-returns-in_err-checked_sub-in-FieldArray-clause-none : goal.after_canonical-returns-in_err-checked_sub-in-FieldArray-clause-none
-after_canonical-returns-in_err-checked_sub-in-FieldArray-clause-none t c = λ _ left x.
-    let s = slice_bytes c.args.i in
-    let rest = slice_bytes c.in-Ok.rest in
-    let body = c.in-FieldArray.body in
-    let h = subst (λ (h : Head). IsHead s h rest) c.in-FieldArray.is c.in-Ok.ensures in
-    c.in_err-checked_sub-in-FieldArray.ensures (array_inside c.args.depth s body rest left h x).0
+pub after_canonical-returns-then-not-has_canonical_body-clause-none : goal.after_canonical-returns-then-not-has_canonical_body-clause-none
+after_canonical-returns-then-not-has_canonical_body-clause-none t c = λ _ left x.
+    c.has_canonical_body.ensures.no (search rules) (head_inside c.args.depth (slice_bytes c.args.i) (slice_bytes c.in-Ok.rest) c.in-Ok.head left c.in-Ok.ensures x)
 
-pub after_canonical-returns-in_ok-checked_sub-in-FieldArray-clause-rest : goal.after_canonical-returns-in_ok-checked_sub-in-FieldArray-clause-rest
-after_canonical-returns-in_ok-checked_sub-in-FieldArray-clause-rest t c =
-    let s = slice_bytes c.args.i in
-    let rest = slice_bytes c.in-Ok.rest in
-    let body = c.in-FieldArray.body in
-    let h = subst (λ (h : Head). IsHead s h rest) c.in-FieldArray.is c.in-Ok.ensures in
-    let less = c.in_ok-checked_sub-in-FieldArray.ensures in
-    let spelled = subst IsFirstSpelling c.as_slice.ensures (c.is_first_spelling.ensures.yes (search rules)) in
-    some_rest c.args.depth s c.in-Ok.rest c.are_canonical_values.result c.then_some.result c.then_some.ensures
-    (λ t. array_at_start c.args.depth s body rest h spelled less.0 (subst (λ (d : ℕ). CanonValues d (slice_bytes body)) less.1 (c.are_canonical_values.ensures.yes t)))
-
-pub after_canonical-returns-in_ok-checked_sub-in-FieldArray-clause-none : goal.after_canonical-returns-in_ok-checked_sub-in-FieldArray-clause-none
-after_canonical-returns-in_ok-checked_sub-in-FieldArray-clause-none t c =
-    let s = slice_bytes c.args.i in
-    let rest = slice_bytes c.in-Ok.rest in
-    let body = c.in-FieldArray.body in
-    let h = subst (λ (h : Head). IsHead s h rest) c.in-FieldArray.is c.in-Ok.ensures in
-    let less = c.in_ok-checked_sub-in-FieldArray.ensures in
-    no_rest c.args.depth s c.in-Ok.rest c.are_canonical_values.result c.then_some.result c.then_some.ensures
-    (λ f left x. c.are_canonical_values.ensures.no f (subst (λ (d : ℕ). CanonValues d (slice_bytes body)) (sym less.1) (array_inside c.args.depth s body rest left h x).1))
-
-pub after_canonical-returns-in_err-checked_sub-in-FieldTable-clause-none : goal.after_canonical-returns-in_err-checked_sub-in-FieldTable-clause-none
-after_canonical-returns-in_err-checked_sub-in-FieldTable-clause-none t c = λ _ left x.
-    let s = slice_bytes c.args.i in
-    let rest = slice_bytes c.in-Ok.rest in
-    let body = c.in-FieldTable.body in
-    let h = subst (λ (h : Head). IsHead s h rest) c.in-FieldTable.is c.in-Ok.ensures in
-    c.in_err-checked_sub-in-FieldTable.ensures (table_inside c.args.depth s body rest left h x).0
-
-pub after_canonical-returns-in_ok-checked_sub-in-FieldTable-clause-rest : goal.after_canonical-returns-in_ok-checked_sub-in-FieldTable-clause-rest
-after_canonical-returns-in_ok-checked_sub-in-FieldTable-clause-rest t c =
-    let s = slice_bytes c.args.i in
-    let rest = slice_bytes c.in-Ok.rest in
-    let body = c.in-FieldTable.body in
-    let h = subst (λ (h : Head). IsHead s h rest) c.in-FieldTable.is c.in-Ok.ensures in
-    let less = c.in_ok-checked_sub-in-FieldTable.ensures in
-    let spelled = subst IsFirstSpelling c.as_slice.ensures (c.is_first_spelling.ensures.yes (search rules)) in
-    some_rest c.args.depth s c.in-Ok.rest c.are_canonical_pairs.result c.then_some-in-FieldTable.result c.then_some-in-FieldTable.ensures
-    (λ t. table_at_start c.args.depth s body rest h spelled less.0 (subst (λ (d : ℕ). CanonEntries d None (slice_bytes body)) less.1 (c.are_canonical_pairs.ensures.yes t)))
-
-pub after_canonical-returns-in_ok-checked_sub-in-FieldTable-clause-none : goal.after_canonical-returns-in_ok-checked_sub-in-FieldTable-clause-none
-after_canonical-returns-in_ok-checked_sub-in-FieldTable-clause-none t c =
-    let s = slice_bytes c.args.i in
-    let rest = slice_bytes c.in-Ok.rest in
-    let body = c.in-FieldTable.body in
-    let h = subst (λ (h : Head). IsHead s h rest) c.in-FieldTable.is c.in-Ok.ensures in
-    let less = c.in_ok-checked_sub-in-FieldTable.ensures in
-    no_rest c.args.depth s c.in-Ok.rest c.are_canonical_pairs.result c.then_some-in-FieldTable.result c.then_some-in-FieldTable.ensures
-    (λ f left x. c.are_canonical_pairs.ensures.no f (subst (λ (d : ℕ). CanonEntries d None (slice_bytes body)) (sym less.1) (table_inside c.args.depth s body rest left h x).1))
+pub after_canonical-returns-clause-rest : goal.after_canonical-returns-clause-rest
+after_canonical-returns-clause-rest t c =
+    head_at_start c.args.depth (slice_bytes c.args.i) (slice_bytes c.in-Ok.rest) c.in-Ok.head c.in-Ok.ensures
+    (subst IsFirstSpelling c.as_slice.ensures (c.is_first_spelling.ensures.yes (search rules))) (c.has_canonical_body.ensures.yes (search rules))
 
 -- ---- values
 

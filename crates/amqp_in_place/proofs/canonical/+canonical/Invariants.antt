@@ -1,17 +1,21 @@
 use Rattle.std.proofs.Common.{None, length, ◌+◌, ◌*◌, ◌≤◌}
 use Rattle.amqp_value_core.specs.Inputs.{slice_bytes}
 use Rattle.amqp_in_place.specs.Canonicals.{CanonValues, CanonEntries}
+use Rattle.amqp_in_place.proofs.HeadLemmas.{body_size}
 use Rattle.amqp_in_place.proofs.canonical.+canonical.Given as goal
 
 -- a call has a shorter input than its caller, or as long a one and less to do
 abbrev pub decreases-after_canonical : goal.decreases-after_canonical
-decreases-after_canonical l = 2 * length (slice_bytes l.i)
+decreases-after_canonical l = 3 * length (slice_bytes l.i)
+
+abbrev pub decreases-has_canonical_body : goal.decreases-has_canonical_body
+decreases-has_canonical_body l = 3 * body_size l.head + 2
 
 abbrev pub decreases-are_canonical_values : goal.decreases-are_canonical_values
-decreases-are_canonical_values l = 2 * length (slice_bytes l.body) + 1
+decreases-are_canonical_values l = 3 * length (slice_bytes l.body) + 1
 
 abbrev pub decreases-are_canonical_pairs : goal.decreases-are_canonical_pairs
-decreases-are_canonical_pairs l = 2 * length (slice_bytes l.body) + 1
+decreases-are_canonical_pairs l = 3 * length (slice_bytes l.body) + 1
 
 -- the body is as asked for exactly when what is left of it is, and that is no longer
 abbrev pub invariant-are_canonical_values-values : goal.invariant-are_canonical_values-values

@@ -1,17 +1,16 @@
-use Rattle.std.proofs.Common.{arith}
+use Rattle.std.proofs.Common.{◌+◌, length, arith}
 use Rattle.amqp_value_core.specs.declared.types.amqp_type.AMQPType.TheVariants as amqp
 use Rattle.amq_protocol_types.specs.parsing.Untagged.{tagged}
-use Rattle.amqp_in_place.proofs.Canonicals.{bytes_all, as_written, written_canon}
-use Rattle.amqp_in_place.proofs.CanonicalTables.{by_table_len}
+use Rattle.amqp_in_place.proofs.Canonicals.{bytes_all, known_by_len, as_written, written_canon}
 use Rattle.amqp_in_place.proofs.canonical.is_canonical_table.Goals as goal
 
 pub returns-clause-yes : goal.returns-clause-yes
 returns-clause-yes c =
-    (by_table_len c.args.limits c.args.bytes.now c.canonical_table_len.result c.eq.result c.eq.ensures c.canonical_table_len.ensures.len c.canonical_table_len.ensures.none).0
+    (known_by_len c.args.limits (tagged amqp.FieldTable c.args.bytes.now) (λ n. 1 + n) (length c.args.bytes.now) (λ i j e. omega (arith, e)) (omega arith) c.canonical_table_len.result c.eq.result c.eq.ensures c.canonical_table_len.ensures.len c.canonical_table_len.ensures.none).0
 
 pub returns-clause-no : goal.returns-clause-no
 returns-clause-no c =
-    (by_table_len c.args.limits c.args.bytes.now c.canonical_table_len.result c.eq.result c.eq.ensures c.canonical_table_len.ensures.len c.canonical_table_len.ensures.none).1
+    (known_by_len c.args.limits (tagged amqp.FieldTable c.args.bytes.now) (λ n. 1 + n) (length c.args.bytes.now) (λ i j e. omega (arith, e)) (omega arith) c.canonical_table_len.result c.eq.result c.eq.ensures c.canonical_table_len.ensures.len c.canonical_table_len.ensures.none).1
 
 pub returns-clause-written : goal.returns-clause-written
 returns-clause-written c = λ t.

@@ -1,11 +1,12 @@
 use Rattle.std.proofs.Common.{length, ◌+◌, ◌*◌}
 use Rattle.amqp_value_core.specs.Inputs.{slice_bytes}
-use Rattle.amqp_in_place.proofs.Measuring.{body_len, ValuesSoFar, PairsSoFar}
+use Rattle.amqp_in_place.specs.Paths.{content}
+use Rattle.amqp_in_place.proofs.Measuring.{ValuesSoFar, PairsSoFar}
 use Rattle.amqp_in_place.proofs.measure.+measurer.Given as goal
 
 -- a call has a shorter body than its caller, or as long a one and less to do
 abbrev pub decreases-counts_of_value : goal.decreases-counts_of_value
-decreases-counts_of_value l = 2 * body_len l.value + 1
+decreases-counts_of_value l = 2 * length (content l.value) + 1
 
 abbrev pub decreases-counts_of_values : goal.decreases-counts_of_values
 decreases-counts_of_values l = 2 * length (slice_bytes l.body)

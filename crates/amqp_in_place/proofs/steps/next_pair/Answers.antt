@@ -2,7 +2,7 @@ use Rattle.std.proofs.Common.{◌≡◌, ℕ, List, sym, subst, ◌∙◌, arith
 use Rattle.std.specs.Str.{IsUtf8}
 use Rattle.amqp_value_core.specs.Inputs.{slice_bytes}
 use Rattle.amqp_in_place.specs.Heads.{IsKeyFrame}
-use Rattle.amqp_in_place.proofs.Stepping.{key_there, key_utf8, pair_there, pair_meant, pair_given, pairs_after}
+use Rattle.amqp_in_place.proofs.Stepping.{key_there, key_utf8, read_there, meant_there, pair_at_start, pair_given, pairs_after}
 use Rattle.amqp_in_place.proofs.Places.{inside}
 use Rattle.amqp_in_place.proofs.steps.next_pair.Goals as goal
 
@@ -15,11 +15,11 @@ from_utf8_unchecked-key-requires c =
 
 pub unreachable-requires-in_default-read_head : goal.unreachable-requires-in_default-read_head
 unreachable-requires-in_default-read_head c =
-    pair_there (slice_bytes c.args.bytes) (slice_bytes c.in-Ok.key) (slice_bytes c.in-Ok.after) c.in-Ok.ensures c.in_default-read_head.field-0 c.requires c.in_default-read_head.ensures
+    read_there (slice_bytes c.in-Ok.after) c.in_default-read_head.field-0 (pair_at_start (slice_bytes c.args.bytes) (slice_bytes c.in-Ok.key) (slice_bytes c.in-Ok.after) c.in-Ok.ensures c.requires) c.in_default-read_head.ensures
 
 pub value_of-requires : goal.value_of-requires
 value_of-requires c =
-    pair_meant (slice_bytes c.args.bytes) (slice_bytes c.in-Ok.key) (slice_bytes c.in-Ok.after) c.in-Ok.ensures c.in-Ok-read_head.head (slice_bytes c.in-Ok-read_head.rest) c.in-Ok-read_head.ensures c.requires
+    meant_there (slice_bytes c.in-Ok.after) c.in-Ok-read_head.head (slice_bytes c.in-Ok-read_head.rest) c.in-Ok-read_head.ensures (pair_at_start (slice_bytes c.args.bytes) (slice_bytes c.in-Ok.key) (slice_bytes c.in-Ok.after) c.in-Ok.ensures c.requires)
 
 pub returns-clause-pair : goal.returns-clause-pair
 returns-clause-pair c = λ ps p.

@@ -1,5 +1,4 @@
 use Rattle.std.proofs.Common.{◌+◌, ◌*◌, ◌≤◌, ◌∷◌, length, option_map}
-use Rattle.json.specs.Json.{value}
 use Rattle.amqp_json.specs.Puts.{next_token}
 use Rattle.amqp_json.proofs.Loops.{ItemsLeft, PairsLeft}
 use Rattle.amqp_json.proofs.walk.+walk.Given as goal
@@ -21,7 +20,7 @@ decreases-put_object l = 4 * l.depth + 2
 
 -- the values before are put, and with those that are left they are the array's
 abbrev pub invariant-put_items-items : goal.invariant-put_items-items
-invariant-put_items-items l = ItemsLeft (value l.depth) l.initial.reader l.reader l.initial.out.items l.out.items × (length l.reader ≤ length l.initial.reader)
+invariant-put_items-items l = ItemsLeft l.depth l.initial.reader l.reader l.initial.out.items l.out.items × (length l.reader ≤ length l.initial.reader)
 
 abbrev pub decreases-put_items-items : goal.decreases-put_items-items
 decreases-put_items-items l = length l.reader
@@ -29,7 +28,7 @@ decreases-put_items-items l = length l.reader
 -- the pairs before are put, and with those that are left they are the table's
 abbrev pub invariant-put_pairs-pairs : goal.invariant-put_pairs-pairs
 invariant-put_pairs-pairs l =
-    PairsLeft (value l.fn.depth) (next_token (option_map (λ s. s.now) l.fn.first) ∷ l.fn.reader) (option_map (λ s. s.now) l.next) l.reader l.fn.out.items l.out.items
+    PairsLeft l.fn.depth (next_token (option_map (λ s. s.now) l.fn.first) ∷ l.fn.reader) (option_map (λ s. s.now) l.next) l.reader l.fn.out.items l.out.items
     × (length l.reader ≤ length l.fn.reader)
 
 abbrev pub decreases-put_pairs-pairs : goal.decreases-put_pairs-pairs

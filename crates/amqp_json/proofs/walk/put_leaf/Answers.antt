@@ -5,7 +5,7 @@ use Rattle.json.specs.Reads.{token_of}
 use Rattle.amqp_json.specs.Meaning.{number_as, string_as}
 use Rattle.amqp_json.specs.Puts.{IsLeaf}
 use Rattle.amqp_json.proofs.Loops.{puts_weaker}
-use Rattle.amqp_json.proofs.Soles.{number_leaf, string_leaf}
+use Rattle.amqp_json.proofs.Soles.{number_leaf, string_leaf, closer}
 use Rattle.amqp_json.proofs.walk.put_leaf.Goals as goal
 
 pub returns-in-Number-clause-ok : goal.returns-in-Number-clause-ok
@@ -23,3 +23,6 @@ returns-in-String-clause-ok c =
     let x = c.in-String.text.now in
     let is : t ≡ string x = grind arith in
     on_ok_weaker c.put_string.result (puts_weaker (λ v. string_as type x ≡ Some v) (IsLeaf type t) _ _ (λ v h. string_leaf type t x v is h)) c.put_string.ensures.ok
+
+pub returns-in-EndArray-clause-refused : goal.returns-in-EndArray-clause-refused
+returns-in-EndArray-clause-refused c depth ts = closer depth ts c.args.token c.in-EndArray.is

@@ -2,32 +2,31 @@ use Rattle.std.proofs.Common.{rules, ◌≡◌, ◌∷◌, [], Some, None, refl,
 use Rattle.json.specs.Token.{key}
 use Rattle.json.specs.Json.{value, read_key}
 use Rattle.json.specs.Reads.{token_of}
+use Rattle.json.proofs.Grammar.{value_is}
 use Rattle.amqp_json.specs.Names.{type_named}
-use Rattle.amqp_json.specs.Puts.{IsNamedRead, IsLeaf, IsNoLeaf, object_read}
+use Rattle.amqp_json.specs.Puts.{IsNamed, IsLeaf, IsRead, IsRefusal, members_at, object_meant, converted}
 use Rattle.amqp_json.proofs.Loops.{puts_weaker}
-use Rattle.amqp_json.proofs.Refusals.{refusal_of, refusal_on}
-use Rattle.amqp_json.proofs.Soles.{no_named, sole, not_closed, not_alone, no_token}
+use Rattle.amqp_json.proofs.Refusals.{refusal_of}
+use Rattle.amqp_json.proofs.Soles.{no_named, no_value, sole, not_closed, not_alone, leaf_refused}
 use Rattle.amqp_json.proofs.walk.put_named.Goals as goal
 
 pub returns-in_default-clause-refused : goal.returns-in_default-clause-refused
-returns-in_default-clause-refused c k depth is name =
+returns-in_default-clause-refused c k depth is name d le =
     let none : type_named c.args.name.now ≡ None = search rules in
-    no_named depth k is c.args.reader.now None (ap type_named (sym name) ∙ none) (λ j r at. refl)
+    no_named d k is c.args.reader.now None (ap type_named (sym name) ∙ none) (λ j r at. refl)
 
 pub returns-in_default-next-clause-refused : goal.returns-in_default-next-clause-refused
-returns-in_default-next-clause-refused c k depth is name =
-    let type : type_named c.args.name.now ≡ Some c.in-Some.amqp_type = search rules in
+returns-in_default-next-clause-refused c k depth is name d le =
     let end : c.args.reader.now ≡ [] = search rules in
-    no_named depth k is c.args.reader.now (Some c.in-Some.amqp_type) (ap type_named (sym name) ∙ type) (λ j r at. no_token depth c.args.reader.now r j end at)
+    no_value d k is c.args.reader.now (ap (value d) end ∙ value_is d [])
 
 pub returns-in_err-put_leaf-clause-refused : goal.returns-in_err-put_leaf-clause-refused
 returns-in_err-put_leaf-clause-refused c =
     let type : type_named c.args.name.now ≡ Some c.in-Some.amqp_type = search rules in
     let t = token_of c.in-Some-next.token in
     let first : c.args.reader.now ≡ t ∷ c.next.new.self = search rules in
-    let refused = refusal_on c.in_err-put_leaf.field-0.0 (IsNoLeaf c.in-Some.amqp_type t) (IsNamedRead c.args.name.now c.args.reader.now None)
-    (λ none k depth is name. no_named depth k is c.args.reader.now (Some c.in-Some.amqp_type) (ap type_named (sym name) ∙ type) (λ j r at. none depth c.next.new.self r j (ap (value depth) (sym first) ∙ at)))
-    c.in_err-put_leaf.ensures.refused in
+    let refused : IsNamed c.args.name.now c.args.reader.now (λ depth read. IsRefusal depth c.in_err-put_leaf.field-0.0 object_meant read) =
+    rw first (leaf_refused c.in-Some.amqp_type c.args.name.now type t c.next.new.self c.in_err-put_leaf.field-0.0 c.in_err-put_leaf.ensures.refused) in
     search (rules, refused)
 
 pub returns-in_err-next_key-clause-refused : goal.returns-in_err-next_key-clause-refused
@@ -36,7 +35,9 @@ returns-in_err-next_key-clause-refused c =
     let first : c.args.reader.now ≡ t ∷ c.next.new.self = search rules in
     let (w, v, put, is_wire, leaf) = c.in_ok-put_leaf.ensures.ok in
     let none : read_key c.next.new.self ≡ None = c.in_err-next_key.ensures.value in
-    let refused = refusal_of c.in_err-next_key.field-0.0 (IsNamedRead c.args.name.now c.args.reader.now None) (λ k depth is name. ap (λ ts. object_read (value depth) (key k ∷ ts)) first ∙ not_closed depth k is t c.next.new.self c.in-Some.amqp_type v leaf none) in
+    let refused : IsNamed c.args.name.now c.args.reader.now (λ depth read. IsRefusal depth c.in_err-next_key.field-0.0 object_meant read) =
+    λ k depth is name. refusal_of depth object_meant (λ d. members_at d (key k ∷ c.args.reader.now)) c.in_err-next_key.field-0.0
+    (λ d le. ap (λ ts. members_at d (key k ∷ ts)) first ∙ not_closed d k is t c.next.new.self c.in-Some.amqp_type v leaf none) in
     search (rules, refused)
 
 pub returns-in-None-clause-ok : goal.returns-in-None-clause-ok
@@ -46,13 +47,13 @@ returns-in-None-clause-ok c =
     let r = c.next_key.new.reader in
     let first : c.args.reader.now ≡ t ∷ c.next.new.self = search rules in
     let closed : read_key c.next.new.self ≡ Some (None, r) = search rules in
-    puts_weaker (IsLeaf c.in-Some.amqp_type t) (λ v. IsNamedRead c.args.name.now c.args.reader.now (Some (v, r))) _ _
-    (λ v leaf k depth is name. ap (λ ts. object_read (value depth) (key k ∷ ts)) first ∙ sole depth k is t c.next.new.self r c.in-Some.amqp_type v (ap type_named (sym name) ∙ type) leaf closed) c.in_ok-put_leaf.ensures.ok
+    puts_weaker (IsLeaf c.in-Some.amqp_type t) (λ v. IsNamed c.args.name.now c.args.reader.now (λ depth read. IsRead depth object_meant read v r)) _ _
+    (λ v leaf k depth is name d le. ap (λ ts. converted object_meant (members_at d (key k ∷ ts))) first ∙ sole d k is t c.next.new.self r c.in-Some.amqp_type v (ap type_named (sym name) ∙ type) leaf closed) c.in_ok-put_leaf.ensures.ok
 
 pub returns-in-Some-2-clause-refused : goal.returns-in-Some-2-clause-refused
-returns-in-Some-2-clause-refused c k depth is name =
+returns-in-Some-2-clause-refused c k depth is name d le =
     let t = token_of c.in-Some-next.token in
     let first : c.args.reader.now ≡ t ∷ c.next.new.self = search rules in
     let (w, v, put, is_wire, leaf) = c.in_ok-put_leaf.ensures.ok in
     let next : read_key c.next.new.self ≡ Some (Some c.in-Some-2.field-0.now, c.next_key.new.reader) = search rules in
-    ap (λ ts. object_read (value depth) (key k ∷ ts)) first ∙ not_alone depth k is t c.next.new.self c.next_key.new.reader c.in-Some-2.field-0.now c.in-Some.amqp_type v leaf next
+    ap (λ ts. converted object_meant (members_at d (key k ∷ ts))) first ∙ not_alone d k is t c.next.new.self c.next_key.new.reader c.in-Some-2.field-0.now c.in-Some.amqp_type v leaf next

@@ -1,38 +1,30 @@
-use Rattle.std.proofs.Common.{List, ℕ, Some, None, Option, sym, subst}
-use Rattle.amqp_value_core.specs.Maps.{last_at}
-use Rattle.amqp_in_place.specs.declared.refs.ValueRef.{ValueRef}
+use Rattle.std.proofs.Common.{List, ℕ, sym, subst}
+use Rattle.amqp_value_core.specs.Values.{Entries}
+use Rattle.amqp_value_core.specs.Grammar.{TableBody}
+use Rattle.amqp_in_place.specs.declared.path.EqualKeys.TheVariants as equal
 use Rattle.amqp_in_place.specs.Bodies.{HasPairs}
-use Rattle.amqp_in_place.specs.Walks.{WrittenBegins, WrittenIs, EncodedBegins, ViewIs}
-use Rattle.amqp_in_place.specs.Written.{WrittenPairs, WrittenAt, IsWrittenAs}
-use Rattle.amqp_in_place.specs.Encoded.{EncodedPairs, EncodedAt, IsViewOf}
-use Rattle.amqp_in_place.proofs.Lookups.{found_by, found_nowhere}
+use Rattle.amqp_in_place.specs.Encoded.{last_encoded}
+use Rattle.amqp_in_place.specs.Walks.{ValueIs}
+use Rattle.amqp_in_place.proofs.Lookups.{begins_there, value_found, found_inside, last_means, pair_is_written, pair_is_view}
 use Rattle.amqp_in_place.proofs.refs.TableRef.get.Goals as goal
 
-pub last_at-requires : goal.last_at-requires
-last_at-requires c = subst (λ (s : List ℕ). ∥ HasPairs s ∥₁) (sym c.as_bytes.ensures) c.args.self.well_formed
+pub last_place-requires : goal.last_place-requires
+last_place-requires c = subst (λ (s : List ℕ). ∥ HasPairs s ∥₁) (sym c.as_bytes.ensures) c.args.self.well_formed
 
-pub returns-in_err-at-clause-written : goal.returns-in_err-at-clause-written
-returns-in_err-at-clause-written c = λ ps p.
-    let here = c.in_err-at.ensures.written ps (subst (λ (s : List ℕ). WrittenPairs s ps) (sym c.as_bytes.ensures) p) in
-    let begins = subst (λ (k : List ℕ). WrittenBegins (last_at k ps) None) c.as_bytes-2.ensures.value here in
-    let none = found_nowhere WrittenAt IsWrittenAs (last_at c.args.key.now ps) begins in
-    subst (λ (r : Option ValueRef). WrittenIs (last_at c.args.key.now ps) r) (sym c.from_residual.ensures) none
+pub value_there-requires : goal.value_there-requires
+value_there-requires c = begins_there c.as_bytes.result.now (last_encoded c.as_bytes-2.result.now c.as_bytes.result.now) c.last_place.result c.last_place.ensures.found (subst (λ (s : List ℕ). ∥ HasPairs s ∥₁) (sym c.as_bytes.ensures) c.args.self.well_formed)
 
-pub returns-in_err-at-clause-view : goal.returns-in_err-at-clause-view
-returns-in_err-at-clause-view c = λ ps p.
-    let here = c.in_err-at.ensures.encoded ps (subst (λ (s : List ℕ). EncodedPairs s ps) (sym c.as_bytes.ensures) p) in
-    let begins = subst (λ (k : List ℕ). EncodedBegins (last_at k ps) None) c.as_bytes-2.ensures.value here in
-    let none = found_nowhere EncodedAt IsViewOf (last_at c.args.key.now ps) begins in
-    subst (λ (r : Option ValueRef). ViewIs (last_at c.args.key.now ps) r) (sym c.from_residual.ensures) none
+there : (c : goal.After-value_there) → (ps : Entries) (p : TableBody c.as_bytes.result.now ps) → ValueIs (last_encoded c.as_bytes-2.result.now c.as_bytes.result.now ps p) c.value_there.result
+there c ps p = value_found _ c.last_place.result c.value_there.result (c.last_place.ensures.found ps p) c.value_there.ensures
+
+pub returns-clause-value : goal.returns-clause-value
+returns-clause-value c = rw (sym c.as_bytes.ensures, sym c.as_bytes-2.ensures.value) (last_means c.as_bytes.result.now c.as_bytes-2.result.now c.value_there.result (there c))
 
 pub returns-clause-written : goal.returns-clause-written
-returns-clause-written c = λ ps p.
-    let here = c.in_ok-at.ensures.written ps (subst (λ (s : List ℕ). WrittenPairs s ps) (sym c.as_bytes.ensures) p) in
-    let begins = subst (λ (k : List ℕ). WrittenBegins (last_at k ps) (Some c.in_ok-at.at)) c.as_bytes-2.ensures.value here in
-    found_by WrittenAt IsWrittenAs (last_at c.args.key.now ps) c.in_ok-at.at c.first_value_there.result begins c.first_value_there.ensures.written
+returns-clause-written c = rw (sym c.as_bytes.ensures, sym c.as_bytes-2.ensures.value) (pair_is_written equal.Last c.as_bytes.result.now c.as_bytes-2.result.now c.value_there.result (there c))
 
 pub returns-clause-view : goal.returns-clause-view
-returns-clause-view c = λ ps p.
-    let here = c.in_ok-at.ensures.encoded ps (subst (λ (s : List ℕ). EncodedPairs s ps) (sym c.as_bytes.ensures) p) in
-    let begins = subst (λ (k : List ℕ). EncodedBegins (last_at k ps) (Some c.in_ok-at.at)) c.as_bytes-2.ensures.value here in
-    found_by EncodedAt IsViewOf (last_at c.args.key.now ps) c.in_ok-at.at c.first_value_there.result begins c.first_value_there.ensures.view
+returns-clause-view c = rw (sym c.as_bytes.ensures, sym c.as_bytes-2.ensures.value) (pair_is_view equal.Last c.as_bytes.result.now c.as_bytes-2.result.now c.value_there.result (there c))
+
+pub returns-clause-inside : goal.returns-clause-inside
+returns-clause-inside c = rw (sym c.as_bytes.ensures) (found_inside c.as_bytes.result.now c.last_place.result c.value_there.result c.last_place.ensures.left c.value_there.ensures)

@@ -4,7 +4,8 @@ use Rattle.amq_protocol_types.specs.parsing.ParseResults.{IsRefusal}
 use Rattle.amq_protocol_types.specs.parsing.Bodies.{IsNoTable}
 use Rattle.amqp_value_core.specs.Containers.{table_view}
 use Rattle.amqp_in_place.specs.Bodies.{HasEntries}
-use Rattle.amqp_in_place.proofs.Owning.{entries_of_table, pairs_there}
+use Rattle.amqp_in_place.proofs.HeadLemmas.{entries_of_table}
+use Rattle.amqp_in_place.proofs.Owning.{pairs_there}
 use Rattle.amqp_in_place.proofs.refs.TableRef.to_owned.Goals as goal
 
 pub returns-in-Ok : goal.returns-in-Ok

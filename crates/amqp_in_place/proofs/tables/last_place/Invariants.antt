@@ -1,19 +1,15 @@
 use Rattle.std.proofs.Common.{length, IfSome}
 use Rattle.amqp_in_place.specs.Bodies.{HasPairs}
 use Rattle.amqp_in_place.specs.InPlaceResults.{IsLeft}
-use Rattle.amqp_in_place.specs.Walks.{HasEncodingAtStart}
-use Rattle.amqp_in_place.proofs.Lookups.{IsLookupSoFar, WrittenLooks, EncodedLooks}
-use Rattle.amqp_in_place.proofs.tables.last_at.Given as goal
+use Rattle.amqp_in_place.proofs.Lookups.{LastSoFar}
+use Rattle.amqp_in_place.proofs.tables.last_place.Given as goal
 
 -- pairs are left, and the place of a found value is that by those before them
 abbrev pub invariant-pairs : goal.invariant-pairs
 invariant-pairs l = record {
   pairs : ∥ HasPairs l.rest ∥₁;
-  looks : IsLookupSoFar l.key l.fn.pairs l.rest l.at;
-  written : WrittenLooks l.key l.fn.pairs l.rest l.at;
-  encoded : EncodedLooks l.key l.fn.pairs l.rest l.at;
+  last : LastSoFar l.key l.fn.pairs l.rest l.at;
   left : IsLeft l.fn.pairs l.rest;
-  prefix : IfSome l.at (λ at. ∥ HasEncodingAtStart at.now ∥₁);
   inside : IfSome l.at (λ at. IsLeft l.fn.pairs at.now);
 }
 
