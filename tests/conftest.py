@@ -1,6 +1,8 @@
 """What all tests share: how random they are, what they note, whether they write files, and the shared object for C."""
 
 import random
+import sys
+from collections.abc import Iterator
 from typing import Any
 
 import pytest
@@ -66,6 +68,15 @@ def seed(request: pytest.FixtureRequest) -> int:
 def is_writing(request: pytest.FixtureRequest) -> bool:
     """Whether files are to be written anew."""
     return bool(request.config.getoption("--write"))
+
+
+@pytest.fixture
+def deep() -> Iterator[None]:
+    """The model, and JSON of Python, may recurse through thousands of levels."""
+    before = sys.getrecursionlimit()
+    sys.setrecursionlimit(100_000)
+    yield
+    sys.setrecursionlimit(before)
 
 
 @pytest.fixture(scope="session")

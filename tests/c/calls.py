@@ -1,9 +1,14 @@
-"""The calls of each library."""
+"""The calls of each library, as the header declares them: those that allocate are in a part of their own."""
 
-from tests.c.compiling import ALLOCATING, PLAIN
+import re
 
-OF_PLAIN = """
-    amqpv_read amqpv_peek amqpv_next amqpv_find amqpv_as_int amqpv_as_uint amqpv_measure amqpv_is_canonical
-    amqpv_put amqpv_put_bytes amqpv_put_value amqpv_open amqpv_close amqpv_write_json amqpv_version"""
-OF_ALLOCATING = "amqpv_canonical amqpv_to_json amqpv_from_json amqpv_warn"
-CALLS = {PLAIN: {*OF_PLAIN.split()}, ALLOCATING: {*OF_ALLOCATING.split()}}
+from tests.c.compiling import ALLOCATING, HEADER, PLAIN
+
+
+def declared(text: str) -> set[str]:
+    """The names of the calls that a part of the header declares."""
+    return {*re.findall(r"(?m)^(?:amqpv_result|uint32_t) (\w+)\(", re.sub(r"(?s)/\*.*?\*/", "", text))}
+
+
+OTHERS, _, OF_ALLOCATING = HEADER.read_text().partition("/* ---- Calls that allocate ---- */")
+CALLS = {PLAIN: declared(OTHERS), ALLOCATING: declared(OF_ALLOCATING)}

@@ -71,25 +71,23 @@ def sanitizers(folder: Path, notes: list[str]) -> list[str]:
     return []
 
 
+def installed(to: Path, *flags: str) -> Path:
+    """Builds what CMakeLists.txt installs, and installs it into a folder."""
+    assert_well(run(["cmake", "-S", TOP, "-B", f"{to}-built", *flags]))
+    assert_well(run(["cmake", "--build", f"{to}-built"]))
+    assert_well(run(["cmake", "--install", f"{to}-built", "--prefix", to]))
+    return to
+
+
 @pytest.fixture(scope="session")
-def made(libraries: None, folder: Path) -> Path:
-    """What packaging/dist makes."""
-    path = folder / "dist"
-    assert_well(run([TOP / "packaging/dist", "--built", path]))
-    return path
+def prefix(libraries: None, folder: Path) -> Path:
+    """Where the library is installed."""
+    return installed(folder / "installed")
 
 
 @pytest.fixture(scope="session")
 def made_for_aarch64(libraries: None, folder: Path) -> Path:
-    """What it makes for aarch64."""
-    path = folder / "aarch64"
-    assert_well(run([TOP / "packaging/dist", "--built", "--target", AARCH64, path]))
-    return path
-
-
-@pytest.fixture(scope="session")
-def prefix(made: Path, folder: Path) -> Path:
-    """Where that is installed."""
-    path = folder / "installed"
-    assert_well(run(["make", "-C", TOP, "install", f"FOLDER={made}", f"PREFIX={path}"]))
-    return path
+    """Where it is installed for aarch64."""
+    for it in CALLS_FOR_C:
+        assert_well(build_archive(CRATES, it, True, AARCH64))
+    return installed(folder / "aarch64", "--toolchain", str(TOP / "packaging/aarch64.cmake"))

@@ -1,6 +1,5 @@
 """Every call for C next to the model, on random bytes, structs, texts and orders of calls, and on what is at the limits."""
 
-import re
 from collections import Counter
 from ctypes import c_size_t
 from random import Random
@@ -508,33 +507,16 @@ def test_tables_of_few_and_of_many_keys(seed: int) -> None:
         assert_written(data[left_out:], left_out)
 
 
-STRING_OR_BRACKET = re.compile(rb'"(?:[^"\\]|\\.)*(?:"|\\?\Z)|[][{}]', re.DOTALL)
-
-
-def too_deep(text: bytes, nesting: int) -> int | None:
-    """At which bracket outside of strings more than so many arrays and objects are open."""
-    count = 0
-    for it in STRING_OR_BRACKET.finditer(text):
-        if it[0] in (b"[", b"{"):
-            count += 1
-            if count > nesting:
-                return it.start()
-        elif it[0] in (b"]", b"}"):
-            count = max(count - 1, 0)
-    return None
-
-
 def meant(text: bytes, nesting: int) -> tuple[int, bytes | int, Any]:
     """What reading a text returns by the model: the canonical encoding, or what is wrong at which byte."""
-    if (at := too_deep(text, min(nesting, LEVELS))) is not None:
-        return calls.TOO_DEEP, 0, (at, 0, 0)
     try:
         text.decode()
-        return OK, write(value_of_json(text)), None
+        return OK, write(value_of_json(text, min(nesting, LEVELS))), None
     except UnicodeDecodeError as why:
         return calls.NOT_UTF8, 0, (why.start, 0, 0)
     except Rejected as why:
-        return calls.NOT_A_VALUE if why.mismatch else calls.NOT_JSON, 0, (why.at, 0, 0)
+        wrong = {"": calls.NOT_JSON, "TooDeep": calls.TOO_DEEP}.get(why.mismatch, calls.NOT_A_VALUE)
+        return wrong, 0, (why.at, 0, 0)
 
 
 def test_texts_that_may_mean_none(seed: int) -> None:
@@ -591,6 +573,20 @@ def test_warnings(seed: int) -> None:
                 assert (result, found) == ((OK, wanted) if wanted else (NONE, None)), data.hex()
             seen |= {name for name, it in found.items() if it is not None and it is not False} if found else {""}
     assert seen == {*calls.OFFSETS, "exceeds_frame", ""}
+
+
+def test_much_memory() -> None:
+    """A mebibyte, and pairs whose keys descend, so that each call allocates as much: none gives up."""
+    keys = [f"{it:07}" for it in range(40_000, 0, -1)]
+    data = field(b"F", b"".join(b"\7" + it.encode() + b"V" for it in keys) + b"\1s" + field(b"S", b"a" * 2**20))
+    text = "{" + "".join(f'"{it}":null,' for it in keys) + '"s":"' + "a" * 2**20 + '"}'
+    wanted, in_order = write(read(data)[0]), json_of(read(data)[0]).encode()
+    limits = 0, 2**32 - 1, 1
+    assert calls.canonical(data, *limits) == (OK, wanted)
+    assert calls.to_json(data, *limits) == (OK, in_order)
+    assert calls.write_json(wanted, *limits) == (OK, in_order)
+    assert calls.from_json(text.encode()) == (OK, wanted, None)
+    assert calls.warn(data, 0, 1, 0, 1) == (NONE, None)
 
 
 def test_version() -> None:

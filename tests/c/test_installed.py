@@ -1,8 +1,7 @@
 """What `make install` puts into a folder, which needs nothing of this repository or of the kit.
 
 Used are examples in C11 over the shared object, in C11 over the archive, one in C++17, one in Python, the symbols, the tool, and
-CMake's files. `make` makes anew what has to be, leaves nothing if it fails, and installs at usual places and at others. The
-commands of the installed page show what it has.
+CMake's files, at usual places and at others. The commands of the installed page show what it has.
 """
 
 import os
@@ -18,6 +17,7 @@ import pytest
 from crates import TOP
 
 from tests.c.calls import CALLS
+from tests.c.conftest import installed
 from tests.c.compiling import EXAMPLES, Done, Words, assert_well, printed, run, symbols, version
 from tests.c.pages import commands_of_linking
 from tests.c.places import NAME, PATH, files_in
@@ -89,12 +89,12 @@ def test_shared_object_needs_the_c_library(prefix: Path) -> None:
     assert re.findall(r"NEEDED.*\[(.*)\]", said) == ["libc.so.6"]
 
 
-def test_symbols_have_the_versions_of_the_map(made: Path) -> None:
+def test_symbols_have_the_versions_of_the_map(prefix: Path) -> None:
     mapped: set[str] = set()
     text = (TOP / f"packaging/{NAME}.map").read_text()
     for of, body in re.findall(r"(?m)^(AMQPV_[\d.]+) \{\n(.*?)^\}", text, re.DOTALL):
         mapped |= {f"{it}@@{of}" for it in re.findall(r"(?m)^    (\w+);$", body)}
-    said = printed(["nm", "-D", "--defined-only", "--with-symbol-versions", made / f"lib/lib{NAME}.so"])
+    said = printed(["nm", "-D", "--defined-only", "--with-symbol-versions", prefix / f"lib/lib{NAME}.so"])
     assert {it.split()[-1] for it in said.splitlines() if " T " in it} == mapped
 
 
@@ -159,8 +159,17 @@ def test_cmake_finds_no_version_1_0(prefix: Path, tmp_path: Path) -> None:
 # make
 
 
-def make(*words: str | Path, **others: Any) -> Done:
-    return run(["make", "--no-print-directory", "-C", TOP, *words], **others)
+def make(out: Path, *words: str | Path, **others: Any) -> Done:
+    """Runs make over what `rt ci` has left, with a folder of its own for all that it makes."""
+    return run(["make", "-C", TOP, "BUILT=--built", f"OUT={out}", *words], **others)
+
+
+@pytest.fixture(scope="module")
+def out(libraries: None, folder: Path) -> Path:
+    """Where make has built all."""
+    path = folder / "out"
+    assert_well(make(path))
+    return path
 
 
 # (with -W a file is taken for new, and -n prints what would be run)
@@ -168,21 +177,52 @@ NEW = ("include/amqp_values.h", "crates/amqp_c/src/lib.rt", "crates/amqp_value_c
 
 
 @pytest.mark.parametrize("name", ("", *NEW), ids=("nothing", *NEW))
-def test_what_is_made_anew(made: Path, name: str) -> None:
-    done = make("-n", *(["-W", name] if name else []), f"FOLDER={made}")
+def test_what_is_made_anew(out: Path, name: str) -> None:
+    done = make(out, "-n", *(["-W", name] if name else []))
     assert_well(done)
-    assert ("packaging/dist" in done.stdout) == bool(name)
+    assert ("packaging/archives" in done.stdout) == bool(name)
 
 
-def test_run_that_fails_leaves_no_folder(made: Path, tmp_path: Path) -> None:
-    broken, old = tmp_path / "broken", tmp_path / "old"
+def test_build_that_fails_is_not_installed(out: Path, tmp_path: Path) -> None:
+    """Nor is one that ended well before."""
+    broken, old, root = tmp_path / "broken", tmp_path / "old", tmp_path / "root"
     broken.mkdir()
-    (broken / "cc").write_text("#!/bin/sh\necho no compiler >&2\nexit 1\n")
-    (broken / "cc").chmod(0o755)
-    shutil.copytree(made, old, symlinks=True)
+    (broken / "cmake").write_text('#!/bin/sh\n[ "$1" != --build ] || exit 1\nexec /usr/bin/cmake "$@"\n')
+    (broken / "cmake").chmod(0o755)
+    shutil.copytree(out, old, symlinks=True)
     env = {**os.environ, "PATH": f"{broken}:{os.environ['PATH']}"}
-    assert run([TOP / "packaging/dist", "--built", old], env=env).returncode == 1
-    assert not old.exists()
+    for words in (["-W", "docs/C.md"], list[str]()):
+        assert make(old, *words, "install", f"DESTDIR={root}", env=env).returncode
+        assert not root.exists()
+
+
+def test_library_without_the_tool(out: Path, prefix: Path, tmp_path: Path) -> None:
+    done = make(out, "install-lib", f"PREFIX={tmp_path}")
+    assert_well(done)
+    assert files_in(prefix) - files_in(tmp_path) == {"bin/amqp_show", "share/man/man1/amqp_show.1"}
+
+
+@pytest.mark.parametrize(
+    ("script", "program", "package"),
+    (
+        ("packaging/archives --once", "cc", "gcc"),
+        ("packaging/archives --once", "ar", "binutils"),
+        ("packaging/archives --once", "cmake", "cmake"),
+        ("packaging/archives --once aarch64-unknown-linux-gnu", "aarch64-linux-gnu-gcc", "gcc-aarch64-linux-gnu"),
+        ("packaging/web", "wasm-opt", "binaryen"),
+    ),
+)
+def test_missing_program_is_named_before_any_proof(tmp_path: Path, script: str, program: str, package: str) -> None:
+    proved = tmp_path / "proved"
+    for it in "cc ar aarch64-linux-gnu-gcc aarch64-linux-gnu-ar cmake wasm-opt env git python3".split():
+        if it != program:
+            (tmp_path / it).symlink_to(f"/usr/bin/{it}")
+    (tmp_path / "rt").write_text(f"#!/bin/sh\n: >{proved}\n")
+    (tmp_path / "rt").chmod(0o755)
+    done = run([TOP / script.split()[0], *script.split()[1:]], env={"PATH": str(tmp_path)})
+    assert done.returncode == 1
+    assert f"    {program}  ({package})\n" in done.stderr
+    assert not proved.exists()
 
 
 def test_tests_say_that_they_need_the_kit(tmp_path: Path) -> None:
@@ -197,45 +237,40 @@ def root(tmp_path: Path) -> Path:
     return tmp_path / "a root"
 
 
-def test_install(made: Path, root: Path) -> None:
-    """At the usual places, where others can read all; and then it is removed."""
+def test_install(out: Path, prefix: Path, root: Path) -> None:
+    """Others can read all, each file is printed, and all is removed again."""
     before = os.umask(0o077)
     try:
-        assert_well(make("install", f"FOLDER={made}", f"DESTDIR={root}", "prefix=/usr"))
+        done = make(out, "install", f"DESTDIR={root}", "PREFIX=/usr")
+        assert_well(done)
     finally:
         os.umask(before)
     modes = {(it.stat().st_mode & 0o777, it.is_dir() or it.parent.name == "bin") for it in root.rglob("*")}
     assert modes == {(0o755, True), (0o644, False)}
-    assert files_in(root) == {f"usr/{it}" for it in files_in(made) - {"checksums"}}
-    assert_well(make("uninstall", f"FOLDER={made}", f"DESTDIR={root}", "PREFIX=/usr"))
+    assert files_in(root / "usr") == files_in(prefix)
+    assert {*done.stdout.splitlines()} >= {f"-- Installing: {root / it}" for it in files_in(root)}
+    assert_well(make(out, "uninstall", f"DESTDIR={root}", "PREFIX=/usr"))
     assert files_in(root) == set()
+    assert not [*root.rglob(NAME)]
 
 
-def test_install_at_other_places(made: Path, root: Path) -> None:
-    places = {"LIBDIR": "/usr/lib/there", "INCLUDEDIR": "/inc", "mandir": "/man", "DOCDIR": "/doc", "bindir": "/exe"}
-    words = [f"{name}={at}" for name, at in places.items()]
-    assert_well(make("install", f"FOLDER={made}", f"DESTDIR={root}", *words))
-    assert {f"/{Path(it).parts[0]}" for it in files_in(root)} == {"/usr", "/inc", "/man", "/doc", "/exe"}
-    env = {**os.environ, "PKG_CONFIG_PATH": str(root / "usr/lib/there/pkgconfig")}
+def test_install_at_other_places(libraries: None, tmp_path: Path) -> None:
+    places = {"LIBDIR": "there/lib", "INCLUDEDIR": "inc", "MANDIR": "man", "DOCDIR": "doc", "BINDIR": "exe"}
+    at = installed(tmp_path / "at", *(f"-DCMAKE_INSTALL_{name}={place}" for name, place in places.items()))
+    assert {it.name for it in at.iterdir()} == {"there", "inc", "man", "doc", "exe"}
+    env = {**os.environ, "PKG_CONFIG_PATH": str(at / "there/lib/pkgconfig")}
+    program = tmp_path / "program"
     flags = printed(["pkg-config", "--cflags", "--libs", NAME], env=env).split()
-    assert flags == ["-I/inc", "-L/usr/lib/there", "-lamqp_values"]
-    assert printed(["pkg-config", "--variable=docdir", NAME], env=env).strip() == "/doc"
+    assert_well(run(["cc", "-std=c11", "-o", program, at / "doc/examples/c/json.c", *flags]))
+    doc = printed(["pkg-config", "--variable=docdir", NAME], env=env).strip()
+    assert Path(doc).resolve() == at / "doc"
 
 
-def test_what_has_changed_is_not_installed(made: Path, root: Path, tmp_path: Path) -> None:
-    changed = tmp_path / "changed"
-    shutil.copytree(made, changed, symlinks=True)
-    (changed / "include/amqp_values.h").write_text("")
-    done = make("-o", f"{changed}/checksums", "install", f"FOLDER={changed}", f"DESTDIR={root}")
-    assert done.returncode == 2
-    assert not root.exists()
-
-
-def test_commands_of_page(made: Path, tmp_path: Path) -> None:
+def test_commands_of_page(libraries: None, tmp_path: Path) -> None:
     """What the installed page says about linking, in a folder of one's own, shows what it has."""
     home, own = tmp_path / "home", tmp_path / "own"
     own.mkdir()
-    assert_well(make("install", f"FOLDER={made}", f"PREFIX={home}/amqp"))
+    installed(home / "amqp")
     commands, wants = commands_of_linking((home / f"amqp/share/doc/{NAME}/C.md").read_text())
     env = {"PATH": PATH, "HOME": str(home), "LD_LIBRARY_PATH": str(home / "amqp/lib")}
     env["PKG_CONFIG_PATH"] = str(home / "amqp/lib/pkgconfig")

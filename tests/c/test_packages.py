@@ -1,17 +1,20 @@
-"""What packaging/dist, packaging/deb and packaging/pack make of the C library, as someone who has only that uses it: pages, packages, a release.
+"""What CMake and debian/ make of the C library, as someone who has only that uses it: pages, packages, a release.
 
 With --root the packages are installed, used and removed in a fresh root made by debootstrap.
 """
 
+import os
 import re
 import shutil
+from datetime import datetime, timezone
 from pathlib import Path
 from typing import Any
 
 import pytest
 from crates import TOP
 
-from tests.c.compiling import Done, Words, assert_well, printed, run
+from tests.c.calls import CALLS
+from tests.c.compiling import Done, Words, assert_well, printed, run, version
 from tests.c.pages import commands_of_first, names_that_lack
 from tests.c.places import NAME, PATH, files_in
 
@@ -23,39 +26,53 @@ pytestmark = pytest.mark.needs("--built")
 # Pages
 
 
-def test_names_in_pages(made: Path) -> None:
+def test_names_in_pages(prefix: Path) -> None:
     """Installed pages name only what is installed."""
-    assert names_that_lack(made / f"share/doc/{NAME}", made) == []
+    assert names_that_lack(prefix / f"share/doc/{NAME}", prefix) == []
 
 
-def test_names_in_headers(made: Path) -> None:
-    named = {page for it in made.glob("include/*.h") for page in re.findall(r"[\w/]+\.md", it.read_text())}
-    assert sorted(it for it in named if not (made / f"share/doc/{NAME}" / it).exists()) == []
+def test_names_in_headers(prefix: Path) -> None:
+    named = {page for it in prefix.glob("include/*.h") for page in re.findall(r"[\w/]+\.md", it.read_text())}
+    assert sorted(it for it in named if not (prefix / f"share/doc/{NAME}" / it).exists()) == []
 
 
-def test_manual(made: Path) -> None:
+def test_manual(prefix: Path) -> None:
     """It is as mandoc wants it."""
-    pages = sorted(it for it in made.glob("share/man/man*/*") if not it.is_symlink())
+    pages = sorted(it for it in prefix.glob("share/man/man*/*") if not it.is_symlink())
     assert pages
     assert printed(["mandoc", "-Tlint", "-Wwarning", *pages]) == ""
 
 
-def test_manual_has_each_option(made: Path) -> None:
+def test_manual_has_each_option(prefix: Path) -> None:
     # (tests/show holds the tool against its transcript)
     usage = (TOP / "tests/show/usage.t").read_text().partition("Options:")[2].partition("Examples:")[0]
-    items = "".join(re.findall(r"(?m)^\.It (.*)$", (made / "share/man/man1/amqp_show.1").read_text()))
+    items = "".join(re.findall(r"(?m)^\.It (.*)$", (prefix / "share/man/man1/amqp_show.1").read_text()))
     assert {*re.findall(r"Fl -([a-z-]+)", items)} == {*re.findall(r"--([a-z-]+)", usage)}
+
+
+@pytest.mark.parametrize(
+    ("name", "pattern"),
+    (
+        ("packaging/amqp_values.3", r"(?m)^\.Fn (amqpv_\w+)"),
+        ("packaging/amqp_values.map", r"(?m)^    (amqpv_\w+);$"),
+        ("debian/libamqp-values0.symbols", r"(?m)^ (amqpv_\w+)@AMQPV_"),
+    ),
+)
+def test_list_has_the_calls_of_the_header(name: str, pattern: str) -> None:
+    calls = {it for names in CALLS.values() for it in names}
+    inline = {"amqpv_begin", "amqpv_finish"} if name.endswith(".3") else set()
+    assert sorted(re.findall(pattern, (TOP / name).read_text())) == sorted(calls | inline)
 
 
 # Packages
 
 
 @pytest.fixture(scope="module")
-def packages(made: Path, folder: Path) -> Path:
+def packages(libraries: None) -> Path:
     """The folder that has packages of Debian, in which lintian finds no error."""
-    path = folder / "deb"
-    said = printed([TOP / "packaging/deb", made, path])
-    assert "lintian isn't there" not in said
+    path = TOP / "out/deb"
+    assert_well(run(["debian/rules", "clean", "binary"], cwd=TOP))
+    assert_well(run(["lintian", "--fail-on", "error", "--no-cfg", "--allow-root", *path.glob("*.deb")]))
     return path
 
 
@@ -80,15 +97,35 @@ def test_packages(packages: Path) -> None:
     assert sorted(it.name.partition("_")[0] for it in packages.glob("*.deb")) == PACKAGES
 
 
-def test_packages_again(packages: Path, made: Path, tmp_path: Path) -> None:
+def test_packages_have_the_version_of_the_header(packages: Path) -> None:
+    assert {it.name.split("_")[1] for it in packages.glob("*.deb")} == {f"{version()}-1"}
+
+
+def test_day_is_that_of_the_changes() -> None:
+    """debian/changelog has the day of CHANGELOG.md, once there is one."""
+    found = re.search(rf"(?m)^## {re.escape(version())}, (.*)$", (TOP / "CHANGELOG.md").read_text())
+    stamp = printed(["dpkg-parsechangelog", "-l", TOP / "debian/changelog", "-S", "Timestamp"])
+    day = datetime.fromtimestamp(int(stamp), timezone.utc).date().isoformat()
+    assert found and found[1] in ("unreleased", day)
+
+
+def test_packages_again(packages: Path, tmp_path: Path) -> None:
     """They are made of the same bytes again."""
-    assert_well(run([TOP / "packaging/deb", "--unjudged", made, tmp_path / "again"]))
-    assert_well(run(["diff", "-r", packages, tmp_path / "again"]))
+    shutil.copytree(packages, tmp_path / "before")
+    assert_well(run(["debian/rules", "clean", "binary"], cwd=TOP))
+    assert_well(run(["diff", "-r", packages, tmp_path / "before"]))
 
 
 @pytest.mark.parametrize("package", ("libamqp-values-dev", "amqp-show"))
 def test_names_in_pages_of_package(unpacked: Path, package: str) -> None:
     assert names_that_lack(unpacked / f"usr/share/doc/{package}", unpacked) == []
+
+
+@pytest.mark.parametrize("package", PACKAGES)
+def test_notices_in_package(unpacked: Path, package: str) -> None:
+    doc = unpacked / f"usr/share/doc/{package}"
+    assert (doc / "THIRD-PARTY").read_text() == (TOP / "THIRD-PARTY").read_text()
+    assert "THIRD-PARTY" in (doc / "copyright").read_text()
 
 
 def test_program_over_packages(unpacked: Path, of_packages: dict[str, str], tmp_path: Path) -> None:
@@ -107,7 +144,7 @@ def test_tool_of_package(unpacked: Path, of_packages: dict[str, str]) -> None:
     assert said == "LongInt 7\n= a value of 5 bytes\n"
 
 
-@pytest.mark.parametrize("page", ("man3/amqpv_read.3.gz", "man3/amqp_values.3.gz", "man1/amqp_show.1.gz"))
+@pytest.mark.parametrize("page", ("man3/amqp_values.3.gz", "man1/amqp_show.1.gz"))
 def test_manual_of_packages(unpacked: Path, of_packages: dict[str, str], page: str) -> None:
     words: Words = ["man", "--warnings", "-l", unpacked / "usr/share/man" / page]
     done = run(words, env={**of_packages, "MANWIDTH": "80"})
@@ -160,46 +197,74 @@ def test_fresh_root(packages: Path, root: Path) -> None:
 
 
 @pytest.fixture(scope="module")
-def packed(made: Path, made_for_aarch64: Path, folder: Path) -> Path:
-    """The folder that has a release."""
-    path = folder / "packed"
-    assert_well(run([TOP / "packaging/pack", made, made_for_aarch64, path]))
+def repository(libraries: None, made_for_aarch64: Path, folder: Path) -> Path:
+    """A repository in which all of this is committed, with what `rt ci` has left here."""
+    path = folder / "repository"
+    shutil.copytree(TOP, path, symlinks=True, ignore=shutil.ignore_patterns(".git", "out", "build"))
+    day = {"GIT_AUTHOR_DATE": "2026-01-01T00:00:00Z", "GIT_COMMITTER_DATE": "2026-01-01T00:00:00Z"}
+    for words in ("init -q", "add -A", "-c user.name=nobody -c user.email=nobody@example.org commit -qm all"):
+        assert_well(run(["git", "-C", path, *words.split()], env={**os.environ, **day}))
+    for it in TOP.glob("crates/*/out"):
+        shutil.copytree(it, path / it.relative_to(TOP), symlinks=True)
     return path
 
 
+def released(repository: Path, to: Path, **env: str) -> Path:
+    assert_well(run([repository / "packaging/release", "--built", to], env={**os.environ, **env}))
+    return to
+
+
 @pytest.fixture(scope="module")
-def release(packed: Path, folder: Path) -> Path:
-    """The folder of a release, as it is unpacked."""
-    (name,) = packed.glob("*.tar.gz")
+def release(repository: Path, folder: Path) -> Path:
+    """What a release consists of."""
+    return released(repository, folder / "release", TZ="UTC")
+
+
+@pytest.fixture(scope="module")
+def archive(release: Path, folder: Path) -> Path:
+    """The folder of the archive for x86-64, as it is unpacked."""
+    (name,) = release.glob("*-x86_64-linux-gnu.tar.gz")
     assert_well(run(["tar", "-xzf", name, "-C", folder]))
     return folder / name.name.removesuffix(".tar.gz")
 
 
 @pytest.mark.needs("aarch64")
 class TestRelease:
-    """A release is packed, and what its README says is done in it."""
+    """A release is made, and what the README of an archive says is done in it."""
 
-    def test_again(self, packed: Path, made: Path, made_for_aarch64: Path, tmp_path: Path) -> None:
-        """It is packed of the same bytes again."""
-        assert_well(run([TOP / "packaging/pack", made, made_for_aarch64, tmp_path / "again"]))
-        assert_well(run(["diff", "-r", packed, tmp_path / "again"]))
+    def test_files(self, release: Path) -> None:
+        name, wheel = f"amqp_values-{version()}", f"amqp_values-{version()}-cp310-abi3-manylinux_2_17"
+        archives = {f"{name}{it}.tar.gz" for it in ("", "-x86_64-linux-gnu", "-aarch64-linux-gnu")}
+        packages = {f"{it}_{version()}-1_amd64.deb" for it in PACKAGES}
+        others = {"amqp.html", "SHA256SUMS", f"{wheel}_x86_64.whl", f"{wheel}_aarch64.whl"}
+        assert files_in(release) == archives | packages | others
 
-    def test_checksum(self, packed: Path) -> None:
-        assert_well(run(["sha256sum", "--check", "SHA256SUMS"], cwd=packed))
+    def test_again(self, repository: Path, release: Path, tmp_path: Path) -> None:
+        """It has the same bytes, with another umask and in another time zone, and is made in another folder."""
+        before = os.umask(0o077)
+        try:
+            again = released(repository, tmp_path / "again", TZ="Asia/Kathmandu", LC_ALL="C.UTF-8")
+        finally:
+            os.umask(before)
+        assert (again / "SHA256SUMS").read_text() == (release / "SHA256SUMS").read_text()
 
-    def test_commands_of_readme(self, release: Path) -> None:
-        commands, wants = commands_of_first((release / "README.md").read_text())
+    def test_checksums(self, release: Path) -> None:
+        done = run(["sha256sum", "--check", "SHA256SUMS"], cwd=release)
+        assert_well(done)
+        assert len(done.stdout.splitlines()) == len(files_in(release)) - 1
+
+    def test_nothing_else_than_what_is_committed(self, repository: Path, tmp_path: Path) -> None:
+        (repository / "other").touch()
+        done = run([repository / "packaging/release", "--built", tmp_path / "release"])
+        (repository / "other").unlink()
+        assert done.returncode == 1
+        assert "?? other" in done.stderr
+
+    @pytest.mark.parametrize("name", ("LICENSE", "THIRD-PARTY"))
+    def test_notices(self, archive: Path, name: str) -> None:
+        assert (archive / name).read_text() == (TOP / name).read_text()
+
+    def test_commands_of_readme(self, archive: Path) -> None:
+        commands, wants = commands_of_first((archive / "README.md").read_text())
         assert wants
-        assert printed(["sh", "-ec", commands], cwd=release, env={"PATH": PATH}) == wants
-
-    @pytest.mark.parametrize("processor", ("x86_64-linux-gnu", "aarch64-linux-gnu"))
-    def test_checksums(self, release: Path, processor: str) -> None:
-        assert_well(run(["sha256sum", "--quiet", "--check", "checksums"], cwd=release / processor))
-
-    def test_install(self, release: Path, tmp_path: Path) -> None:
-        """It is installed, and removed again."""
-        root = tmp_path / "root"
-        assert_well(run(["make", "-C", release, "install", f"DESTDIR={root}"]))
-        assert (root / "usr/local/lib/libamqp_values.a").exists()
-        assert_well(run(["make", "-C", release, "uninstall", f"DESTDIR={root}"]))
-        assert files_in(root) == set()
+        assert printed(["sh", "-ec", commands], cwd=archive, env={"PATH": PATH}) == wants

@@ -1,18 +1,17 @@
 """The libraries' symbols.
 
-Each library has its calls and no other, together those of include/amqp_values.h. The first asks only for `memcpy` and `memmove`,
+Each library has its calls and no other, as include/amqp_values.h declares them. The first asks only for `memcpy` and `memmove`,
 so it can't allocate, print or end the process, the second for `memset` and the three functions of
 crates/amqp_c_alloc/malloc.c too. None has a variable.
 """
 
-import re
 from pathlib import Path
 
 import pytest
 from building import AARCH64, archive
 
 from tests.c.calls import CALLS
-from tests.c.compiling import ALLOCATING, CRATES, HEADER, LIBRARIES, PLAIN, symbols
+from tests.c.compiling import ALLOCATING, CRATES, LIBRARIES, PLAIN, symbols
 
 OF_MALLOC = {"rattle_alloc", "rattle_realloc", "rattle_dealloc"}
 BORROWED = {PLAIN: {"memcpy", "memmove"}, ALLOCATING: {"memcpy", "memmove", "memset"} | OF_MALLOC}
@@ -23,12 +22,6 @@ of_each = pytest.mark.parametrize("crate", LIBRARIES)
 def asked_for(path: Path) -> set[str]:
     """What a library asks for."""
     return symbols(path, "-g", "--undefined-only")
-
-
-def test_header_declares_the_calls() -> None:
-    text = re.sub(r"/\*.*?\*/", "", HEADER.read_text(), flags=re.S)
-    declared = sorted(re.findall(r"(?m)^(?:amqpv_result|uint32_t) (\w+)\(", text))
-    assert declared == sorted(name for names in CALLS.values() for name in names)
 
 
 @of_each

@@ -27,11 +27,22 @@ NAMES = {tag: name for name, (tag, *_) in [*INTEGERS.items(), *DIGITS.items()]}
 # How many bytes a value has of each type without a length before it.
 WIDTHS = {"V": 0, "t": 1, "D": 5, "f": 4, "d": 8, **{tag: width for tag, width, _ in INTEGERS.values()}}
 SPACE = b" \t\n\r"
+STRING_OR_BRACKET = re.compile(r'"(?:[^"\\]|\\.)*(?:"|\\?\Z)|[][{}]', re.DOTALL)
 # (which escapes a string may have, Python's own reader knows)
 STRING = re.compile(rb'"(?:[^"\\]|\\.)*"', re.DOTALL)
 # What is neither a string nor punctuation goes on to what ends it.
 WORD = re.compile(rb'[^ \t\n\r{}\[\]:,"]+')
 NUMBER = re.compile(rb"-?(?:0|[1-9][0-9]*)(?:\.[0-9]+)?(?:[eE][+-]?[0-9]+)?")
+
+
+# What completes the beginning of a JSON text up to its open brackets: what is left of a string, an escape, a word or a number,
+# and then a value, a colon and a value, or a member.
+TAILS = [
+    tail + end
+    for tail in ("", '"', 'n"', '0000"', '000"', '00"', '0"', *('00\\udc00"'[n:] for n in range(8)), "rue", "ue", "e", "alse", "lse",
+                 "se", "ull", "ll", "l", "0")
+    for end in ("", "0", ":0", '"":0')
+]  # fmt: skip
 
 
 class Rejected(Exception):
@@ -82,10 +93,8 @@ class Text:
 
     def key(self) -> tuple[int, str]:
         """A key and its colon: the offset, and the key."""
-        mark, at = self.peek(), self.at
-        if mark != b'"':
-            raise Rejected(at)
-        name = self.string()
+        self.peek()
+        at, name = self.at, self.string()
         if not self.take(b":"):
             raise Rejected(at)
         return at, name
@@ -216,15 +225,53 @@ def integer(text: str, width: int, is_signed: bool) -> bytes | None:
         return None
 
 
-def value_of_json(text: bytes) -> Value:
+def value_of_json(text: bytes, levels: int = LEVELS) -> Value:
     """The value that a text means."""
     reader = Text(text)
-    found = reader.value(LEVELS)
-    # (a comma belongs to what is before it)
-    if reader.take(b",") or reader.peek():
-        reader.peek()
-        raise Rejected(reader.at)
+    try:
+        found = reader.value(levels)
+        if reader.peek():
+            raise Rejected(reader.at)
+    except Rejected as why:
+        raise (why if why.mismatch else Rejected(first_wrong(text))) from None
     return found
+
+
+def first_wrong(text: bytes) -> int:
+    """The first byte of a text with which it can't be completed to JSON any more, or its end: by Python's own reader."""
+    least, most = 0, len(text)
+    while least < most:
+        middle = (least + most + 1) // 2
+        # (a character is complete with its last byte)
+        end = middle
+        while end < len(text) and text[end] & 0xC0 == 0x80:
+            end += 1
+        if begins_json(text[:end].decode()):
+            least = middle
+        else:
+            most = middle - 1
+    return least
+
+
+def begins_json(start: str) -> bool:
+    """Whether a text can be completed to JSON."""
+    open_brackets = []
+    for it in STRING_OR_BRACKET.findall(start):
+        if it in ("[", "{"):
+            open_brackets.append("]" if it == "[" else "}")
+        elif it in ("]", "}") and (not open_brackets or open_brackets.pop() != it):
+            return False
+    end = "".join(reversed(open_brackets))
+    return any(is_json(start + tail + end) for tail in TAILS)
+
+
+def is_json(text: str) -> bool:
+    try:
+        # (half of a surrogate pair has no UTF-8)
+        json.dumps(json.loads(text, parse_int=str, parse_constant=int), ensure_ascii=False).encode()
+    except (ValueError, RecursionError):
+        return False
+    return True
 
 
 # Writing

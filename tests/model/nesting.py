@@ -100,8 +100,10 @@ class Call(NamedTuple):
 
 
 # The calls of JSON of which docs/JSON.md says how many levels fit a stack.
-JSON = ("to_json", "json_of_encoding", "from_json", "encoding_of_json")
+JSON = ("to_json", "json_of_encoding", "from_json", "encoding_of_json", "encoding_of_json_within")
 DEEP, DEEPER, OF_JSON, UNLIMITED = (LIMIT, 1000), (LIMIT, 10_000), (LIMIT, 127), (LIMIT, 1000, 10_000)
+# The calls that take more in the program of tests/counts, which compares the page with that.
+IN_COUNTS = {"parse_value", "parse_value_within", "ValueReader::next"}
 # What a call returns that rejects the nesting.
 REJECTED = re.compile(r"kind: Eof|TooDeep|Syntax\(|refused|AMQPV_TOO_DEEP")
 # Texts: keys that don't ascend are sorted.
@@ -143,7 +145,7 @@ CALLS = calls(
     ("parse_value_within SplitInput ValueReader::next read_in_place to_owned", {"": encoding}, DEEPER),
     ("is_canonical canonical_len measure_value warnings", {"": encoding}, DEEPER),
     ("json_of_encoding", {"": unordered}, DEEPER),
-    ("from_json encoding_of_json", TEXTS, OF_JSON),
+    ("from_json encoding_of_json encoding_of_json_within", TEXTS, OF_JSON),
 )
 
 
@@ -213,7 +215,7 @@ def checks(made: Mapping[str, Call], column: int = 0) -> Iterator[Check]:
             if not figure or call.depths != UNLIMITED:
                 of_long = partial(wrong_of_long, call, make, form, SMALL, figure > 0 and name != WARNS)
                 yield Check(f"{name}, {LONG} bytes of {said}", of_long)
-        if figure:
+        if figure and name not in IN_COUNTS:
             stack = besides + call.depths[-1] * figure // 2
             yield Check(f"{name}, half of the stack", partial(enough, call, stack))
 

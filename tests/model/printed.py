@@ -3,6 +3,7 @@
 It has a separate reader and writer of values, and shares nothing with the crates. JSON is that of json_format.py.
 """
 
+import json
 import math
 import random
 import re
@@ -18,8 +19,8 @@ from crates import TOP
 
 from tests.model import json_format
 
-# Tables as brokers and clients sent them, with their type tag: a name, and hexadecimal.
-CAPTURED = TOP / "examples/captured/tables.txt"
+# Tables as brokers and clients sent them.
+CAPTURED = TOP / "vectors/real-world.json"
 FRAME, DEPTH = 2**20, 64
 # How deep containers nest that no client breaks on.
 CLIENT_LEVELS = 32
@@ -308,8 +309,6 @@ def hint(data: bytes, subject: str) -> str:
         return "the input seems to have a type tag; without --table it is read" if data[:1] == b"F" else ""
     if data and chr(data[0]) in TYPES:
         return ""
-    if data[:1] == b"\0":
-        return "the input seems to be a table without its type tag; --table reads it"
     if data[:1] in (b"{", b"["):
         return "the input seems to be JSON; --encode reads it"
     return "the input seems to be hexadecimal; --hex reads it" if HEXADECIMAL.fullmatch(data) else ""
@@ -470,6 +469,15 @@ def ending(found: Dissection) -> tuple[str, int]:
     return more * has_more, int(bool(found.failure))
 
 
+def guess(found: Dissection) -> str:
+    """What is said after the failure of an input that is a whole table without its type tag."""
+    if found.left_out or not found.failure or found.data[:1] != b"\0":
+        return ""
+    table = Dissection(found.data, "table")
+    is_one = not table.failure and table.end == len(table.data)
+    return message("the input seems to be a table without its type tag; --table reads it") * is_one
+
+
 def instead(data: bytes, subject: str) -> Printed | None:
     """All that is said if the bytes seem to be something else."""
     said = hint(data, subject)
@@ -483,7 +491,8 @@ def printed(
     found = Dissection(data, subject, start or 0)
     lines = [*(part_lines(found, asks_notes) if form == "bytes" else tree(found.parts, asks_notes)), *repeated(found)]
     lines += [f"! {found.failed()}"] if found.failure else []
-    shown = "".join(f"{line}\n" for line in [*lines, f"= {outcome(found)}"]), *ending(found)
+    said, status = ending(found)
+    shown = "".join(f"{line}\n" for line in [*lines, f"= {outcome(found)}"]), guess(found) + said, status
     return start is None and instead(data, subject) or shown
 
 
@@ -492,7 +501,8 @@ def printed_json(data: bytes, subject: str = "value", start: int = 0) -> Printed
     found = Dissection(data, subject, start)
     said, status = ending(found)
     if found.failure:
-        return instead(data, subject) or ("", message(found.failed(names_keys=True)), status)
+        why = message(found.failed(names_keys=True)) + guess(found)
+        return instead(data, subject) or ("", why, status)
     again = [it[2:].replace(READERS_DIFFER, "only its last value is shown") for it in repeated(found)]
     return f"{json_text(read(found.data)[0])}\n", "".join(map(message, again)) + said, status
 
@@ -519,15 +529,19 @@ EQUAL_KEYS = {
     "4.0": "delivers the first and routes by the last",
     "4.3": "delivers the first and routes by the last",
 }
+# What follows the name of a version that no test runs.
+BY_HAND = {"4.3": " (tested by hand)"}
 
 
-def checked(data: bytes, subject: str = "value", version: str = "4.3") -> Printed:
+def checked(data: bytes, subject: str = "value", version: str = "4.0") -> Printed:
     """Of `amqp_show --check rabbitmq-VERSION`, with `--table` or without it."""
     found = Dissection(data, subject)
-    return instead(data, subject) or (judged(found, version), *ending(found))
+    text = judged(found, version)
+    said, status = ending(found)
+    return instead(data, subject) or (text, guess(found) + said, status)
 
 
-def judged(found: Dissection, version: str = "4.3") -> str:
+def judged(found: Dissection, version: str = "4.0") -> str:
     """The lines of bytes that don't seem to be something else. The failure is then what RabbitMQ fails at."""
     lines: list[str] = []
     try:
@@ -542,7 +556,7 @@ def judged(found: Dissection, version: str = "4.3") -> str:
         verdict = "closes the connection; warnings weren't looked for"
         if " allows" in failure.args[1]:
             verdict = "isn't checked beyond the limits"
-    return "".join(f"{it}\n" for it in [*lines, f"= RabbitMQ {version} {verdict}"])
+    return "".join(f"{it}\n" for it in [*lines, f"= RabbitMQ {version}{BY_HAND.get(version, '')} {verdict}"])
 
 
 class Inner(NamedTuple):
@@ -735,9 +749,8 @@ def damaged(make: random.Random, data: bytes) -> bytes:
 
 
 def captured() -> dict[str, bytes]:
-    """The tables that were captured, by name."""
-    rows = (it.rpartition(": ") for it in CAPTURED.read_text().splitlines() if it and not it.startswith("#"))
-    return {name: bytes.fromhex(digits) for name, _, digits in rows}
+    """The tables that were captured, by their ids, with their type tag."""
+    return {it["id"]: b"F" + bytes.fromhex(it["bytes"]) for it in json.loads(CAPTURED.read_text())["cases"]}
 
 
 def inputs() -> Iterator[bytes]:

@@ -15,11 +15,14 @@ from crates import TOP
 from tests.checks import Checks, content
 from tests.model import json_format, printed
 from tests.model.printed import Printed
+from tests.model.tables import VERSIONS
 from tests.transcripts import Case, Output, cases
 
 CRATES = TOP / "crates"
 # The colours of a terminal.
 COLOURS = re.compile(r"\x1b\[\d*m")
+# The version that `--check rabbitmq` is: the newest of those that tests/rabbitmq tries.
+NEWEST = ".".join(max(it.split(".") for it in VERSIONS)[:2])
 # What the model doesn't predict: words of amqp_show, and cases; and the words that have a value.
 OTHERS = {
     "--depth",
@@ -65,7 +68,7 @@ def predicted_of_input(words: Sequence[str], data: bytes, model: Any = printed) 
     subject = "table" if "--table" in words else "value"
     form = "bytes" if "--bytes" in words else "JSON" if "--json" in words else "tree"
     if "--check" in words:
-        version = words[words.index("--check") + 1].partition("-")[2] or "4.3"
+        version = words[words.index("--check") + 1].partition("-")[2] or NEWEST
         found: Printed = model.checked(data, subject, version)
     elif "--stream" in words:
         found = model.streamed(data)[form]

@@ -41,7 +41,13 @@ def is_read(text: bytes, answer: str) -> bool:
     try:
         encoding = write(value_of_json(text))
     except Rejected as why:
-        return answer == (f"NotAValue({why.at}, {why.mismatch})" if why.mismatch else f"Syntax({why.at})")
+        # (what is wrong where a text isn't JSON is the library's word)
+        wanted = (
+            [f"Syntax({why.at}, "]
+            if not why.mismatch
+            else [f"NotAValue({why.at}, {why.mismatch})", f"{why.mismatch}({why.at})"]
+        )
+        return answer.startswith(tuple(wanted))
     return not answer.endswith(")") and bytes_of(answer.rpartition(" ")[2]) == encoding
 
 

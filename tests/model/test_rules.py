@@ -1,7 +1,7 @@
 """Each rule of the model, broken once: the model that has it otherwise disagrees with a row.
 
 The rules are the lines of `mutants`, and of each type tag that there is one, its width and its type. The rows are those of
-worked.py, and what programs have stored.
+worked.py, what programs have stored, and the test vectors.
 """
 
 import re
@@ -15,11 +15,24 @@ import pytest
 
 from tests.model import json_format, printed, stored_output, tables, worked
 from tests.model.stored_output import Rows
+from tests.vectors.cases import CASES
 
 HERE = Path(__file__).parent
+
+
+def rows_of_vectors(model: Any) -> Rows:
+    """The cases of vectors/ that have their bytes, by what amqp_wire prints of them."""
+    for it in CASES:
+        if "bytes" in it.case:
+            yield it.id, stored_output.line(it.tagged.hex(), model) == it.line
+
+
 # The rows by which each file is judged.
 ROWS: dict[str, tuple[ModuleType, list[Callable[[Any], Rows]]]] = {
-    "printed.py": (printed, [stored_output.rows_of_wire, stored_output.rows_of_show, worked.rows_of_printed]),
+    "printed.py": (
+        printed,
+        [stored_output.rows_of_wire, rows_of_vectors, stored_output.rows_of_show, worked.rows_of_printed],
+    ),
     "tables.py": (tables, [worked.rows_of_tables]),
     "json_format.py": (json_format, [worked.rows_of_json, stored_output.rows_of_encode]),
 }

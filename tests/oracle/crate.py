@@ -15,11 +15,11 @@ HERE, OUT = TOP / "tests/oracle", TOP / "out/oracle"
 DEBIAN = Path("/usr/share/cargo/registry")
 CARGO = """\
 [package]
-name = "driver"
+name = "{name}"
 edition = "2024"
 [[bin]]
-name = "driver"
-path = {driver}
+name = "{name}"
+path = {source}
 [dependencies]
 amq-protocol-types = {{ {place}version = "=10.6.3" }}
 cookie-factory = "0.3"
@@ -76,18 +76,19 @@ def packages_for(crate: Path) -> Path | None:
     return next(filter(has_nom, (crate.resolve().parent / "packages", DEBIAN)), None)
 
 
-def build(crate: Path | None, packages: Path | None) -> Driver:
-    """Builds the driver over the Rust crate."""
+def build(crate: Path | None, packages: Path | None, source: Path = HERE / "driver.rs", name: str = "driver") -> Driver:
+    """Builds the driver over the Rust crate, or another program."""
     packages = packages or (packages_for(crate) if crate else None)
-    OUT.mkdir(parents=True, exist_ok=True)
+    folder = OUT / name
+    folder.mkdir(parents=True, exist_ok=True)
     place = f"path = {quoted(crate)}, " if crate else ""
-    text = CARGO.format(driver=quoted(HERE / "driver.rs"), place=place, nom=asked_nom(crate))
-    (OUT / "Cargo.toml").write_text(text)
+    text = CARGO.format(name=name, source=quoted(source), place=place, nom=asked_nom(crate))
+    (folder / "Cargo.toml").write_text(text)
     words = ["cargo", "build", "--release", "--quiet"]
     if packages:
         words += ["--offline", "--config", 'source.crates-io.replace-with="given"']
         words += ["--config", f"source.given.directory={quoted(packages)}"]
-    done = subprocess.run(words, cwd=OUT, capture_output=True, text=True)
-    assert done.returncode == 0, f"cargo can't build the driver: {done.stderr[-2000:]}"
-    found = re.search(r'name = "nom"\nversion = "([^"]*)"', (OUT / "Cargo.lock").read_text())
-    return Driver(OUT / "target/release/driver", found[1] if found else "?")
+    done = subprocess.run(words, cwd=folder, capture_output=True, text=True)
+    assert done.returncode == 0, f"cargo can't build {source.name}: {done.stderr[-2000:]}"
+    found = re.search(r'name = "nom"\nversion = "([^"]*)"', (folder / "Cargo.lock").read_text())
+    return Driver(folder / "target/release" / name, found[1] if found else "?")

@@ -16,7 +16,7 @@ from hypothesis import given
 from hypothesis import strategies as st
 from pika.compat import long
 
-from tests.model.printed import damaged, field, nested
+from tests.model.printed import FRAME, damaged, field, nested
 from tests.model.tables import decimal, first_problem, number, odd_table, random_table, raw
 from tests.python.codecs import ADAPTERS, CLIENTS, codec, unread, unwritten
 from tests.values import error_of
@@ -95,8 +95,9 @@ def test_options(client: Client) -> None:
     assert isinstance(codec(client, frame=len(TWICE)).read(TWICE, 0)[0], Refused)
     assert type(codec(client, frame=len(TWICE) + 1).read(TWICE, 0)[0]) is Headers
     # (a connection may have larger frames than RabbitMQ's usual one)
-    large = raw(("F", {b"k": ("S", b"a" * 200_000)}))[1:]
-    assert codec(client).write(codec(client).read(large, 0)[0]) == large
+    large = raw(("F", {b"k": ("S", b"a" * (FRAME - 12))}))[1:]
+    assert len(large) == FRAME - 1 and codec(client).write(codec(client).read(large, 0)[0]) == large
+    assert isinstance(codec(client).read(raw(("F", {b"k": ("S", b"a" * (FRAME - 11))}))[1:], 0)[0], Refused)
     table: dict[str, Any] = {}
     for _ in range(63):
         table = {"k": table}

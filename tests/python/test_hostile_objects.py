@@ -19,6 +19,7 @@ from typing import Any
 
 import amqp_values as own
 import pytest
+from crates import TOP
 
 from tests.model.printed import damaged, field, nested, value_of
 from tests.model.tables import EVERY_TYPE, odd_table, random_table, raw
@@ -183,7 +184,8 @@ DENSE = {
 
 @pytest.mark.parametrize("name", DENSE)
 def test_memory(name: str) -> None:
-    """A value that is read takes at most 30 times its bytes, of plain types too."""
+    """A value that is read takes at most as many times its bytes as docs/PYTHON.md says, of plain types too."""
+    (most,) = re.findall(r"at most (\d+) times the memory of its bytes", (TOP / "docs/PYTHON.md").read_text())
     value = DENSE[name]
     data = field(b"A", value * (100_000 // len(value)))
     given: list[dict[str, Any]] = [{}, {"plain": True}, {"equal_keys": "refuse"} if "equal keys" not in name else {}]
@@ -194,7 +196,7 @@ def test_memory(name: str) -> None:
         _, peak = tracemalloc.get_traced_memory()
         tracemalloc.stop()
         assert len(found) == 100_000 // len(value)
-        assert peak <= 30 * len(data), f"{peak / len(data):.1f} times"
+        assert peak <= int(most) * len(data), f"{peak / len(data):.1f} times"
 
 
 # Each allocation that fails in turn, in a process of its own.

@@ -16,6 +16,7 @@ from typing import Any
 
 import amqp_values as own
 import pytest
+from amqp_values._native import Codec
 from crates import TOP
 from hypothesis import given
 from hypothesis import strategies as st
@@ -168,6 +169,19 @@ def test_large_values() -> None:
     assert own_error(lambda: own.loads_table(data)) == ("too large", 0, 0)
     for size in [*range(480, 530), *range(1000, 1100)]:
         assert own.loads(own.dumps(["x" * size, {"k" * 255: size}]))[1] == {"k" * 255: size}
+
+
+def test_much_memory() -> None:
+    """A mebibyte, and 100,000 entries: no call gives up."""
+    table: dict[str, Any] = {f"{it}": None for it in range(100_000)} | {"text": "x" * 2**20}
+    data, most = own.dumps_table(table), 2**32 - 1
+    assert own.dumps(table) == b"F" + data
+    assert own.loads(b"F" + data, frame=most) == own.loads_table(data, frame=most) == table
+    assert own.decode_table(data, frame=most) == (table, len(data))
+    assert own.find(data, "text", table=True, frame=most) == table["text"]
+    codec = Codec(None, type(None), None, frame=most)
+    assert codec.read(data, 0) == (table, len(data))
+    assert codec.write(table) == data
 
 
 def test_data_of_every_type() -> None:

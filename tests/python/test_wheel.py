@@ -6,10 +6,10 @@ from pathlib import Path
 import pytest
 from building import AARCH64, X86_64
 from crates import TOP, Crates
-from wheels import PROCESSORS, PYTHON, make_wheel, put_library, python_in, pythons
-from wheels import try_unpacked, try_wheel, try_wheel_of_aarch64, wrong_symbols
+from wheels import PROCESSORS, PYTHON, make_wheel, put_library, wrong_symbols
 
 from tests.left_out import without
+from tests.python.trying import python_in, pythons, try_unpacked, try_wheel, try_wheel_of_aarch64
 from tests.rabbitmq.broker import DEBIAN_13, ROOTS
 
 Record = Callable[[str, object], None]

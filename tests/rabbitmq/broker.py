@@ -82,8 +82,9 @@ class Broker:
     # how long it took until it was ready
     seconds: float
 
-    def __init__(self, folder: Path, version: str) -> None:
-        self.folder, self.version, self.root, self.port = folder, version, ROOTS[version], 0
+    def __init__(self, folder: Path, version: str, root: Path | None = None) -> None:
+        """The broker of a version, or that of another root, which is taken for that version."""
+        self.folder, self.version, self.root, self.port = folder, version, root or ROOTS[version], 0
         self.processes: list[subprocess.Popen[bytes]] = []
 
     def __enter__(self) -> "Broker":

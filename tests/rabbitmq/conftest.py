@@ -11,22 +11,23 @@ from typing import Any, NamedTuple
 
 import pytest
 from crates import TOP
-from wheels import python_in
 
 from tests.model.tables import VERSIONS, Version
 from tests.package import BUILT, put_package
+from tests.python.trying import python_in
 from tests.rabbitmq import adapted, seen
 from tests.rabbitmq.broker import DEBIAN_13, ROOTS, Broker
 from tests.rabbitmq.wire import Connection
 
-# The minutes that all tests with one version take at most.
-MINUTES = 15
+# The minutes that all tests with one version take at most, on a busy machine too.
+MINUTES = 60
 
 
 def pytest_addoption(parser: pytest.Parser) -> None:
     group = parser.getgroup("this repository")
     group.addoption("--tables", type=int, default=10000, help="how many random tables are sent (10000)")
     group.addoption("--rabbitmq", action="append", choices=[*ROOTS], help=f"a version of RabbitMQ ({DEBIAN_13})")
+    group.addoption("--root", type=Path, help="a root of Debian whose RabbitMQ is tested as if it were that version")
     group.addoption(
         "--clients", metavar="ROOT", help="Python's clients of a root of Debian (Debian 12's and Debian 13's)"
     )
@@ -55,7 +56,8 @@ def broker(request: pytest.FixtureRequest, tmp_path_factory: pytest.TempPathFact
     """A running broker of a version."""
     signal.signal(signal.SIGALRM, lambda *_: pytest.exit(f"not done within {MINUTES} minutes", 1))
     signal.alarm(60 * MINUTES)
-    with Broker(Path(tmp_path_factory.mktemp("broker")), request.param) as found:
+    root = request.config.getoption("--root")
+    with Broker(Path(tmp_path_factory.mktemp("broker")), request.param, root) as found:
         yield found
     signal.alarm(0)
 
@@ -76,6 +78,11 @@ class Debian(NamedTuple):
     def has_aio_pika_8(self) -> bool:
         return "PYTHONHOME" not in self.env
 
+    def said(self, script: str) -> str:
+        """What a script prints."""
+        done = subprocess.run([*self.words, "-c", script], capture_output=True, text=True, env=self.env, check=True)
+        return done.stdout.strip()
+
 
 @pytest.fixture(scope="session")
 def debian(request: pytest.FixtureRequest, package: str) -> Debian:
@@ -93,7 +100,7 @@ Child = Callable[..., Any]
 def child(broker: Broker, debian: Debian) -> Child:
     def run(job: str, client: str, adapter: str, **given: object) -> Any:
         words = [*debian.words, "-m", adapted.__name__, job, client, adapter, f"{broker.port}"]
-        how: dict[str, Any] = {"env": debian.env, "cwd": TOP, "capture_output": True, "text": True, "timeout": 120}
+        how: dict[str, Any] = {"env": debian.env, "cwd": TOP, "capture_output": True, "text": True, "timeout": 600}
         done = subprocess.run(words, input=json.dumps(given), **how)
         assert not done.returncode, done.stderr[-3000:]
         return json.loads(done.stdout)
@@ -105,8 +112,7 @@ def child(broker: Broker, debian: Debian) -> Child:
 def versions(debian: Debian) -> dict[str, str]:
     """The versions of the clients that the Debian has, as seen.py names them."""
     script = "import importlib.metadata as it; [print(name, it.version(name)) for name in ('pika', 'amqp', 'pamqp')]"
-    done = subprocess.run([*debian.words, "-c", script], capture_output=True, text=True, env=debian.env, check=True)
-    return dict(zip(adapted.CLIENTS, done.stdout.splitlines(), strict=True))
+    return dict(zip(adapted.CLIENTS, debian.said(script).splitlines(), strict=True))
 
 
 @pytest.fixture

@@ -13,7 +13,7 @@ from tests.rabbitmq.wire import Closed, Connection, Message
 from tests.values import form
 
 # The seconds until a message comes that takes its time.
-PATIENCE = 60
+PATIENCE = 120
 # What is at a path that a table doesn't have.
 NOTHING = object()
 

@@ -72,9 +72,8 @@ def archive(request: pytest.FixtureRequest) -> Path:
     if path:
         return Path(path).resolve()
     if request.config.getoption("--built"):
-        folder = OUT / "dist"
-        assert_well(run([TOP / "packaging/dist", "--built", folder], seconds=PROVING_SECONDS))
-        return folder / "lib" / ARCHIVE
+        assert_well(run(["make", "-C", TOP, "all", "BUILT=--built"], seconds=PROVING_SECONDS))
+        return TOP / "out/build" / ARCHIVE
     found = installed()
     assert found
     return found.resolve()

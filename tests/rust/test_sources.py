@@ -7,17 +7,16 @@ from pathlib import Path
 import pytest
 from crates import TOP
 
-from tests.rust.cargo import CRATES, DROP_IN, HERE, RUST, assert_well, run
+from tests.rust.cargo import CRATES, DROP_IN, HERE, PACKAGES, RUST, assert_well, run
 
 HEADER = TOP / "include/amqp_values.h"
-DECLARES = RUST / "declarations"
 LAYOUT = "max_width=120,use_small_heuristics=Max"
 
 
 def sources(edition: str) -> Iterator[Path]:
     """The sources of an edition: the crates over the calls for C are of the older one."""
     if edition == "2024":
-        yield from (*DROP_IN.glob("*.rs"), *HERE.glob("*.rs"))
+        yield from (*DROP_IN.glob("*.rs"), *HERE.glob("*.rs"), *(TOP / "vectors/adapters").glob("*.rs"))
     else:
         yield from (it for name in CRATES for it in (RUST / name).glob("**/*.rs") if "target" not in it.parts)
 
@@ -31,21 +30,19 @@ def test_layout(edition: str) -> None:
     assert_well(run(["rustfmt", "--edition", edition, "--check", "--config", LAYOUT, *found]))
 
 
-def test_declarations_are_made_from_the_header() -> None:
-    assert_well(run([DECLARES, "--check"]))
+@pytest.mark.needs("rustfmt")
+@pytest.mark.parametrize("processor", ("x86_64", "aarch64"))
+def test_declarations_are_made_from_the_header(processor: str) -> None:
+    """The same for each processor."""
+    done = run([RUST / "declarations", f"{processor}-unknown-linux-gnu"])
+    assert_well(done)
+    assert done.stdout == (RUST / "amqp-values-sys/src/bindings.rs").read_text()
 
 
-@pytest.mark.parametrize(
-    "compiler", [pytest.param(it, marks=pytest.mark.needs(it)) for it in ("cc", "aarch64-linux-gnu-gcc")]
-)
-def test_asserted_layout(compiler: str, tmp_path: Path) -> None:
-    """A compiler of C has the sizes and offsets that the declarations assert."""
-    said = run([DECLARES, "--asserts"])
-    assert_well(said)
-    assert "_Static_assert(" in said.stdout
-    asserts = tmp_path / "asserts.c"
-    asserts.write_text(said.stdout)
-    assert_well(run([compiler, "-std=c11", f"-I{HEADER.parent}", "-fsyntax-only", asserts]))
+def test_duties_are_those_of_the_header() -> None:
+    duties = HEADER.read_text().partition("What the caller must ensure:\n")[2].partition("\n *\n")[0]
+    assert duties.startswith(" *   - ")
+    assert re.sub(r"(?m)^ \*   ", "//! ", duties) in (RUST / "amqp-values-sys/src/lib.rs").read_text()
 
 
 @pytest.mark.parametrize("name", CRATES)
@@ -54,6 +51,28 @@ def test_version(name: str) -> None:
     version = re.findall(r'(?m)^#define AMQPV_VERSION "(.*)"$', HEADER.read_text())
     versions = re.findall(r'(?<!-)\bversion = "([^"]*)"', (RUST / name / "Cargo.toml").read_text())
     assert {*versions} == {*version}
+
+
+def test_stack_of_limits() -> None:
+    """The stack that limits.rs states for each level is that of the header, on both processors; tests/c/nested.c takes no more."""
+    rows = dict(re.findall(r"(?m)^ \*     (amqpv_[\w, ]*\w) +(\d+ +\d+)$", HEADER.read_text()))
+    figures = next(it.split() for names, it in rows.items() if "amqpv_read" in names.split(", "))
+    text = (RUST / "amqp-values/src/limits.rs").read_text()
+    assert re.findall(r"level of `depth` (\d+) bytes on x86-64, (\d+) on aarch64", text) == [(*figures,)]
+
+
+def test_unsafe_code() -> None:
+    """Is where docs/RUST.md says that it is: in the module that calls C, and not in what is added to the Rust crate."""
+    found = {it.name for it in (RUST / "amqp-values/src").glob("*.rs") if re.search(r"\bunsafe\b", it.read_text())}
+    assert found == {"calls.rs"}
+    assert not [it for it in DROP_IN.glob("*.rs") if "unsafe" in it.read_text()]
+
+
+@pytest.mark.parametrize("page", ("docs/UPSTREAM.md", "docs/RUST.md"))
+def test_versions_of_packages(page: str) -> None:
+    """A page names the versions over which programs are compiled."""
+    versions = dict(re.findall(r'^([\w-]+) = "(.*)"$', "\n".join(PACKAGES), re.MULTILINE))
+    assert f"over nom {versions['nom']} and cookie-factory {versions['cookie-factory']}" in (TOP / page).read_text()
 
 
 def functions_of_page() -> dict[str, str]:

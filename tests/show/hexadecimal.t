@@ -80,6 +80,24 @@ dump_of_hexdump
   2> amqp_show: "-": a dump of hexdump -C: `cut -c 11-58 FILE | amqp_show --hex` reads it
   [2]
 
+dump_of_xxd_b
+  $ echo '00000000: 01110100 00000001                                      t.' | amqp_show --hex
+  2> amqp_show: "-": a dump of xxd -b, in binary: `xxd FILE` makes one that `xxd -r` reads, and `xxd -p FILE` one that --hex reads
+  [2]
+
+dump_of_tcpdump
+  $ amqp_show --hex <<'END'
+  > 12:00:00.000000 IP 127.0.0.1.50000 > 127.0.0.1.5672: Flags [P.], length 2
+  > 	0x0000:  7401                                     t.
+  > END
+  2> amqp_show: "-": a dump of tcpdump: `grep '^.0x' FILE | cut -c 11-49 | amqp_show --hex` reads its bytes, of which a packet's headers are the first
+  [2]
+
+dump_of_wireshark
+  $ echo '0000   74 01                                             t.' | amqp_show --hex
+  2> amqp_show: "-": a dump of Wireshark: copy the bytes of the table as a hex stream, which --hex reads
+  [2]
+
 without_hex
   $ echo 46 00000003 0161 56 | amqp_show
   2> amqp_show: "-": the input seems to be hexadecimal; --hex reads it

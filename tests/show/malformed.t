@@ -19,7 +19,10 @@ unknown_first_tag
 
 endless
   $ amqp_show /dev/zero
-  2> amqp_show: "/dev/zero": the input seems to be a table without its type tag; --table reads it
+  /dev/zero:
+  "\u0000" (not decoded)
+  ! offset 0: a type tag is expected; 00 is none
+  = malformed
   [1]
 
 number_past_array

@@ -58,3 +58,15 @@ stream_repeated
   = at 1: a value of 17 bytes
   Void
   = at 18: a value of 1 byte
+
+stream_of_json
+  $ echo '{}' | amqp_show --stream
+  "{" (not decoded)
+  ! offset 0: a type tag is expected; 7b is none
+  = at 0: malformed
+  [1]
+
+no_type_tag_stream_json
+  $ echo 00000007 0161 7401 0162 56 | xxd -r -p | amqp_show --stream --json
+  2> amqp_show: "-": offset 0: a type tag is expected; 00 is none
+  [1]

@@ -70,7 +70,23 @@ table_at_limit
 
 no_type_tag
   $ echo 00000007 0161 7401 0162 56 | xxd -r -p | amqp_show
+  "\u0000" (not decoded)
+  ! offset 0: a type tag is expected; 00 is none
+  = malformed
   2> amqp_show: "-": the input seems to be a table without its type tag; --table reads it
+  [1]
+
+no_type_tag_json
+  $ echo 00000007 0161 7401 0162 56 | xxd -r -p | amqp_show --json
+  2> amqp_show: "-": offset 0: a type tag is expected; 00 is none
+  2> amqp_show: "-": the input seems to be a table without its type tag; --table reads it
+  [1]
+
+no_type_tag_and_more
+  $ echo 00000007 0161 7401 0162 56 56 | xxd -r -p | amqp_show
+  "\u0000" (not decoded)
+  ! offset 0: a type tag is expected; 00 is none
+  = malformed
   [1]
 
 no_type_tag_stream

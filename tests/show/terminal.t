@@ -28,7 +28,7 @@ bytes_on_terminal
 check_on_terminal
   $ echo 4600000004 01ff 7407 | xxd -r -p | amqp_show --check rabbitmq >/dev/tty
   \x1b[33m* offset 5: the key "\\xff" isn't UTF-8; most clients can't read it\x1b[0m (esc)
-  = RabbitMQ 4.3 accepts it, except as the warnings say
+  = RabbitMQ 4.0 accepts it, except as the warnings say
 
 no_color
   $ echo 4600000004 01ff 7407 | xxd -r -p | NO_COLOR=1 amqp_show >/dev/tty

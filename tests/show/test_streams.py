@@ -7,6 +7,8 @@ from pathlib import Path
 
 # Two values, and the first bytes of one that isn't complete; and the lines of the values.
 AWAITED, LINES = bytes.fromhex("56 7401 53000000 02"), b"null\ntrue\n"
+# How long a line may take on a busy machine.
+SECONDS = 60
 
 
 def test_lines_before_more_comes(program: Path) -> None:
@@ -17,8 +19,8 @@ def test_lines_before_more_comes(program: Path) -> None:
         assert process.stdin and process.stdout
         process.stdin.write(AWAITED)
         process.stdin.flush()
-        is_there = select.select([process.stdout], [], [], 30)[0]
-        shown = os.read(process.stdout.fileno(), len(LINES)) if is_there else b""
+        from_it, shown = process.stdout.fileno(), b""
+        while shown != LINES and select.select([from_it], [], [], SECONDS)[0] and (more := os.read(from_it, 99)):
+            shown += more
         process.stdin.close()
-        shown += process.stdout.read()
-    assert shown == LINES
+        assert (shown, process.stdout.read()) == (LINES, b"")

@@ -42,8 +42,8 @@ help
     {"$ByteArray":"00ff"}, its digits, also LongString; {"$DecimalValue":"314e-2"}, 3.14
   Keys are sorted. One that begins with $ is written with one more.
 
-  --check rabbitmq is rabbitmq-4.3, and 4.0 does the same: use either for 4.1 and 4.2. These
-  weren't tried, nor 3.11 to 3.13.
+  --check rabbitmq is rabbitmq-4.0, the newest version that this program's tests run. 4.3 was
+  tested by hand, and does the same; 3.11 to 3.13, 4.1 and 4.2 weren't tested.
 
   A line that begins with ! has the offset of the first problem and what it is,
   one with * what readers may differ on, and one with = what came of reading.

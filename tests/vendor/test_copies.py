@@ -96,6 +96,20 @@ def test_row(tmp_path: Path, row: Row) -> None:
     assert {it.partition(":")[0] for it in (tmp_path / "crates.txt").read_text().splitlines()} == row.folders
 
 
+@pytest.mark.parametrize("row", ROWS, ids=[it.name for it in ROWS])
+def test_links(tmp_path: Path, row: Row) -> None:
+    """Each link of a page that is copied leads to a file that is copied, and to a heading in it if it names one."""
+    assert copied(tmp_path, *row.words) == COPIED
+    pages = [*tmp_path.glob("crates/*/CALLING.md")]
+    assert pages
+    for page in pages:
+        for name, heading in re.findall(r"\]\(([^)#]*)#?([^)]*)\)", page.read_text()):
+            target = page.parent / name if name else page
+            assert target.is_file(), f"{page.parent.name}: {name}"
+            heads = [it.lower().replace(" ", "-") for it in re.findall(r"(?m)^#+ (.*)$", target.read_text())]
+            assert not heading or heading in heads
+
+
 def test_once_more(mine: Path) -> None:
     before = contents(mine)
     assert copied(mine) == COPIED

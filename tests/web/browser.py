@@ -11,6 +11,8 @@ from selenium.webdriver.chrome.service import Service
 from selenium.webdriver.support.ui import WebDriverWait
 
 DRIVER, CHROMIUM = "/usr/bin/chromedriver", "/usr/bin/chromium"
+# How many seconds a busy machine may take.
+PATIENCE = 60
 # Reads inputs in the page, as it does itself: of each the lines of the tree, the first letter of the part that each byte is of,
 # unless there are many, the line of the first repeated key, the failure, the outcome, what RabbitMQ does and, of a value, whether it is
 # canonical, and its JSON.
@@ -73,9 +75,12 @@ class Browser:
         script = "return [...document.querySelectorAll(`#${arguments[0]} .line`)].map((it) => it.textContent)"
         return list(self.run(script, name))
 
+    def is_shown(self, name: str) -> bool:
+        return bool(self.run("return document.getElementById(arguments[0]).checkVisibility()", name))
+
     def wait(self, is_so: Callable[[], bool]) -> None:
         """Waits until something is so."""
-        WebDriverWait(self.driver, 20).until(lambda _: is_so())
+        WebDriverWait(self.driver, PATIENCE, poll_frequency=0.05).until(lambda _: is_so())
 
     def requests(self) -> list[str]:
         """What was asked of a network, a file or anything else since this was asked last."""

@@ -1,8 +1,10 @@
 """What the page reads, next to the model; and of hexadecimal, next to the stored cases of amqp_show."""
 
+import html
 import re
 import struct
 from collections.abc import Iterable, Iterator
+from pathlib import Path
 from random import Random
 from typing import Any
 
@@ -12,12 +14,13 @@ from crates import TOP
 from tests.model import printed
 from tests.model.printed import Dissection, field, inputs, untagged
 from tests.model.stored_output import files_of
-from tests.model.tables import odd_table, random_table, raw
+from tests.model.tables import VERSIONS, odd_table, random_table, raw
 from tests.transcripts import Case, cases
 from tests.web.browser import Browser
 
 BITS = pytest.mark.parametrize("bits", (64, 32))
-VERSIONS = "RabbitMQ 3.10.8, 4.0.5 and 4.3.6"
+# What the page calls the versions that tests/rabbitmq tries.
+RABBITMQ = f"RabbitMQ {' and '.join(VERSIONS)}"
 # The keys and indices that lead to what is wrong.
 KEYS = r', in ["[].*'
 COUNT = 2000
@@ -38,8 +41,8 @@ def rabbitmq(text: str) -> str:
     """What the page says of RabbitMQ where amqp_show prints these lines. The page shows no keys, but leads to the byte."""
     *lines, last = [it for it in text.splitlines() if it[0] != "*"]
     if "closes" in last:
-        return f"{VERSIONS} close the connection: {re.sub(KEYS, '', lines[0][2:])}"
-    return f"{VERSIONS} accept it" if "accepts" in last else "not checked for RabbitMQ beyond the limits"
+        return f"{RABBITMQ} close the connection: {re.sub(KEYS, '', lines[0][2:])}"
+    return f"{RABBITMQ} accept it" if "accepts" in last else "not checked for RabbitMQ beyond the limits"
 
 
 def json_of(found: Dissection) -> str:
@@ -128,7 +131,7 @@ def test_random_tables(browser: Browser, bits: int, seed: int) -> None:
 def test_prefixes(browser: Browser, bits: int) -> None:
     """Every prefix of three tables that were captured, with their type tag and without it."""
     names = printed.captured()
-    for name in ("x-death after 2", "server-properties", "federation"):
+    for name in ("x-death-after-2", "rabbitmq-server-properties", "rabbitmq-federation"):
         prefixes = [names[name][:size] for size in range(len(names[name]))]
         judge(browser, bits, prefixes)
         judge(browser, bits, [it[1:] for it in prefixes[1:]], isTable=True)
@@ -140,3 +143,8 @@ def test_hexadecimal(browser: Browser, case: Case) -> None:
     text, fault = case.given.decode(), FAULT.search(case.wants.error.decode())
     script = "const {bytes, fault} = amqp.readHexadecimal(arguments[0]); return fault ?? amqp.hexadecimal(bytes)"
     assert browser.run(script, text) == (fault[1] if fault else NO_DIGITS.sub("", text).lower())
+
+
+@pytest.mark.parametrize("name", ("LICENSE", "THIRD-PARTY"))
+def test_notices_in_page(page: Path, name: str) -> None:
+    assert html.escape((TOP / name).read_text()) in page.read_text()

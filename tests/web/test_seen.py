@@ -2,24 +2,29 @@
 
 import os
 import subprocess
+import time
 from base64 import b64encode
+from collections.abc import Callable
 from contextlib import suppress
 from pathlib import Path
 
 import pytest
 from crates import TOP
-from selenium.common.exceptions import StaleElementReferenceException, TimeoutException
+from selenium.common.exceptions import MoveTargetOutOfBoundsException, StaleElementReferenceException
 from selenium.webdriver.common.action_chains import ActionChains
 from selenium.webdriver.common.keys import Keys
 
 from tests.model import printed
 from tests.model.printed import Dissection, inputs, nested
 from tests.model.tables import EVERY_TYPE, raw
-from tests.web.browser import Browser, opened
+from tests.web.browser import PATIENCE, Browser, opened
+from tests.web.test_page import RABBITMQ
 
 TWISTS = str.maketrans("", "", "▸▾")
 # A table with a number, an array with a string in it, and a number after that: where each pair and each part begins.
 TABLE = "46 00000017 01 61 49 00000005 01 62 41 00000006 53 00000001 78 01 63 56"
+CLOSED = ["FieldTable", '  "a": LongInt 5', '  "b": FieldArray', '  "c": Void']
+OPEN = [*CLOSED[:3], '    LongString "x"', *CLOSED[3:]]
 # Counts the pixels of a picture by their colours.
 PIXELS = """
     const [png, done] = arguments, picture = new Image(), counts = {};
@@ -39,19 +44,24 @@ PIXELS = """
 
 @pytest.fixture(autouse=True)
 def anew(browser: Browser) -> None:
+    """Loads the page, with the pointer where nothing is marked by it."""
     browser.load()
+    point(browser, "h1")
+
+
+def expect(browser: Browser, look: Callable[[Browser], object], wanted: object) -> None:
+    """Looks until what is seen is as wanted. The page draws its lines again when their box has another size, which a busy
+    machine notices late. (So a test holds no element of a line: the next drawing has another.)
+    """
+    end = time.monotonic() + PATIENCE
+    while (seen := look(browser)) != wanted and time.monotonic() < end:
+        time.sleep(0.05)
+    assert seen == wanted
 
 
 def drawn(browser: Browser) -> list[str]:
     """The lines of the tree that are drawn."""
     return [it.translate(TWISTS) for it in browser.lines("tree")]
-
-
-def is_drawn(browser: Browser, lines: list[str]) -> bool:
-    """Whether the tree has these lines, which are drawn as far as a busy machine knows what is in sight."""
-    with suppress(TimeoutException):
-        browser.wait(lambda: drawn(browser) == lines)
-    return drawn(browser) == lines
 
 
 def marked(browser: Browser) -> tuple[list[str], str]:
@@ -64,17 +74,43 @@ def marked(browser: Browser) -> tuple[list[str], str]:
     return [it.strip().translate(TWISTS) for it in rows], digits
 
 
-def point(browser: Browser, query: str) -> None:
-    """Moves the pointer to an element, which a busy machine may draw anew meanwhile."""
+def marked_rows(browser: Browser) -> list[str]:
+    return marked(browser)[0]
 
-    def is_moved() -> bool:
-        with suppress(StaleElementReferenceException):
+
+def about(browser: Browser) -> str:
+    return browser.text("about")
+
+
+def json_text(browser: Browser) -> str:
+    return str(browser.run("return document.getElementById('json-text').textContent"))
+
+
+def here(browser: Browser) -> list[str]:
+    """The byte that was led to."""
+    return ids(browser, "#bytes .here")
+
+
+def ids(browser: Browser, query: str) -> list[str]:
+    """The ids of the elements that a query finds."""
+    return list(browser.run("return [...document.querySelectorAll(arguments[0])].map((it) => it.id)", query))
+
+
+def point(browser: Browser, query: str) -> None:
+    """Moves the pointer to an element, again if the page is drawn anew or moves it meanwhile."""
+
+    def is_there() -> bool:
+        with suppress(MoveTargetOutOfBoundsException, StaleElementReferenceException):
             found = browser.driver.find_element("css selector", query)
             ActionChains(browser.driver).move_to_element(found).perform()
-            return True
-        return False
+        return bool(browser.run("return document.querySelector(arguments[0])?.matches(':hover') ?? false", query))
 
-    browser.wait(is_moved)
+    browser.wait(is_there)
+
+
+def click(browser: Browser, query: str) -> None:
+    """Clicks an element, wherever it is now."""
+    browser.run("document.querySelector(arguments[0]).click()", query)
 
 
 def press(browser: Browser, box: str, *keys: str) -> None:
@@ -89,34 +125,34 @@ def test_inputs_are_drawn(browser: Browser) -> None:
     for data in [it for it in inputs() if len(it) < 300][::25]:
         browser.type(data.hex())
         found = Dissection(data)
-        assert is_drawn(browser, printed.tree(found.parts, False)), (data.hex(), drawn(browser))
+        expect(browser, drawn, printed.tree(found.parts, False))
         assert browser.text("failure") == (found.failed() if found.failure else ""), data.hex()
 
 
 def test_pointing_marks_a_row_and_its_bytes(browser: Browser) -> None:
     browser.type(TABLE)
     point(browser, "#row-3")
-    assert marked(browser) == (['"b": FieldArray'], "016241000000065300000001" + "78")
-    about = "$.b: FieldArray — key's length at 12, key at 13, type tag at 14, length at 15 to 18, entries at 19 to 24"
-    assert browser.text("about") == about
+    expect(browser, marked, (['"b": FieldArray'], "016241000000065300000001" + "78"))
+    places = "key's length at 12, key at 13, type tag at 14, length at 15 to 18, entries at 19 to 24"
+    expect(browser, about, f"$.b: FieldArray — {places}")
     point(browser, "#row-4")
-    assert browser.text("about") == '$.b[0]: LongString "x" — type tag at 19, length at 20 to 23, payload at 24'
+    expect(browser, about, '$.b[0]: LongString "x" — type tag at 19, length at 20 to 23, payload at 24')
     point(browser, "#byte-9")
-    assert marked(browser) == (['"a": LongInt 5'], "01614900000005")
+    expect(browser, marked, (['"a": LongInt 5'], "01614900000005"))
 
 
 def test_keys_move_in_the_tree_and_in_the_bytes(browser: Browser) -> None:
     browser.type(TABLE)
     press(browser, "tree", Keys.ARROW_DOWN, Keys.ARROW_DOWN)
-    assert marked(browser)[0] == ['"a": LongInt 5']
+    expect(browser, marked_rows, ['"a": LongInt 5'])
     press(browser, "tree", Keys.END, Keys.ARROW_UP, Keys.ARROW_LEFT)
-    assert marked(browser)[0] == ['"b": FieldArray']
+    expect(browser, marked_rows, ['"b": FieldArray'])
     press(browser, "tree", Keys.ARROW_LEFT)
-    assert drawn(browser) == ["FieldTable", '  "a": LongInt 5', '  "b": FieldArray', '  "c": Void']
+    expect(browser, drawn, CLOSED)
     press(browser, "tree", Keys.ARROW_RIGHT, Keys.ARROW_RIGHT)
-    assert marked(browser) == (['LongString "x"'], "530000000178")
+    expect(browser, marked, (['LongString "x"'], "530000000178"))
     press(browser, "bytes", Keys.END, Keys.ARROW_LEFT)
-    assert marked(browser) == (['"c": Void'], "016356")
+    expect(browser, marked, (['"c": Void'], "016356"))
 
 
 def test_roles_of_a_tree(browser: Browser) -> None:
@@ -125,22 +161,23 @@ def test_roles_of_a_tree(browser: Browser) -> None:
         return [...document.querySelectorAll("#tree [role=treeitem]")].map((it) =>
             ["level", "posinset", "setsize", "expanded"].map((name) => it.getAttribute(`aria-${name}`)));
     """
-    assert browser.run(script) == [
+    roles = [
         ["1", "1", "1", "true"], ["2", "1", "3", None], ["2", "2", "3", "true"], ["3", "1", "1", None], ["2", "3", "3", None],
     ]  # fmt: skip
+    expect(browser, lambda it: it.run(script), roles)
     press(browser, "tree", Keys.HOME)
-    active = "return document.getElementById(document.activeElement.getAttribute('aria-activedescendant')).textContent"
-    assert browser.run(active).endswith("FieldTable")
+    active = "return document.getElementById(document.activeElement.getAttribute('aria-activedescendant'))?.id"
+    expect(browser, lambda it: it.run(active), "row-1")
 
 
 def test_what_is_wrong_is_marked(browser: Browser) -> None:
     """The failure leads to it."""
     browser.type("46 00000009 01 61 56 01 62 7a 01 63 56")
     assert browser.text("failure") == "offset 10: a type tag is expected; 7a is none"
-    wrong = browser.driver.find_elements("css selector", "#bytes .wrong")
-    assert [(it.get_attribute("id"), it.text) for it in wrong] == [("byte-10", "7a")]
-    browser.driver.find_element("css selector", "#failure button").click()
-    assert browser.run("return document.querySelector('.here').id") == "byte-10"
+    wrong = "return [...document.querySelectorAll('#bytes .wrong')].map((it) => [it.id, it.textContent])"
+    expect(browser, lambda it: it.run(wrong), [["byte-10", "7a"]])
+    click(browser, "#failure button")
+    expect(browser, here, ["byte-10"])
 
 
 def test_hexadecimal_that_is_none(browser: Browser) -> None:
@@ -148,69 +185,62 @@ def test_hexadecimal_that_is_none(browser: Browser) -> None:
     browser.type(TABLE)
     point(browser, "#byte-9")
     browser.type("74 0g")
-    assert (
-        browser.text("failure") == "line 1, column 5: a byte of two hexadecimal digits is expected"
-        and drawn(browser) == []
-    )
-    assert [browser.text(it) for it in ("outcome", "notes", "about")] == ["", "", ""] and browser.lines("bytes") == []
-    browser.wait(lambda: not browser.driver.find_element("id", "json-text").is_displayed())
+    assert browser.text("failure") == "line 1, column 5: a byte of two hexadecimal digits is expected"
+    expect(browser, lambda it: [drawn(it), it.lines("bytes")], [[], []])
+    assert [browser.text(it) for it in ("outcome", "notes", "about")] == ["", "", ""]
+    expect(browser, lambda it: it.is_shown("json-text"), False)
 
 
 def test_other_bytes_have_no_marks(browser: Browser) -> None:
-    point(browser, "h1")
     browser.type(TABLE)
     press(browser, "bytes", Keys.END)
-    assert marked(browser)[1] == "016356"
+    expect(browser, marked, (['"c": Void'], "016356"))
     browser.type(TABLE.replace("61", "62"))
-    assert marked(browser) == ([], "") and browser.text("about") == ""
-
-
-def json_is(browser: Browser, text: str) -> bool:
-    return str(browser.run("return document.getElementById('json-text').textContent")) == text
+    expect(browser, marked, ([], ""))
+    assert about(browser) == ""
 
 
 def test_json(browser: Browser) -> None:
     """It is that of what is shown, or none if keys don't ascend."""
     browser.type("4600000007 0161 7401 0162 56")
-    browser.wait(lambda: json_is(browser, '{"a":true,"b":null}'))
+    expect(browser, json_text, '{"a":true,"b":null}')
     browser.type("4600000006 0162 56 0161 56")
-    browser.wait(lambda: json_is(browser, "none: keys don't ascend"))
+    expect(browser, json_text, "none: keys don't ascend")
     browser.type("4600000003 0161 56")
-    browser.wait(lambda: json_is(browser, '{"a":null}'))
+    expect(browser, json_text, '{"a":null}')
     browser.type("4600000003 0161")
-    browser.wait(lambda: not browser.driver.find_element("id", "copy-JSON").is_displayed())
+    expect(browser, lambda it: it.is_shown("copy-JSON"), False)
 
 
 def test_notes(browser: Browser) -> None:
     """What RabbitMQ does, keys that come again, whether the value is canonical: those about a byte lead to it."""
     browser.type("46 00000007 01 61 66 7fc00000")
-    closes = "RabbitMQ 3.10.8, 4.0.5 and 4.3.6 close the connection: offset 7: the number is an infinity or a NaN"
+    closes = f"{RABBITMQ} close the connection: offset 7: the number is an infinity or a NaN"
     assert browser.text("notes").splitlines() == [closes, "canonical"]
-    browser.driver.find_element("css selector", "#notes button").click()
-    assert marked(browser) == (['"a": Float NaN'], "0161667fc00000")
-    assert browser.run("return document.querySelector('.here').id") == "byte-7"
+    click(browser, "#notes button")
+    expect(browser, marked, (['"a": Float NaN'], "0161667fc00000"))
+    expect(browser, here, ["byte-7"])
     browser.type("46 0000000a 01 61 74 01 01 62 56 01 61 56")
     again = 'offset 12: the key "a" comes again; readers differ in which value they take'
-    assert browser.text("notes").splitlines() == ["RabbitMQ 3.10.8, 4.0.5 and 4.3.6 accept it", again, "not canonical"]
-    browser.driver.find_element("css selector", "#notes button").click()
-    assert marked(browser) == (['"a" (the key comes again): Void'], "016156")
+    assert browser.text("notes").splitlines() == [f"{RABBITMQ} accept it", again, "not canonical"]
+    click(browser, "#notes button")
+    expect(browser, marked, (['"a" (the key comes again): Void'], "016156"))
     browser.type("46 0000000a 01 61")
     assert browser.text("notes") == "" and browser.text("outcome") == "truncated; more bytes needed: 8"
 
 
 def test_a_click_closes_and_opens(browser: Browser) -> None:
     browser.type(TABLE)
-    before = drawn(browser)
-    for lines in (["FieldTable", '  "a": LongInt 5', '  "b": FieldArray', '  "c": Void'], before):
-        twist = browser.driver.find_elements("css selector", "#tree .twist")[2]
-        ActionChains(browser.driver).move_to_element(twist).click().perform()
-        assert drawn(browser) == lines
+    for lines in (CLOSED, OPEN):
+        point(browser, "#row-3 .twist")
+        ActionChains(browser.driver).click().perform()
+        expect(browser, drawn, lines)
 
 
 def test_a_table_without_its_type_tag(browser: Browser) -> None:
     """Is read as one, unless it is to be a value."""
     browser.type("00000007 0161 7401 0162 56")
-    assert drawn(browser) == ["FieldTable", '  "a": Boolean true', '  "b": Void']
+    expect(browser, drawn, ["FieldTable", '  "a": Boolean true', '  "b": Void'])
     browser.choose("form", "value")
     assert "the input seems to be a table without its type tag; --table reads it" in browser.text("notes")
     browser.choose("form", "table")
@@ -220,16 +250,16 @@ def test_a_table_without_its_type_tag(browser: Browser) -> None:
 
 def test_a_link_has_the_bytes(browser: Browser) -> None:
     browser.type(TABLE)
-    before = drawn(browser)
-    browser.run("document.getElementById('copy-link').click()")
+    click(browser, "#copy-link")
     link = browser.run("return location.hash")
     assert link == f"#{TABLE.replace(' ', '')}"
     browser.load(link)
-    assert drawn(browser) == before
+    expect(browser, drawn, OPEN)
     browser.run("location.hash = '#value:56'")
-    browser.wait(lambda: drawn(browser) == ["Void"])
+    expect(browser, drawn, ["Void"])
     browser.type("74 01")
-    assert browser.run("return location.hash") == "" and drawn(browser) == ["Boolean true"]
+    assert browser.run("return location.hash") == ""
+    expect(browser, drawn, ["Boolean true"])
 
 
 def test_examples(browser: Browser) -> None:
@@ -238,7 +268,7 @@ def test_examples(browser: Browser) -> None:
     outcomes = []
     for value in values:
         browser.choose("examples", value)
-        assert len(drawn(browser)) > 2
+        browser.wait(lambda: len(drawn(browser)) > 2)
         outcomes.append(browser.text("outcome").partition(" ")[0])
     assert sorted(outcomes) == ["a", "a", "a", "a", "malformed", "truncated;"]
     browser.type(TABLE)
@@ -250,9 +280,8 @@ def test_many_rows_are_drawn_as_they_are_scrolled_to(browser: Browser) -> None:
     browser.run("const it = new Uint8Array(1 << 20).fill(0x56); it.set([0x41, 0, 0xf, 0xff, 0xfb]); amqp.put(it)")
     assert browser.text("outcome") == "a value of 1048576 bytes"
     press(browser, "tree", Keys.END)
-    script = "return [...document.querySelectorAll('#tree .line')].map((it) => it.id)"
-    rows = browser.run(script)
-    assert rows[-1] == f"row-{2**20 - 4}" and len(rows) < 200
+    expect(browser, lambda it: ids(it, "#tree .line")[-1:], [f"row-{2**20 - 4}"])
+    assert len(ids(browser, "#tree .line")) < 200
 
 
 def test_nothing_leaves_the_page(browser: Browser) -> None:
@@ -264,13 +293,13 @@ def test_nothing_leaves_the_page(browser: Browser) -> None:
     others = [it for it in browser.requests() if not it.startswith((browser.page.as_uri(), "about:blank"))]
     assert others == []
     asked = """
-        const done = arguments[0], seen = [];
-        document.addEventListener("securitypolicyviolation", (it) => seen.push(it.effectiveDirective));
+        globalThis.refused = [];
+        document.addEventListener("securitypolicyviolation", (it) => refused.push(it.effectiveDirective));
         new Image().src = "http://127.0.0.1:9/a"; fetch("http://127.0.0.1:9/b").catch(() => 0);
-        new Function; setTimeout(() => done(seen.sort()), 300);
+        new Function;
     """
-    browser.driver.set_script_timeout(10)
-    assert browser.driver.execute_async_script(asked) == ["connect-src", "img-src"]
+    browser.run(asked)
+    expect(browser, lambda it: sorted(it.run("return refused")), ["connect-src", "img-src"])
 
 
 def test_a_module_without_stack_is_made_anew(browser: Browser) -> None:
@@ -291,18 +320,19 @@ def test_a_module_without_stack_is_made_anew(browser: Browser) -> None:
     browser.run(script)
     assert "made anew" in browser.text("failure") and browser.run("return amqp.modules[64].calls !== ended")
     browser.type(TABLE)
-    assert len(drawn(browser)) == 5 and browser.text("failure") == ""
+    expect(browser, drawn, OPEN)
+    assert browser.text("failure") == ""
 
 
 def test_each_module_says_what_it_is(browser: Browser) -> None:
     """Both read the same; of the second the page says that a step isn't proved."""
     browser.type(TABLE)
-    before = drawn(browser)
+    expect(browser, drawn, OPEN)
     assert "64-bit" in browser.text("module") and "isn't proved" not in browser.text("module")
     browser.choose("bits", 32)
     assert browser.run("return amqp.now.reading.module === amqp.modules[32] && amqp.modules[32].bits === 32")
     assert "32-bit" in browser.text("module") and "isn't proved" in browser.text("module")
-    assert drawn(browser) == before
+    expect(browser, drawn, OPEN)
 
 
 def test_a_dropped_file(browser: Browser) -> None:
@@ -315,11 +345,11 @@ def test_a_dropped_file(browser: Browser) -> None:
     for given in ({"bytes": [*bytes.fromhex(TABLE)]}, {"text": f"# a table\n{TABLE}"}):
         browser.load()
         browser.run(script, given)
-        browser.wait(lambda: len(drawn(browser)) == 5)
+        expect(browser, drawn, OPEN)
         assert browser.run("return document.getElementById('text').value") == TABLE.replace(" ", "")
     browser.load()
     browser.run(script, {"bytes": [0x41, 0, 1, 0xFF, 0xFB] + [0x56] * 0x1FFFB})
-    browser.wait(lambda: browser.text("outcome") == "a value of 131072 bytes")
+    expect(browser, lambda it: it.text("outcome"), "a value of 131072 bytes")
     assert browser.run("return document.getElementById('text').placeholder") == "a.bin: 131072 bytes"
 
 
@@ -338,7 +368,7 @@ def test_copies(browser: Browser) -> None:
     """The buttons copy the bytes as hexadecimal, the tree as amqp_show prints it, and a link."""
     browser.type("00000003016156")
     browser.choose("form", "table")
-    browser.wait(lambda: json_is(browser, '{"a":null}'))
+    expect(browser, json_text, '{"a":null}')
     digits, tree, json, link = copied(browser, "hexadecimal", "tree", "JSON", "link")
     assert (digits, tree, json) == ("00000003016156", 'FieldTable\n  "a": Void', '{"a":null}')
     assert link.endswith("#table:00000003016156")
@@ -347,14 +377,14 @@ def test_copies(browser: Browser) -> None:
 def test_copy_of_long_json(browser: Browser) -> None:
     """Of long JSON a part is shown, but all of it is copied."""
     browser.run("amqp.put(Uint8Array.from([0x53, 0, 1, 0, 0, ...Array(65536).fill(0x61)]))")
-    browser.wait(lambda: json_is(browser, f'"{65535 * "a"} ..'))
+    expect(browser, json_text, f'"{65535 * "a"} ..')
     assert copied(browser, "JSON") == [f'"{65536 * "a"}"']
 
 
 def test_modules_are_plain() -> None:
-    """All together have at most 790 lines, of at most 120 columns."""
+    """All together have at most 800 lines, of at most 120 columns."""
     lines = [it for path in (TOP / "bindings/web").glob("*.js") for it in path.read_text().splitlines()]
-    assert len(lines) <= 790 and max(map(len, lines)) <= 120
+    assert len(lines) <= 800 and max(map(len, lines)) <= 120
 
 
 def test_limits(browser: Browser) -> None:
@@ -383,8 +413,9 @@ def test_widths(browser: Browser, width: int) -> None:
     browser.driver.execute_cdp_cmd("Emulation.setDeviceMetricsOverride", size)
     try:
         browser.load(f"#{raw(EVERY_TYPE).hex()}")
-        assert len(drawn(browser)) > 5
-        assert browser.run("return document.documentElement.scrollWidth") <= width
+        browser.wait(lambda: len(drawn(browser)) > 5)
+        script = "return innerWidth === arguments[0] && document.documentElement.scrollWidth <= innerWidth"
+        expect(browser, lambda it: it.run(script, width), True)
     finally:
         browser.driver.execute_cdp_cmd("Emulation.clearDeviceMetricsOverride", {})
 
@@ -397,7 +428,8 @@ def test_a_browser_without_64_bit_addresses(page: Path, tmp_path: Path) -> None:
     other.write_text(f"{text[:begin]}AAAA{text[text.index('<', begin) :]}")
     with opened(other) as browser:
         browser.type(TABLE)
-        assert len(drawn(browser)) == 5 and "32-bit" in browser.text("module")
+        expect(browser, drawn, OPEN)
+        assert "32-bit" in browser.text("module")
         assert browser.run("return document.querySelector('#bits [value=\"64\"]').disabled")
 
 
@@ -408,7 +440,7 @@ def test_firefox_shows_it(browser: Browser, page: Path, tmp_path: Path) -> None:
     words = ["firefox-esr", "--headless", "--no-remote", "--profile", str(profile), "--window-size=1000,640"]
     words += ["--screenshot", str(picture), f"{page.as_uri()}#4600000003016149"]
     environment = {**os.environ, "HOME": str(tmp_path), "MOZ_CRASHREPORTER_DISABLE": "1"}
-    subprocess.run(words, env=environment, capture_output=True, timeout=120, check=True)
+    subprocess.run(words, env=environment, capture_output=True, timeout=300, check=True)
     browser.driver.get("about:blank")
     counts = browser.driver.execute_async_script(PIXELS, b64encode(picture.read_bytes()).decode())
     assert counts["8250df"] > 50 and counts["b3141f"] > 200, counts

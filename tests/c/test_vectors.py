@@ -1,0 +1,36 @@
+"""The calls for C on each case of vectors/: what is read, the problem, the canonical encoding and the JSON."""
+
+from typing import Any
+
+import pytest
+
+from tests import calls_for_c as calls
+from tests.vectors.cases import CASES, PROBLEMS, Case, none_of
+
+pytestmark = pytest.mark.usefixtures("library")
+NO_LIMIT = 2**32 - 1
+
+
+def found(it: Case) -> Any:
+    """The result and the problem of reading, and what is written."""
+    limits = calls.UNTAGGED * it.is_table, NO_LIMIT, NO_LIMIT
+    result, _, problem = calls.read(it.data, *limits)
+    return result, problem, calls.canonical(it.data, *limits), calls.to_json(it.data, *limits)
+
+
+def wanted(it: Case) -> Any:
+    if it.canonical is not None and it.json is not None:
+        return calls.OK, None, (calls.OK, it.canonical), (calls.OK, it.json.encode())
+    if it.is_beyond_limits:
+        result, problem = calls.TOO_LARGE, (0, 0, 0)
+    elif "missing" in it.result:
+        result, problem = calls.MORE, (0, it.result["missing"], 0)
+    else:
+        kind, at = PROBLEMS[it.result["error"]], it.result["offset"]
+        result = next(each for each, of in calls.KINDS.items() if of == kind and each != calls.MORE)
+        problem = at, 0, it.data[at] if kind == 1 else 0
+    return result, problem, (result, 0), (result, 0)
+
+
+def test_vectors() -> None:
+    assert none_of([f"{it.id}: {found(it)!r:.300}" for it in CASES if found(it) != wanted(it)]) == ""

@@ -1,0 +1,100 @@
+"""Numbers, defaults and versions that pages and sources repeat: each is that of the place where it is made (tests/pages)."""
+
+import re
+import subprocess
+from collections.abc import Iterator
+
+from crates import TOP
+
+HEADER, SPEED, INTEROP, CONTRIBUTING = "include/amqp_values.h", "docs/SPEED.md", "docs/INTEROP.md", "CONTRIBUTING.md"
+# The default limits on bytes and on levels: where they are, and patterns of which each has groups for `bytes` or `depth`.
+DEFAULTS = {
+    "README.md": [r"frame: (?P<bytes>[\d_]+), depth: (?P<depth>\d+)"],
+    "crates/amq_protocol_types/src/parsing/limits.rt": [r"frame: (?P<bytes>[\d_]+), depth: (?P<depth>\d+)"],
+    "crates/amqp_show/src/arguments.rt": [
+        r"const MAX_BYTES: u32 = (?P<bytes>[\d_]+);",
+        r"const DEPTH: u32 = (?P<depth>\d+);",
+        r'"max-bytes",\s+"(?P<bytes>\d+)"',
+        r'"depth", "(?P<depth>\d+)"',
+    ],
+    "packaging/amqp_show.1": [r"bytes; (?P<bytes>\d+) by default", r"(?P<depth>\d+) by default\.\n\.It Fl h"],
+    "docs/SHOW.md": [r"`--max-bytes` \((?P<bytes>\d+) by default\)", r"`--depth` \((?P<depth>\d+);"],
+    "docs/WEB.md": [r"`--depth` \((?P<depth>\d+), at most", r"`--max-bytes` \((?P<bytes>\d+)\)"],
+    "bindings/web/index.html": [r'id="frame"[^>]* value="(?P<bytes>\d+)"', r'id="depth"[^>]* value="(?P<depth>\d+)"'],
+    "bindings/python/amqp_values/__init__.pyi": [r"frame: int = (?P<bytes>\d+),", r"depth: int = (?P<depth>\d+)"],
+    "bindings/python/src/module.c": [r"\bframe=(?P<bytes>\d+)", r"\bdepth=(?P<depth>\d+)"],
+    "docs/PYTHON.md": [r"`frame`, (?P<bytes>\d+)\|", r"`depth`, (?P<depth>\d+)\|"],
+    "bindings/rust/amqp-values/src/limits.rs": [r"bytes: (?P<bytes>1 << \d+), depth: (?P<depth>\d+)"],
+    "bindings/rust/drop_in/limits.rs": [r"bytes: (?P<bytes>1 << \d+), depth: (?P<depth>\d+)"],
+    "include/amqp_values_rabbitmq.h": [r"AMQPV_MAX_BYTES \((?P<bytes>\d+)\)", r"AMQPV_MAX_DEPTH \((?P<depth>\d+)\)"],
+}
+# What names no version of RabbitMQ that only docs/INTEROP.md may name.
+NAMING = ("*.md", "include", "bindings", "packaging", "crates/amqp_show", "crates/examples")
+# The folders of crates whose files CONTRIBUTING.md counts.
+PARTS = ("src", "specs", "proofs")
+
+
+def read(name: str) -> str:
+    return (TOP / name).read_text()
+
+
+def place(name: str, at: int) -> str:
+    return f"{name}:{read(name).count(chr(10), 0, at) + 1}"
+
+
+def number(text: str) -> int:
+    """A number as a source has it."""
+    base, _, shift = text.replace("_", "").partition(" << ")
+    return int(base) << int(shift or 0)
+
+
+def other_defaults() -> Iterator[str]:
+    """Yields the default limits that aren't those of the header."""
+    found = re.search(r"AMQPV_MAX_BYTES = (?P<bytes>\d+), AMQPV_MAX_DEPTH = (?P<depth>\d+)", read(HEADER))
+    assert found
+    for name, patterns in DEFAULTS.items():
+        for pattern in patterns:
+            matches = [*re.finditer(pattern, read(name))]
+            if not matches:
+                yield f"{name}:1: it has no default limit as {pattern}: correct the pattern, in tests/figures.py"
+            for it in matches:
+                for what, text in it.groupdict().items():
+                    if number(text) != int(found[what]):
+                        yield f"{place(name, it.start())}: the default is {text}, and {found[what]} in {HEADER}: write that"
+
+
+def other_ratios() -> Iterator[str]:
+    """Yields the ratios of README.md that aren't those of docs/SPEED.md, which bench/run writes."""
+    shown = re.search(r"takes (\d+)% of the Rust crate's time.*?takes (\d+)%", read("README.md"))
+    rows = re.findall(r"(?m)^\|message headers\b[^|]*\|[^|]* us\|([\d.]+) \(", read(SPEED))
+    wanted = [f"{100 * float(it):.0f}" for it in rows[:2]]
+    if not shown or [*shown.groups()] != wanted:
+        yield f"README.md: message headers take {' and '.join(wanted)} % of the Rust crate's time by {SPEED}: write that"
+
+
+def versions_by_hand() -> Iterator[str]:
+    """Yields the places that name a version of RabbitMQ that no test runs, but for docs/INTEROP.md, which has the day."""
+    (by_hand,) = re.findall(r"(?m)([\d.]+) of Debian sid was tested by hand on \d+ \w+ \d{4}", read(INTEROP))
+    tracked = subprocess.run(["git", "ls-files", *NAMING], cwd=TOP, capture_output=True, text=True, check=True).stdout
+    for name in tracked.splitlines():
+        for it in re.finditer(rf"\b{re.escape(by_hand)}\b", (TOP / name).read_text(errors="replace")):
+            if name not in (INTEROP, CONTRIBUTING):
+                yield f"{place(name, it.start())}: no test runs RabbitMQ {by_hand}: name it in {INTEROP} only"
+
+
+def files_of_a_type() -> Iterator[str]:
+    """Yields how many files CONTRIBUTING.md names for a new type, if it states another number."""
+    text = read(CONTRIBUTING)
+    section = text.partition("**A type.**")[2].partition("\n**")[0]
+    rows = [it.partition("|")[::2] for it in re.findall(r"(?m)^\| (.*) \|$", section)]
+    paths = {(crate, it) for crate, cells in rows for it in re.findall(rf"`((?:{'|'.join(PARTS)})[\w/.+-]*)`", cells)}
+    counts = [sum(it.startswith(f"{part}/") for _, it in paths) for part in PARTS]
+    wanted = "{} files of `src`, {} of `specs` and {} of `proofs`".format(*counts)
+    if f"The table names {wanted}" not in " ".join(section.split()):
+        yield f"{place(CONTRIBUTING, text.find('**A type.**'))}: the table names {wanted}: write that below it"
+
+
+def faults() -> Iterator[str]:
+    """Yields what is repeated otherwise than it is made."""
+    for check in (other_defaults, other_ratios, versions_by_hand, files_of_a_type):
+        yield from check()
