@@ -1,11 +1,17 @@
-# Builds, tests, installs and packs the C library and amqp_show; `make help` lists the targets. All need the Rattle kit, and all
-# but `make test` what `make setup` installs. What is installed or packed needs neither.
-TARGET = x86_64-unknown-linux-gnu
-FOLDER = out/dist
+# Builds, tests, installs and packs the C library and amqp_show; `make help` lists the targets. All need the Rattle kit. `make`,
+# `make lib` and `make test` need nothing else but python3, git, cmake and a C compiler; the others need what `make setup`
+# installs. What is installed or packed needs neither.
+OUT = out
+# How the crates are proved: each once, here, or, with BUILT=--built, as `rt ci` has left them.
+BUILT = --once
+# More for cmake, as -DCMAKE_INSTALL_LIBDIR=lib64.
+CMAKE_FLAGS =
+PREFIX = /usr/local
+X86_64 = x86_64-unknown-linux-gnu
 AARCH64 = aarch64-unknown-linux-gnu
-OF_AARCH64 = out/aarch64
-INSTALL_SH = packaging/install.sh
+MANIFESTS = $(wildcard $(OUT)/build/install_manifest.txt $(OUT)/lib/install_manifest.txt)
 .DEFAULT_GOAL = all
+MAKEFLAGS += --no-print-directory
 
 help: ## list the targets
 	@sed -n 's/^\([a-z-]*\):[^#]*## /\1\t/p' $(MAKEFILE_LIST) | expand -t 14
@@ -13,48 +19,61 @@ help: ## list the targets
 setup: ## install what `make check` needs, as root (WITHOUT=broker leaves RabbitMQ out)
 	@.ci/setup
 
-test: ## run the tests that need only the kit, python3, make and git (about 5 minutes)
-	@python3 .ci/gate.py test
+include .ci/steps.mk
 
-check: ## run everything else a change must pass (5 to 60 minutes; WITHOUT="broker crate" skips steps)
-	@python3 .ci/gate.py check
+all: $(OUT)/build/built ## prove and build the C library and amqp_show (40 minutes; plain `make` does this)
 
-lint: ## check the types and the layout of what is written in Python (a minute)
-	@tests/lint
+lib: $(OUT)/lib/built ## prove and build the C library without amqp_show
 
-wrong-bodies: ## try wrong bodies, which the prover must refuse (15 minutes; later only of what changed)
-	@tests/wrong_bodies
+install: all ## install the C library and amqp_show below /usr/local, or PREFIX
+	umask 022 && cmake --install $(OUT)/build --prefix "$(PREFIX)"
 
-all: $(FOLDER)/checksums ## prove and build the C library and amqp_show (40 minutes; plain `make` does this)
+install-lib: lib ## install the C library without amqp_show
+	umask 022 && cmake --install $(OUT)/lib --prefix "$(PREFIX)"
 
-include packaging/install.mk
+uninstall: ## remove what was installed last
+	@sed 's|^|$(DESTDIR)|' /dev/null $(MANIFESTS) | xargs -rd '\n' rm -fv
+	@sed -n 's|^\(.*/amqp_values\)/.*|$(DESTDIR)\1|p' /dev/null $(MANIFESTS) | sort -u \
+	    | while read -r it; do [ ! -d "$$it" ] || find "$$it" -depth -type d -empty -delete; done
 
-# The crates are proved first. A run that fails leaves no folder.
-SOURCES := $(shell packaging/dist --sources)
+# `built` is there only if a build ended well, and is as old as its begin: what changed since is built again.
+SOURCES := $(shell find CMakeLists.txt CHANGELOG.md LICENSE THIRD-PARTY HANDLES crates.txt debian/changelog include c docs \
+    examples/c packaging crates/amqp_c_alloc/malloc.c -type f -not -name '*.pyc') \
+    $(shell find crates/*/src crates/*/specs crates/*/proofs)
 
-$(FOLDER)/checksums: $(SOURCES)
-	packaging/dist --target $(TARGET) "$(FOLDER)"
+$(OUT)/lib/built $(OUT)/aarch64/built: LIBRARY = --library
+$(OUT)/lib/built $(OUT)/aarch64/built: FLAGS = -DAMQP_SHOW=OFF
+$(OUT)/aarch64/built: TARGET = $(AARCH64)
+$(OUT)/aarch64/built: FLAGS += --toolchain packaging/aarch64.cmake
 
-$(OF_AARCH64)/checksums: $(SOURCES)
-	packaging/dist --target $(AARCH64) "$(OF_AARCH64)"
+$(OUT)/build/built $(OUT)/lib/built $(OUT)/aarch64/built: $(SOURCES)
+	@mkdir -p $(@D) && rm -f $@ && touch $(@D)/begun
+	packaging/archives $(BUILT) $(LIBRARY) $(or $(TARGET),$(X86_64))
+	cmake -S . -B $(@D) $(FLAGS) $(CMAKE_FLAGS) && cmake --build $(@D)
+	@mv $(@D)/begun $@
 
-dist: all $(OF_AARCH64)/checksums ## pack a release for x86-64 and aarch64
-	packaging/pack "$(FOLDER)" "$(OF_AARCH64)"
+dist: $(OUT)/build/built $(OUT)/aarch64/built ## pack archives of the C library for x86-64 and aarch64, and of amqp_show
+	packaging/pack $(OUT)/build $(OUT)/aarch64 $(OUT)/packed
 
 deb: all ## make packages of Debian for x86-64
-	packaging/deb "$(FOLDER)"
+	debian/rules clean binary
 
-# By Debian's Python and nothing else. The wheel for x86-64 is tried in fresh environments of each Python that is there.
-wheel: all $(OF_AARCH64)/checksums ## make wheels of the Python package
-	python3 packaging/wheels.py out/wheel "$(FOLDER)" "$(OF_AARCH64)"
+# By Debian's Python and nothing else.
+wheel: $(OUT)/build/built $(OUT)/aarch64/built ## make wheels of the Python package
+	python3 packaging/wheels.py $(OUT)/wheel $(OUT)/build $(OUT)/aarch64
 
 web: ## make the page that shows a field table, out/web/amqp.html
-	packaging/web
+	packaging/web $(filter --built,$(BUILT)) $(OUT)/web/amqp.html
 
 rust: all ## put the library where the Rust crate amqp-values-sys links it
-	install -D -m 644 $(FOLDER)/lib/libamqp_values.a bindings/rust/amqp-values-sys/lib/$(TARGET)/libamqp_values.a
+	install -D -m 644 $(OUT)/build/libamqp_values.a bindings/rust/amqp-values-sys/lib/$(X86_64)/libamqp_values.a
+	install -m 644 LICENSE THIRD-PARTY bindings/rust/amqp-values-sys/lib
+
+release: ## prove, test and make all of a release of HEAD, out/release
+	$(if $(filter --built,$(BUILT)),,$(MAKE) check)
+	packaging/release $(filter --built,$(BUILT)) $(OUT)/release
 
 clean: ## remove what these targets made
-	rm -rf out/dist out/aarch64 out/packed out/deb out/wheel out/web out/mypy
+	rm -rf $(addprefix $(OUT)/,build lib aarch64 packed debian deb wheel web release steps mypy)
 
-.PHONY: help setup test check lint wrong-bodies dist deb wheel web rust clean
+.PHONY: help setup all lib install install-lib uninstall dist deb wheel web rust release clean

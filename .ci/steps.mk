@@ -1,0 +1,105 @@
+# The steps of `make test`, `make check` and `make whole`. Each is a target: `make test-wire` runs that suite, and first the proofs
+# that it needs. .ci/step writes what a step prints to out/steps/NAME.log, and .ci/count.py says how all of them ended.
+#
+# WITHOUT="broker crate" skips these steps, and the tests of other steps that need RabbitMQ or the Rust crate.
+
+# The program logic in which all of this is proved: `rt version` ends with it, whatever the kit is called.
+LOGIC = logic dac8208d650f15bf
+STEPS = $(CURDIR)/out/steps
+step = @.ci/step $(STEPS)/$@.log
+
+# ---- the steps
+
+# What needs only the kit and Python's standard library: nothing is proved.
+PROGRAMS := $(patsubst crates/%/src/main.rt,%,$(wildcard crates/*/src/main.rt))
+TESTED := $(sort $(foreach it,$(shell grep -rl '\#\[test\]' crates/*/src),$(word 2,$(subst /, ,$(it)))))
+UNPROVED := $(PROGRAMS:%=%-runs) $(TESTED:%=%-tests) stored-output
+# What needs no proofs, and what runs over the programs and libraries that they leave.
+ALONE := docs lint test-model test-vendor test-vectors
+SUITES := show alloc-failures sizes wire c python counts web rust crate broker
+CHECKED := proofs $(ALONE) $(SUITES:%=test-%) wrong-bodies
+
+$(PROGRAMS:%=%-runs): %-runs:
+	$(step) python3 -m tests.unproved runs $*
+
+$(TESTED:%=%-tests): %-tests:
+	$(step) python3 -m tests.unproved tests $*
+
+stored-output:
+	$(step) python3 -m tests.model.stored_output
+
+docs: ## compare the pages with the sources (10 seconds)
+	$(step) tests/pages
+
+lint: ## check the types and the layout of what is written in Python (a minute)
+	$(step) tests/lint
+
+test-model test-vendor test-vectors: test-%:
+	$(step) tests/run $* $(OPTIONS_$*)
+
+fresh:
+	$(step) tests/fresh README.md
+
+proofs: ## prove all crates from nothing, but for what was proved on this machine (an hour)
+	$(step) rt ci $(ANEW)
+
+# (make help shows this line in place of one for each suite)
+test-show: ## test-NAME runs one suite over the proofs: show, wire, c, python, rust, web, broker ..
+$(SUITES:%=test-%): test-%: proofs
+	$(step) tests/run $(or $(NAME_$*),$*) $(OPTIONS_$*)
+
+wrong-bodies: proofs ## try wrong bodies, which the prover must refuse (15 minutes; later only of what changed)
+	$(step) tests/wrong_bodies --built $(ALL)
+
+# What tests/run calls a suite, if it has another name there, and its options.
+NAME_alloc-failures = memory/alloc-failures
+NAME_sizes = memory/sizes
+NAME_crate = oracle
+NAME_broker = rabbitmq
+OPTIONS_model = $(SEED)
+OPTIONS_c = --built $(ROOT)
+OPTIONS_python = --built $(SEED)
+OPTIONS_counts = --built
+OPTIONS_web = --built $(SEED)
+OPTIONS_rust = --built
+OPTIONS_broker = --built --tables $(TABLES)
+TABLES = 500
+
+# ---- the runs
+
+# What WITHOUT may name besides steps: what some tests of the steps c, rust and vectors need.
+OF_TESTS = aarch64 clang codecs old-processor cargo-clippy rustfmt valgrind rustc
+NAMES = $(patsubst test-%,%,$(UNPROVED) $(CHECKED) fresh)
+ifneq ($(filter-out $(NAMES) $(OF_TESTS),$(WITHOUT)),)
+$(error WITHOUT: there is no step $(filter-out $(NAMES) $(OF_TESTS),$(WITHOUT)); there are: $(NAMES) $(OF_TESTS))
+endif
+export WITHOUT
+HAS_CRATE = $(or $(AMQ_PROTOCOL_TYPES),$(wildcard $(or $(CARGO_HOME),$(HOME)/.cargo)/registry/cache/*/amq-protocol-types-10.6.3.crate))
+NO_CRATE = neither AMQ_PROTOCOL_TYPES names the Rust crate's folder nor cargo has kept it
+
+# Steps side by side, each to its end, and then how they ended. What they leave in their temporary folder goes at the end.
+chosen = $(filter-out $(WITHOUT) $(WITHOUT:%=test-%),$(1))
+run = @rm -rf $(STEPS); begun=$$(date +%s); TMPDIR=$$(mktemp -d -t maolkint-XXXXXX); export TMPDIR; chmod 755 $$TMPDIR; \
+    trap 'rm -rf $$TMPDIR' EXIT; $(MAKE) --no-print-directory -k -j$(2) $(chosen); .ci/count.py $(STEPS) $$begun $(chosen)
+needed = @rt version | grep -q '$(LOGIC)$$' || { echo "rt, of a Rattle kit with the $(LOGIC), is missing"; exit 1; }; .ci/setup --missing
+
+test: ## run the tests that need only the kit, python3, make and git (about 5 minutes)
+	$(call run,$(UNPROVED),$$(nproc))
+
+check: override WITHOUT := $(strip $(WITHOUT) $(if $(HAS_CRATE)$(filter crate,$(WITHOUT)),,crate))
+check: ## run everything else a change must pass (5 to 60 minutes; WITHOUT="broker crate" skips steps)
+	$(needed)
+	$(call run,$(CHECKED),20)
+
+# Nothing is carried over, and what is random is another in each run.
+whole: export ANEW = --anew
+whole: export SEED = --random
+whole: export ROOT = --root
+whole: export ALL = --all
+whole: export TABLES = 10000 --rabbitmq=3.10.8 --rabbitmq=4.0.5
+whole: ## run everything from nothing, as root, before a release (some hours)
+	$(if $(HAS_CRATE)$(filter crate,$(WITHOUT)),,$(error $(NO_CRATE) (WITHOUT=crate skips its step)))
+	$(needed)
+	$(call run,$(CHECKED) fresh,20)
+
+.PHONY: test check whole $(UNPROVED) $(CHECKED) fresh
