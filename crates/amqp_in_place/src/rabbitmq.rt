@@ -1,8 +1,8 @@
 //! What RabbitMQ makes of a value.
 //!
-//! RabbitMQ 3.10.8, 4.0.5 and 4.3.6 close the connection if a field table has a type tag that they
-//! don't know, a NaN or an infinity, or a length that doesn't fit. [`first_problem`] finds the first
-//! of these. [`warnings`] finds what they accept, but a stream queue or a client may not.
+//! RabbitMQ 3.10.8 and 4.0.5 close the connection if a field table has a type tag that they don't
+//! know, a NaN or an infinity, or a length that doesn't fit. [`first_problem`] finds the first of
+//! these. [`warnings`] finds what they accept, but a stream queue or a client may not.
 
 ghost use Rattle.std.specs.Prelude.{◌≡◌, ◌≤◌, IfSome, length};
 ghost use Rattle.amqp_in_place.specs.Problems.{problem_of, problem_in_table_of};

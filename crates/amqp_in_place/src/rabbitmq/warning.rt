@@ -24,24 +24,24 @@ pub const CLIENT_LEVELS: u32 = 32;
 pub struct Warned {
     /// The first pair whose key an earlier pair of the same table has. This library uses the last
     /// of equal keys. RabbitMQ 3.10.8 delivers both of a message's headers and routes by the first;
-    /// 4.0.5 and 4.3.6 deliver the first and route by the last. Reject such a table.
+    /// 4.0.5 delivers the first and routes by the last. Reject such a table.
     pub repeated_key: Option<usize>,
-    /// The first pair whose key isn't UTF-8. RabbitMQ 3.10.8, 4.0.5 and 4.3.6 relay it; most
-    /// clients can't read such a key.
+    /// The first pair whose key isn't UTF-8. RabbitMQ 3.10.8 and 4.0.5 relay it; most clients can't
+    /// read such a key.
     pub key_not_utf8: Option<usize>,
-    /// The first pair whose key is empty. RabbitMQ 3.10.8, 4.0.5 and 4.3.6 relay it; php-amqp and
+    /// The first pair whose key is empty. RabbitMQ 3.10.8 and 4.0.5 relay it; php-amqp and
     /// librabbitmq's `amqp_consume_message` fail.
     pub empty_key: Option<usize>,
-    /// The first container that nests deeper than a number of levels. RabbitMQ 3.10.8, 4.0.5 and
-    /// 4.3.6 relay it; most clients fail at some depth.
+    /// The first container that nests deeper than a number of levels. RabbitMQ 3.10.8 and 4.0.5
+    /// relay it; most clients fail at some depth.
     pub too_deep: Option<usize>,
     /// The first decimal. If a message with a decimal as a header gets to a stream queue, RabbitMQ
-    /// 3.10.8, 4.0.5 and 4.3.6 close the connection; 4.0.5 and 4.3.6 also do so for one inside a
-    /// header that the queue keeps.
+    /// 3.10.8 and 4.0.5 close the connection; 4.0.5 also does so for one inside a header that the
+    /// queue keeps.
     pub decimal: Option<usize>,
     /// The first array or table inside the outermost one. A stream queue of RabbitMQ 3.10.8 drops
-    /// such a header without an error; 4.0.5 and 4.3.6 keep it only if its key is `CC` or begins
-    /// with `x-`, and drop `x-death`.
+    /// such a header without an error; 4.0.5 keeps it only if its key is `CC` or begins with `x-`,
+    /// and drops `x-death`.
     pub nested_header: Option<usize>,
     /// Whether the value's bytes without its type tag, and the 8 bytes of a frame (its type,
     /// channel, size and end), are more than the frame-max.
