@@ -29,7 +29,7 @@ DEFAULTS = {
     "include/amqp_values_rabbitmq.h": [r"AMQPV_MAX_BYTES \((?P<bytes>\d+)\)", r"AMQPV_MAX_DEPTH \((?P<depth>\d+)\)"],
 }
 # What names no version of RabbitMQ that only docs/INTEROP.md may name.
-NAMING = ("*.md", "include", "bindings", "packaging", "crates/*/src", "crates/examples")
+NAMING = ("*.md", "include", "bindings", "packaging", "crates")
 # The folders of crates whose files CONTRIBUTING.md counts.
 PARTS = ("src", "specs", "proofs")
 
