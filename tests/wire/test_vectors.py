@@ -14,7 +14,7 @@ from tests.wire.answered import answers
 CRATES = Crates()
 # The most bytes of an encoding whose JSON is tried, since test_calls also tries each small limit. tests/c has all.
 MOST = 3_000
-TOO_DEEP = re.compile(r" but read NotAValue\(\d+, TooDeep\)")
+TOO_DEEP = re.compile(r" but read TooDeep\(\d+\)")
 
 
 def test_amqp_wire() -> None:
