@@ -114,7 +114,7 @@ RUNS: dict[str, Callable[[], Run]] = {
     "a string as JSON": partial(Run, "amqp_show", ["--json", *WIDE], STRING, SHOWN),
     "a string as a tree": tree,
     "a string in a stream": partial(Run, "amqp_show", [*IN_STREAM, *WIDE], [*STRING, b"V"], [*SHOWN, b"null\n"]),
-    "a text to its encoding": partial(Run, "amqp_show", ["--encode", "--raw"], [b'"', *letters(), b'"'], STRING),
+    "a text to its encoding": partial(Run, "amqp_show", ["--encode", "--raw", *WIDE], [b'"', *letters(), b'"'], STRING),
     "a million values in a stream": values_in_stream,
     "an array of a million as JSON": array_as_json,
 }

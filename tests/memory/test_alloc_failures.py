@@ -154,7 +154,7 @@ OF_SHOW: list[tuple[list[str], Written]] = [(["amqp_show", *form, *ANY_SIZE], as
 HEXADECIMAL: list[tuple[list[str], Written]] = [
     (["amqp_show", *form, "--hex", *ANY_SIZE], as_hexadecimal) for form in FORMS
 ]
-TO_JSON: list[tuple[list[str], Written]] = [(["amqp_show", "--encode"], as_json)]
+TO_JSON: list[tuple[list[str], Written]] = [(["amqp_show", "--encode", *ANY_SIZE], as_json)]
 
 
 def named(forms: list[tuple[list[str], Written]]) -> pytest.MarkDecorator:
