@@ -1,11 +1,12 @@
 """THIRD-PARTY has the notices of the kit's libraries that are linked into what is built here, and each artefact has it."""
 
 import re
+import subprocess
 from collections.abc import Iterator
 from pathlib import Path
 
 import pytest
-from building import CALLS_FOR_C
+from building import CALLS_FOR_C, archive
 from crates import TOP, Crates, kit
 
 from tests.c.places import NAME
@@ -36,6 +37,12 @@ def linked(*crates: str) -> set[str]:
     return named | {it.name for lib in named for it in (kit() / f"rlibs/{lib}.rlib/below").glob("*")}
 
 
+def linked_by_symbols(path: Path) -> set[str]:
+    """The crates and the kit's libraries of which a file has functions."""
+    names = subprocess.run(["nm", path], capture_output=True, text=True, check=True).stdout
+    return {*re.findall(r"(?m)^[\da-f]+ [tT] (\w+)::", names)}
+
+
 def licences(library: str) -> set[str]:
     """The licence files of a library in the kit, without Apache's where there is MIT's to choose."""
     names = {it.name for it in (LIBRARIES / library).glob("LICENSE*")}
@@ -53,6 +60,18 @@ def test_each_library_has_its_notices() -> None:
     libraries = linked(*CALLS_FOR_C, "amqp_show")
     assert sorted(name for name, _ in notices()) == sorted(it for lib in libraries for it in licences(lib))
     assert listed("for itself") == sorted(it for it in libraries if not licences(it))
+
+
+@pytest.mark.needs("--built")
+def test_what_is_linked_is_listed(libraries: None) -> None:
+    """Also by the symbols of what is built, where a library that is inlined has none."""
+    own, without_licence = {*Crates().below}, {"core", "io", "libc"}
+    of_show = linked_by_symbols(TOP / "crates/amqp_show/out/amqp_show")
+    of_calls = set[str]().union(*(linked_by_symbols(archive(Crates(), it)) for it in CALLS_FOR_C))
+    assert of_calls & own and of_show & own
+    assert of_calls - own - without_licence <= {*listed("Used by all of these")}
+    assert of_show - own - without_licence <= {*listed("Used by all of these"), *listed("Used by amqp_show besides")}
+    assert without_licence <= {*re.findall(r"\w+", HEAD)}
 
 
 @pytest.mark.parametrize(("name", "text"), [*notices()], ids=[name for name, _ in notices()])
