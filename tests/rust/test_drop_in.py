@@ -3,8 +3,8 @@
 It stops with the place on sources that it doesn't know. All tests of the crate pass over the drop-in, as many as over the
 crate. equal.rs: on random inputs both give the same, but for claims above the limit. refused.rs: what is beyond each limit is
 what the process chose, in debug and release builds. cargo takes the drop-in if the client's Cargo.lock has the crate's version,
-after `cargo update`, and if the client asks for exactly this version, with --keep-version. The programs of docs/UPSTREAM.md
-print what the page has.
+after `cargo update`, and if the client asks for exactly this version, with --keep-version. The programs of the reports in
+docs/upstream print what the reports have.
 """
 
 import re
@@ -125,29 +125,28 @@ def test_asked_for_exactly(rust: Given, is_kept: bool) -> None:
     assert is_taken(rust, client(f"exact-{path.name}", path, f"={VERSION}"), path) == is_kept
 
 
-# docs/UPSTREAM.md
+# docs/upstream
 
 
 def sources() -> Iterator[tuple[str, str, str]]:
-    """The programs of the page: the section, the source, and what is typed and printed."""
-    text = (TOP / "docs/UPSTREAM.md").read_text()
-    for section in re.split(r"(?m)^## ", text)[1:]:
-        for source, console in re.findall(r"```rust\n(.*?)```\n\n```console\n(.*?)```", section, re.DOTALL):
-            yield section.partition("\n")[0], source, console
+    """The programs of the reports: the report's name, the source, and what is typed and printed."""
+    for report in sorted((TOP / "docs/upstream").glob("*.md")):
+        for source, console in re.findall(r"```rust\n(.*?)```\n\n```console\n(.*?)```", report.read_text(), re.DOTALL):
+            yield report.stem, source, console
 
 
 SOURCES = [*sources()]
 # What is typed for a program, by its number, and the lines that it prints.
 COMMANDS = [
-    pytest.param(number, words, lines.splitlines(), id=f"{section}, {words}")
-    for number, (section, _, console) in enumerate(SOURCES)
+    pytest.param(number, words, lines.splitlines(), id=f"{report}, {words}")
+    for number, (report, _, console) in enumerate(SOURCES)
     for words, lines in re.findall(r"(?m)^\$ cargo (run(?: --release)?)\n((?:(?!\$ ).*\n)*)", console)
 ]
 
 
 @pytest.fixture(scope="session")
 def upstream(rust: Given) -> Path:
-    """A package with the page's programs."""
+    """A package with the programs of the reports."""
     folder = package("upstream", [f'{NAME} = {{ path = "{rust.crate}" }}', *PACKAGES])
     shutil.rmtree(folder / "src", ignore_errors=True)
     (folder / "src/bin").mkdir(parents=True)
@@ -157,11 +156,11 @@ def upstream(rust: Given) -> Path:
 
 
 @pytest.mark.parametrize(("number", "words", "lines"), COMMANDS)
-def test_program_of_page(rust: Given, upstream: Path, number: int, words: str, lines: list[str]) -> None:
-    """It prints the page's lines, in their order."""
+def test_program_of_report(rust: Given, upstream: Path, number: int, words: str, lines: list[str]) -> None:
+    """It prints the report's lines, in their order."""
     done = rust.cargo(upstream, *words.split(), "--quiet", "--bin", f"program{number}")
     printed, at = done.stdout + done.stderr, 0
-    assert lines, "the page has no lines"
+    assert lines, "the report has no lines"
     for line in lines:
         found = printed.find(line, at)
         assert found >= 0, f"{line!r} isn't in {printed[-1000:]!r}"

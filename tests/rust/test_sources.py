@@ -68,11 +68,23 @@ def test_unsafe_code() -> None:
     assert not [it for it in DROP_IN.glob("*.rs") if "unsafe" in it.read_text()]
 
 
-@pytest.mark.parametrize("page", ("docs/UPSTREAM.md", "docs/RUST.md"))
+def pages_with_programs() -> Iterator[str]:
+    """The page on the drop-in, and the reports in docs/upstream that have a program."""
+    reports = (TOP / "docs/upstream").glob("*.md")
+    yield from ["docs/RUST.md", *sorted(f"docs/upstream/{it.name}" for it in reports if "```rust" in it.read_text())]
+
+
+@pytest.mark.parametrize("page", pages_with_programs())
 def test_versions_of_packages(page: str) -> None:
     """A page names the versions over which programs are compiled."""
     versions = dict(re.findall(r'^([\w-]+) = "(.*)"$', "\n".join(PACKAGES), re.MULTILINE))
     assert f"over nom {versions['nom']} and cookie-factory {versions['cookie-factory']}" in (TOP / page).read_text()
+
+
+def test_reports() -> None:
+    """docs/UPSTREAM.md has a link to each report."""
+    links = re.findall(r"\]\(upstream/([\w-]+)\.md\)", (TOP / "docs/UPSTREAM.md").read_text())
+    assert sorted(links) == sorted(it.stem for it in (TOP / "docs/upstream").glob("*.md"))
 
 
 def functions_of_page() -> dict[str, str]:
