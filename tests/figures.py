@@ -3,10 +3,12 @@
 import re
 import subprocess
 from collections.abc import Iterator
+from pathlib import Path
 
 from crates import TOP
 
 HEADER, SPEED, INTEROP, CONTRIBUTING = "include/amqp_values.h", "docs/SPEED.md", "docs/INTEROP.md", "CONTRIBUTING.md"
+VERIFICATION, ANSWERS = "docs/VERIFICATION.md", "crates/test_calls/data/rust.calls"
 # The default limits on bytes and on levels: where they are, and patterns of which each has groups for `bytes` or `depth`.
 DEFAULTS = {
     "README.md": [r"frame: (?P<bytes>[\d_]+), depth: (?P<depth>\d+)"],
@@ -32,6 +34,14 @@ DEFAULTS = {
 NAMING = ("*.md", "include", "bindings", "packaging", "crates")
 # The folders of crates whose files CONTRIBUTING.md counts.
 PARTS = ("src", "specs", "proofs")
+# The crates whose lines docs/VERIFICATION.md counts.
+PROVED = "amqp_value_core amq_protocol_types amqp_in_place amqp_json amqp_c amqp_c_alloc amqp_wire amqp_show".split()
+# The list of definitions that the headline is stated by, and the folder of those that it names in italics, of another crate.
+HEADLINE, OTHERS = "crates/amqp_value_core/specs/Lib.antt", "crates/amq_protocol_types/specs"
+# What is neither code nor a definition: comments, imports and blank lines.
+LEFT_OUT = {".rt": r"(?m)^\s*//.*|^\s*(?:pub |ghost )?use [^;]*;", ".antt": r"(?m)^ *(?:--|(?:pub )?use ).*"}
+# By how much a number of lines that is stated as a round one may be wrong.
+ROUNDED = 0.05
 
 
 def read(name: str) -> str:
@@ -94,7 +104,60 @@ def files_of_a_type() -> Iterator[str]:
         yield f"{place(CONTRIBUTING, text.find('**A type.**'))}: the table names {wanted}: write that below it"
 
 
+def lines_of(*paths: Path) -> list[str]:
+    """The lines of sources that say something."""
+    texts = (re.sub(LEFT_OUT[it.suffix], "", it.read_text()) for it in paths)
+    return [line for it in texts for line in it.splitlines() if line.strip()]
+
+
+def in_crates(pattern: str) -> list[Path]:
+    """The files of the crates that are counted, without tests."""
+    found = sorted(it for name in PROVED for it in (TOP / "crates" / name).glob(pattern))
+    return [it for it in found if "tests" not in (it.parent.name, it.stem)]
+
+
+def count_of_clauses(lines: list[str]) -> int:
+    """How many lines are of contracts."""
+    count = depth = 0
+    for line in lines:
+        if depth or re.match(r"\s*(?:requires|ensures)\b", line):
+            count, depth = count + 1, depth + line.count("{") - line.count("}")
+    return count
+
+
+def headline() -> list[Path]:
+    """The files that the headline is stated by."""
+    before, names = read(HEADLINE).partition("\npub mod ")[0], re.findall(
+        r"\(\d+ lines\)\npub mod (\w+)", read(HEADLINE)
+    )
+    others = [it for name in re.findall(r"\*(\w+)\*", before) for it in (TOP / OTHERS).glob(f"**/{name}.antt")]
+    return [*((TOP / HEADLINE).with_name(f"{it}.antt") for it in names), *others]
+
+
+def other_lengths() -> Iterator[str]:
+    """Yields the numbers of lines, mutants and answers in docs/VERIFICATION.md that aren't those of the sources."""
+    text, source = read(VERIFICATION), lines_of(*in_crates("src/**/*.rt"))
+    clauses = count_of_clauses(source)
+    wanted = {
+        f"definitions of the headline, in {len(headline())} files": len(lines_of(*headline())),
+        "all definitions": len(lines_of(*in_crates("specs/**/*.antt"))),
+        "contracts": clauses,
+        "code": len(source) - clauses,
+        "proofs": len(lines_of(*in_crates("proofs/**/*.antt"))),
+    }
+    stated = {what: number(it.replace(",", "")) for it, what in re.findall(r"(?m)^\|([\d,]+)\|([^|]*)\|", text)}
+    for what, count in wanted.items():
+        if abs(stated.get(what, 0) - count) > (0 if "headline" in what else ROUNDED * count):
+            yield f"{VERIFICATION}: the lines of {what} are {count:,}, and not {stated.get(what)}: write that in the table"
+    blocks = "".join(it.read_text() for it in TOP.glob("crates/*/wrong"))
+    mutants = len(re.findall(r"(?m)^## ", blocks)) + len([*TOP.glob("crates/*/must-fail/*.edit")])
+    answers = len(re.findall(r"(?m)^(?!#|$)", read(ANSWERS)))
+    for words in (f"more than {mutants // 100 * 100} mutants", f"{answers} stored ones"):
+        if words not in " ".join(text.split()):
+            yield f"{VERIFICATION}: there are {words}: write that"
+
+
 def faults() -> Iterator[str]:
     """Yields what is repeated otherwise than it is made."""
-    for check in (other_defaults, other_ratios, versions_by_hand, files_of_a_type):
+    for check in (other_defaults, other_ratios, versions_by_hand, files_of_a_type, other_lengths):
         yield from check()
