@@ -104,7 +104,7 @@ def compare(inputs: Sequence[Input], step: int, lanes: Lanes) -> str:
         tried, rejected = tried + count, rejected + read.count(False)
         others += sum(a != b for a, b in zip(read, other))
     return (
-        f"On {tried:,} prefixes and changes of the small inputs, of which it rejects {rejected:,}, "
-        "this library and the loop by hand had the Rust crate's results."
-        f"{f' librabbitmq reads or rejects {others:,} otherwise.' if others else ''}"
+        f"Before timing, {tried:,} prefixes and changes of the small inputs were tried. The Rust crate rejects {rejected:,}. "
+        "This library and the loop by hand agree with it on all of them"
+        f"{f'; librabbitmq differs on {others:,}' if others else ''}."
     )

@@ -9,6 +9,8 @@ from crates import TOP
 
 HEADER, SPEED, INTEROP, CONTRIBUTING = "include/amqp_values.h", "docs/SPEED.md", "docs/INTEROP.md", "CONTRIBUTING.md"
 VERIFICATION, ANSWERS = "docs/VERIFICATION.md", "crates/test_calls/data/rust.calls"
+# The page with the tables of bench/run that docs/SPEED.md doesn't have.
+RESULTS = "bench/RESULTS.md"
 # The default limits on bytes and on levels: where they are, and patterns of which each has groups for `bytes` or `depth`.
 DEFAULTS = {
     "README.md": [r"frame: (?P<bytes>[\d_]+), depth: (?P<depth>\d+)"],
@@ -80,6 +82,17 @@ def other_ratios() -> Iterator[str]:
     wanted = [f"{100 * float(it):.0f}" for it in rows[:2]]
     if not shown or [*shown.groups()] != wanted:
         yield f"README.md: message headers take {' and '.join(wanted)} % of the Rust crate's time by {SPEED}: write that"
+
+
+def tables_of_no_run() -> Iterator[str]:
+    """Yields the tables of docs/SPEED.md and bench/RESULTS.md that bench/run doesn't write, and those that both have."""
+    sources = "".join(it.read_text() for it in (TOP / "bench").iterdir() if it.suffix == ".py" or it.name == "run")
+    heads = [(name, it) for name in (SPEED, RESULTS) for it in re.finditer(r"(?m)^\|([^|]*)\|.*\n\|---\|", read(name))]
+    for name, it in heads:
+        if f'"{it[1]}"' not in sources:
+            yield f"{place(name, it.start())}: bench/run writes no table that begins with {it[1]}: correct it"
+        if sum(other[1] == it[1] for _, other in heads) > 1:
+            yield f"{place(name, it.start())}: there is another table that begins with {it[1]}: keep one"
 
 
 def versions_by_hand() -> Iterator[str]:
@@ -159,5 +172,5 @@ def other_lengths() -> Iterator[str]:
 
 def faults() -> Iterator[str]:
     """Yields what is repeated otherwise than it is made."""
-    for check in (other_defaults, other_ratios, versions_by_hand, files_of_a_type, other_lengths):
+    for check in (other_defaults, other_ratios, tables_of_no_run, versions_by_hand, files_of_a_type, other_lengths):
         yield from check()
