@@ -129,13 +129,18 @@ def in_crates(pattern: str) -> list[Path]:
     return [it for it in found if "tests" not in (it.parent.name, it.stem)]
 
 
-def count_of_clauses(lines: list[str]) -> int:
-    """How many lines are of contracts."""
-    count = depth = 0
+def counts_of_clauses(lines: list[str]) -> tuple[int, int]:
+    """How many lines are of contracts of public functions and of public traits, and of the others."""
+    counts, depth, is_public, is_of_trait = [0, 0], 0, False, False
     for line in lines:
         if depth or re.match(r"\s*(?:requires|ensures)\b", line):
-            count, depth = count + 1, depth + line.count("{") - line.count("}")
-    return count
+            counts[not is_public] += 1
+            depth += line.count("{") - line.count("}")
+        elif head := re.match(r"\s*(pub(?:\(\w+\))? )?(?:extern \"C\" )?fn ", line):
+            is_public = head[1] == "pub " or is_of_trait
+        elif not line.startswith(" "):
+            is_of_trait = line.startswith("pub trait ")
+    return counts[0], counts[1]
 
 
 def headline() -> list[Path]:
@@ -150,12 +155,13 @@ def headline() -> list[Path]:
 def other_lengths() -> Iterator[str]:
     """Yields the numbers of lines, mutants and answers in docs/VERIFICATION.md that aren't those of the sources."""
     text, source = read(VERIFICATION), lines_of(*in_crates("src/**/*.rt"))
-    clauses = count_of_clauses(source)
+    public, private = counts_of_clauses(source)
     wanted = {
         f"definitions of the headline, in {len(headline())} files": len(lines_of(*headline())),
         "all definitions": len(lines_of(*in_crates("specs/**/*.antt"))),
-        "contracts": clauses,
-        "code": len(source) - clauses,
+        "contracts of public functions": public,
+        "contracts of other functions": private,
+        "code": len(source) - public - private,
         "proofs": len(lines_of(*in_crates("proofs/**/*.antt"))),
     }
     stated = {what: number(it.replace(",", "")) for it, what in re.findall(r"(?m)^\|([\d,]+)\|([^|]*)\|", text)}
