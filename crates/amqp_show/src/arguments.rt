@@ -1,6 +1,5 @@
 //! What the command line asks for.
 
-use crate::check::Version;
 use amq_protocol_types::stream::Limits;
 use clap::{Arg, ArgAction, ArgMatches, Command, value_parser};
 use std::alloc::{AllocError, Global};
@@ -57,6 +56,41 @@ one with * what readers may differ on, and one with = what came of reading.
 
 Exit status: 0 if each value was read, 1 if a value or JSON was rejected or is truncated, 2 after
 a mistake in the arguments or the hexadecimal, or if a file can't be read or the output written.";
+
+/// A version of RabbitMQ that was tried.
+#[derive(Clone, Copy, Debug, PartialEq, Eq)]
+pub struct Version {
+    /// What it is called.
+    pub name: &'static str,
+    /// What it does with equal keys.
+    pub of_equal_keys: &'static str,
+    /// What it does in a stream with a header that is an array or a table.
+    pub of_nested_headers: &'static str,
+}
+
+impl Version {
+    /// The version that a peer's name on the command line has, or the newest one that the tests of
+    /// this repository run.
+    pub fn of_peer(peer: &str) -> Version {
+        let newest = Version {
+            name: "RabbitMQ 4.0",
+            of_equal_keys: "comes again; the broker delivers the first and routes by the last",
+            of_nested_headers: "a stream drops such a header unless its key is CC or begins with x-",
+        };
+        match peer {
+            "rabbitmq-3.10" => Version {
+                name: "RabbitMQ 3.10",
+                of_equal_keys: "comes again; the broker delivers both and routes by the first",
+                of_nested_headers: "a stream drops such a header",
+            },
+            "rabbitmq-4.3" => Version {
+                name: "RabbitMQ 4.3 (tested by hand)",
+                ..newest
+            },
+            _ => newest,
+        }
+    }
+}
 
 /// How a value is shown.
 #[derive(Clone, Copy, Debug, PartialEq, Eq)]

@@ -16,6 +16,7 @@ mod input;
 mod messages;
 mod parts;
 mod problems;
+mod remarks;
 mod screen;
 mod show;
 mod terminal;

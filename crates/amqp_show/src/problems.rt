@@ -76,6 +76,11 @@ pub fn is_truncated(problem: Problem) -> bool {
     problem.kind == ProblemKind::Cut && problem.offset == 0
 }
 
+/// Whether it is that the value has more bytes than the limits allow, or nests deeper.
+pub fn is_beyond_limits(problem: Problem) -> bool {
+    matches!(problem.kind, ProblemKind::TooDeep | ProblemKind::TooLarge)
+}
+
 // RabbitMQ has other type tags than `amq_protocol_types`.
 fn unknown_tag_text(alloc: Global, tag: u8) -> Result<String, AllocError> {
     let name = char::from(tag);

@@ -11,7 +11,8 @@ use crate::hexadecimal::is_hexadecimal;
 use crate::input::{BLOCK, Input};
 use crate::messages::complain;
 use crate::parts::{Note, Part, parts_of, type_of};
-use crate::problems::{is_truncated, key_text, problem_text};
+use crate::problems::{is_beyond_limits, is_truncated, key_text, problem_text};
+use crate::remarks::{push_outcome, push_remark};
 use crate::screen::{Colour, Screen};
 use crate::texts::bytes_text;
 use crate::tree::{show_parts, show_tree};
@@ -226,41 +227,4 @@ fn outcome_text(
         Some(problem) if is_beyond_limits(problem) => format!(in alloc; "beyond the limits"),
         Some(_) => format!(in alloc; "malformed"),
     }
-}
-
-/// Whether it is that the value has more bytes than the limits allow, or nests deeper.
-pub fn is_beyond_limits(problem: Problem) -> bool {
-    matches!(problem.kind, ProblemKind::TooDeep | ProblemKind::TooLarge)
-}
-
-/// Adds a line about a failure, or about what readers may differ on.
-pub fn push_remark(
-    alloc: Global,
-    screen: &mut Screen,
-    colour: Colour,
-    why: &str,
-) -> Result<(), AllocError> {
-    let mark = if let Colour::Failure = colour {
-        '!'
-    } else {
-        '*'
-    };
-    let line = format!(in alloc; "{mark} {why}")?;
-    screen.push_coloured(line.as_str(), colour)?;
-    screen.end_line()
-}
-
-/// Adds a line about what came of the value, and where it is in a stream.
-pub fn push_outcome(
-    alloc: Global,
-    screen: &mut Screen,
-    outcome: &str,
-    settings: Settings,
-) -> Result<(), AllocError> {
-    let line = if settings.is_stream {
-        format!(in alloc; "= at {}: {outcome}", settings.start)?
-    } else {
-        format!(in alloc; "= {outcome}")?
-    };
-    screen.push_line(line.as_str())
 }
