@@ -6,7 +6,7 @@
 
 use super::parse::{error_text, with_rest};
 use super::values::Word;
-use super::words::{bytes_of, named, plain, shown};
+use super::words::{WIDE, bytes_of, named, plain, shown};
 use super::{Answer, Trouble, json};
 use amqp_in_place::{
     Limits, canonical_len, canonical_table_len, is_canonical, is_canonical_table, read_in_place,
@@ -14,12 +14,6 @@ use amqp_in_place::{
 };
 use std::alloc::{AllocError, Global};
 use std::ops::Range;
-
-/// Limits that only a value of 4 GiB exceeds.
-pub const WIDE: Limits = Limits {
-    frame: u32::MAX,
-    depth: u32::MAX,
-};
 
 /// Inputs from so many bytes on are asked with few limits.
 const LONG: u32 = 1000;

@@ -4,10 +4,9 @@
 //!
 //! If two calls don't agree, or a text that was written isn't read back, that is shown after the answer.
 
-use super::in_place::WIDE;
 use super::parse::{error_text, with_rest};
 use super::values::{Word, value_of};
-use super::words::{digits, named, plain, shown, text_of};
+use super::words::{WIDE, digits, named, plain, shown, text_of};
 use super::{Answer, Trouble};
 use amq_protocol_types::AMQPValue;
 use amq_protocol_types::parsing::{SliceInput, parse_value};

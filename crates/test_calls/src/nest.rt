@@ -1,8 +1,7 @@
 //! `nest CALL DEPTH BYTES`: whether a call is done with these bytes, which nest deep, or why it isn't. DEPTH is the
 //! limit of calls that have one. Nothing of a value is printed, since that takes stack too.
 
-use super::in_place::WIDE;
-use super::words::{bytes_of, named, number, plain};
+use super::words::{WIDE, bytes_of, named, number, plain};
 use super::{Answer, Trouble};
 use amq_protocol_types::AMQPValue;
 use amq_protocol_types::generation::{WriteContext, gen_value};

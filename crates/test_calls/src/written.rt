@@ -2,8 +2,7 @@
 //!
 //! Each value is written to a vector and to a slice as long as the bytes that it was read from, and is read back.
 
-use super::in_place::WIDE;
-use super::words::{digits, plain};
+use super::words::{WIDE, digits, plain};
 use super::{Answer, Trouble};
 use amq_protocol_types::AMQPValue;
 use amq_protocol_types::generation::{SliceOutput, WriteContext, gen_value};
