@@ -31,7 +31,7 @@ stored-output:
 docs: ## compare the pages with the sources (10 seconds)
 	$(step) tests/pages
 
-lint: ## check the types and the layout of what is written in Python (a minute)
+lint: ## check Python's types, layouts, scripts and spelling (a minute)
 	$(step) tests/lint
 
 test-model test-vendor test-vectors: test-%:
