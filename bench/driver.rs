@@ -76,7 +76,15 @@ unsafe extern "C" {
     fn amqp_bench_encode_n(bytes: *const u8, length: usize, out: *mut u8, capacity: usize, times: u64) -> i64;
     fn amqpv_read(input: &Input, entry: &mut [usize; 8], problem: &mut [usize; 3]) -> i32;
     fn amqpv_to_json(input: &Input, out: *mut u8, capacity: usize, length: &mut usize) -> i32;
-    fn amqpv_from_json(text: *const u8, length: usize, nesting: u32, out: *mut u8, capacity: usize, written: &mut usize, problem: &mut [usize; 3]) -> i32;
+    fn amqpv_from_json(
+        text: *const u8,
+        length: usize,
+        nesting: u32,
+        out: *mut u8,
+        capacity: usize,
+        written: &mut usize,
+        problem: &mut [usize; 3],
+    ) -> i32;
     fn rabbitmq_read(bytes: *const u8, length: usize) -> i64;
     fn rabbitmq_write(bytes: *const u8, length: usize, out: *mut u8, capacity: usize, times: u64) -> i64;
     fn library_arguments(bytes: *const u8, length: usize, out: *mut u8, capacity: usize) -> i64;
@@ -116,8 +124,16 @@ extern "C" fn c_read(bytes: *const u8, length: usize) -> i64 {
 }
 
 const LIBRARY_JSON: [Convert; 2] = [
-    |bytes, out| length_by(|length| unsafe { amqpv_to_json(&Input::of(bytes.as_ptr(), bytes.len()), out.as_mut_ptr(), out.len(), length) }),
-    |text, out| length_by(|length| unsafe { amqpv_from_json(text.as_ptr(), text.len(), 127, out.as_mut_ptr(), out.len(), length, &mut [0; 3]) }),
+    |bytes, out| {
+        length_by(|length| unsafe {
+            amqpv_to_json(&Input::of(bytes.as_ptr(), bytes.len()), out.as_mut_ptr(), out.len(), length)
+        })
+    },
+    |text, out| {
+        length_by(|length| unsafe {
+            amqpv_from_json(text.as_ptr(), text.len(), 127, out.as_mut_ptr(), out.len(), length, &mut [0; 3])
+        })
+    },
 ];
 
 // ---- a loop by hand, which checks everything and keeps nothing
@@ -195,7 +211,13 @@ impl Side {
     fn lanes(&self) -> Vec<String> {
         let json = self.json.into_iter().flat_map(|_| ["to-json", "from-json"]);
         let tasks = self.tasks.iter().map(|it| it.0);
-        ["read"].into_iter().chain(self.write.map(|_| "write")).chain(json).chain(tasks).map(|it| format!("{}.{it}", self.name)).collect()
+        ["read"]
+            .into_iter()
+            .chain(self.write.map(|_| "write"))
+            .chain(json)
+            .chain(tasks)
+            .map(|it| format!("{}.{it}", self.name))
+            .collect()
     }
 
     fn task(&self, operation: &str) -> Option<Task> {
@@ -219,7 +241,9 @@ impl Side {
     }
 
     fn writes(&self, bytes: &[u8], out: &mut [u8], times: u64) -> i64 {
-        unsafe { self.write.expect("a side that writes")(bytes.as_ptr(), bytes.len(), out.as_mut_ptr(), out.len(), times) }
+        unsafe {
+            self.write.expect("a side that writes")(bytes.as_ptr(), bytes.len(), out.as_mut_ptr(), out.len(), times)
+        }
     }
 
     fn json_of(&self, bytes: &[u8], out: &mut [u8]) -> Vec<u8> {
@@ -242,7 +266,8 @@ impl Side {
 
     /// How often a reading requests memory, and the most bytes at once.
     fn heap(&self, bytes: &[u8]) -> [u64; 2] {
-        let (since, mut counts) = (unsafe { dlsym(std::ptr::null(), c"heap_since".as_ptr()) }.expect("bench/heap.c"), [0; 2]);
+        let (since, mut counts) =
+            (unsafe { dlsym(std::ptr::null(), c"heap_since".as_ptr()) }.expect("bench/heap.c"), [0; 2]);
         since(&mut counts);
         black_box(self.reads_all(bytes));
         since(&mut counts);
@@ -252,7 +277,9 @@ impl Side {
     /// The nanoseconds of that many calls. Of writing, one reading is taken off.
     fn time(&self, operation: &str, bytes: &[u8], out: &mut [u8], times: u64) -> u64 {
         if let Some(task) = self.task(operation) {
-            return repeated(times, || unsafe { task(black_box(bytes).as_ptr(), bytes.len(), out.as_mut_ptr(), out.len()) });
+            return repeated(times, || unsafe {
+                task(black_box(bytes).as_ptr(), bytes.len(), out.as_mut_ptr(), out.len())
+            });
         }
         match (operation, self.json) {
             ("write", _) => {
@@ -281,7 +308,9 @@ impl Side {
 
 fn repeated(times: u64, mut call: impl FnMut() -> i64) -> u64 {
     let begin = Instant::now();
-    (0..times).for_each(|_| { black_box(call()); });
+    (0..times).for_each(|_| {
+        black_box(call());
+    });
     begin.elapsed().as_nanos() as u64
 }
 

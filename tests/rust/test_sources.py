@@ -16,7 +16,8 @@ LAYOUT = "max_width=120,use_small_heuristics=Max"
 def sources(edition: str) -> Iterator[Path]:
     """The sources of an edition: the crates over the calls for C are of the older one."""
     if edition == "2024":
-        yield from (*DROP_IN.glob("*.rs"), *HERE.glob("*.rs"), *(TOP / "vectors/adapters").glob("*.rs"))
+        folders = (DROP_IN, HERE, *(TOP / it for it in ("vectors/adapters", "tests/oracle", "bench")))
+        yield from (it for folder in folders for it in folder.glob("*.rs"))
     else:
         yield from (it for name in CRATES for it in (RUST / name).glob("**/*.rs") if "target" not in it.parts)
 
