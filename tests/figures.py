@@ -25,11 +25,11 @@ DEFAULTS = {
     "docs/SHOW.md": [r"`--max-bytes` \((?P<bytes>\d+) by default\)", r"`--depth` \((?P<depth>\d+);"],
     "docs/WEB.md": [r"`--depth` \((?P<depth>\d+), at most", r"`--max-bytes` \((?P<bytes>\d+)\)"],
     "bindings/web/index.html": [r'id="frame"[^>]* value="(?P<bytes>\d+)"', r'id="depth"[^>]* value="(?P<depth>\d+)"'],
-    "bindings/python/amqp_values/__init__.pyi": [r"frame: int = (?P<bytes>\d+),", r"depth: int = (?P<depth>\d+)"],
-    "bindings/python/src/module.c": [r"\bframe=(?P<bytes>\d+)", r"\bdepth=(?P<depth>\d+)"],
-    "docs/PYTHON.md": [r"`frame`, (?P<bytes>\d+)\|", r"`depth`, (?P<depth>\d+)\|"],
-    "bindings/rust/amqp-values/src/limits.rs": [r"bytes: (?P<bytes>1 << \d+), depth: (?P<depth>\d+)"],
-    "bindings/rust/drop_in/limits.rs": [r"bytes: (?P<bytes>1 << \d+), depth: (?P<depth>\d+)"],
+    "bindings/python/amqp_values/__init__.pyi": [r"max_bytes: int = (?P<bytes>\d+),", r"depth: int = (?P<depth>\d+)"],
+    "bindings/python/src/module.c": [r"\bmax_bytes=(?P<bytes>\d+)", r"\bdepth=(?P<depth>\d+)"],
+    "docs/PYTHON.md": [r"`max_bytes`, (?P<bytes>\d+)\|", r"`depth`, (?P<depth>\d+)\|"],
+    "bindings/rust/amqp-values/src/limits.rs": [r"max_bytes: (?P<bytes>1 << \d+), depth: (?P<depth>\d+)"],
+    "bindings/rust/drop_in/limits.rs": [r"max_bytes: (?P<bytes>1 << \d+), depth: (?P<depth>\d+)"],
     "include/amqp_values_rabbitmq.h": [r"AMQPV_MAX_BYTES \((?P<bytes>\d+)\)", r"AMQPV_MAX_DEPTH \((?P<depth>\d+)\)"],
 }
 # What names no version of RabbitMQ that only docs/INTEROP.md may name.

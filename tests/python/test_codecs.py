@@ -92,8 +92,8 @@ def test_options(client: Client) -> None:
     deep = nested("F", 64, b"V")[1:]
     assert type(codec(client).read(deep, 0)[0]) is Headers
     assert isinstance(codec(client, depth=63).read(deep, 0)[0], Refused)
-    assert isinstance(codec(client, frame=len(TWICE)).read(TWICE, 0)[0], Refused)
-    assert type(codec(client, frame=len(TWICE) + 1).read(TWICE, 0)[0]) is Headers
+    assert isinstance(codec(client, max_bytes=len(TWICE)).read(TWICE, 0)[0], Refused)
+    assert type(codec(client, max_bytes=len(TWICE) + 1).read(TWICE, 0)[0]) is Headers
     # (a connection may have larger frames than RabbitMQ's usual one)
     large = raw(("F", {b"k": ("S", b"a" * (FRAME - 12))}))[1:]
     assert len(large) == FRAME - 1 and codec(client).write(codec(client).read(large, 0)[0]) == large

@@ -32,7 +32,7 @@ def test_hostile_arguments(seed: int) -> None:
     make = Random(seed)
     data = own.dumps_table({"a": [1]})
     calls: list[Callable[[Any], Any]] = [
-        lambda it: own.loads(data, depth=it), lambda it: own.loads(data, frame=it), lambda it: own.loads(data, keys=it),
+        lambda it: own.loads(data, depth=it), lambda it: own.loads(data, max_bytes=it), lambda it: own.loads(data, keys=it),
         lambda it: own.loads(data, plain=it), lambda it: own.decode_table(data, it), lambda it: own.find(data, it, table=True),
         lambda it: own.find(data, "a", it, table=True), lambda it: own.loads(it), lambda it: own.decode_table(it),
         lambda it: own.dumps([], depth=it), lambda it: own.dumps([], finite=it), lambda it: own.find(data, table=it),
@@ -192,7 +192,7 @@ def test_memory(name: str) -> None:
     for options in given:
         gc.collect()
         tracemalloc.start()
-        found = own.loads(data, frame=len(data), text="bytes", **options)
+        found = own.loads(data, max_bytes=len(data), text="bytes", **options)
         _, peak = tracemalloc.get_traced_memory()
         tracemalloc.stop()
         assert len(found) == 100_000 // len(value)

@@ -132,7 +132,7 @@ def test_options(name: str) -> None:
     adapter.install(equal_keys="refuse")
     assert isinstance(header.read(TWICE), Refused) and header.write(header.read(TWICE)) == TWICE
     assert error_of(lambda: adapter.install(depth=513)) and isinstance(header.read(TWICE), Refused)
-    adapter.install(frame=10)
+    adapter.install(max_bytes=10)
     assert isinstance(header.read(self_check.of((b"long", b"V"))), Refused)
     adapter.install(raises=True)
     assert isinstance(error := self_check.raised(lambda: header.read(DEEP)), Exception)

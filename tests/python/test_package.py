@@ -82,7 +82,7 @@ def many_inputs(make: Random) -> Iterator[tuple[bytes, bool]]:
 
 def wrong_of(data: bytes, is_table: bool) -> str:
     """What the package makes otherwise of an input than the model, or nothing."""
-    options: dict[str, Any] = {"text": "bytes", "frame": FRAME}
+    options: dict[str, Any] = {"text": "bytes", "max_bytes": FRAME}
     load: Any = own.loads_table if is_table else own.loads
     wanted = predicted_error(data, is_table)
     try:
@@ -164,8 +164,8 @@ def test_large_values() -> None:
         "list": [[it] for it in range(999)],
     }
     data = own.dumps_table(table)
-    assert own.loads_table(data, frame=len(data) + 1) == table
-    assert own_error(lambda: own.loads_table(data, frame=len(data))) == ("too large", 0, 0)
+    assert own.loads_table(data, max_bytes=len(data) + 1) == table
+    assert own_error(lambda: own.loads_table(data, max_bytes=len(data))) == ("too large", 0, 0)
     assert own_error(lambda: own.loads_table(data)) == ("too large", 0, 0)
     for size in [*range(480, 530), *range(1000, 1100)]:
         assert own.loads(own.dumps(["x" * size, {"k" * 255: size}]))[1] == {"k" * 255: size}
@@ -176,10 +176,10 @@ def test_much_memory() -> None:
     table: dict[str, Any] = {f"{it}": None for it in range(100_000)} | {"text": "x" * 2**20}
     data, most = own.dumps_table(table), 2**32 - 1
     assert own.dumps(table) == b"F" + data
-    assert own.loads(b"F" + data, frame=most) == own.loads_table(data, frame=most) == table
-    assert own.decode_table(data, frame=most) == (table, len(data))
-    assert own.find(data, "text", table=True, frame=most) == table["text"]
-    codec = Codec(None, type(None), None, frame=most)
+    assert own.loads(b"F" + data, max_bytes=most) == own.loads_table(data, max_bytes=most) == table
+    assert own.decode_table(data, max_bytes=most) == (table, len(data))
+    assert own.find(data, "text", table=True, max_bytes=most) == table["text"]
+    codec = Codec(None, type(None), None, max_bytes=most)
     assert codec.read(data, 0) == (table, len(data))
     assert codec.write(table) == data
 
@@ -385,10 +385,10 @@ def nest(levels: int) -> list[Any]:
 
 
 BAD_OPTIONS: list[dict[str, Any]] = [
-    {"keys": "ignore"}, {"text": ""}, {"equal_keys": "any"}, {"frame": -1}, {"frame": 2**32}, {"depth": -1},
+    {"keys": "ignore"}, {"text": ""}, {"equal_keys": "any"}, {"max_bytes": -1}, {"max_bytes": 2**32}, {"depth": -1},
 ]  # fmt: skip
 MISTAKES: list[Callable[[], Any]] = [
-    lambda: own.loads(b"V", keys=5), lambda: own.loads(b"V", frame="x"), lambda: own.loads(b"V", depth=1.5),  # type: ignore
+    lambda: own.loads(b"V", keys=5), lambda: own.loads(b"V", max_bytes="x"), lambda: own.loads(b"V", depth=1.5),  # type: ignore
     lambda: own.loads(b"V", table=True), lambda: own.loads(b"V", offset=0), lambda: own.loads(b"V", no=1),  # type: ignore
     lambda: own.loads(), lambda: own.loads(b"V", b"V"), lambda: own.decode_table(b"", 0, 0),  # type: ignore
     lambda: own.dumps(), lambda: own.dumps_table([]), lambda: own.dumps_table(None), lambda: own.find(),  # type: ignore

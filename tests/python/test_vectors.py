@@ -12,7 +12,7 @@ from tests.vectors.cases import CASES, NAMES, Case, none_of
 pytestmark = pytest.mark.usefixtures("deep")
 # The deepest that the package reads and writes.
 DEPTH = 512
-LIMITS: dict[str, Any] = {"frame": 2**32 - 1, "depth": DEPTH}
+LIMITS: dict[str, Any] = {"max_bytes": 2**32 - 1, "depth": DEPTH}
 TOO_DEEP = ("nested-arrays-1000", "nested-tables-1000")
 
 

@@ -30,7 +30,7 @@ OPTIONS: list[dict[str, Any]] = [
     {"text": "bytes"},
     {"plain": True, "text": "surrogateescape", "keys": "surrogateescape"},
     {"keys": "bytes", "text": "bytes", "equal_keys": "first", "signed_decimals": True},
-    {"finite": True, "text": "bytes", "depth": 3, "frame": 200},
+    {"finite": True, "text": "bytes", "depth": 3, "max_bytes": 200},
     {"equal_keys": "refuse", "text": "bytes", "keys": "bytes"},
 ]
 
@@ -73,7 +73,7 @@ def write(value: Any, how: dict[str, Any]) -> None:
     for dump, load in pairs:
         data = quietly(lambda: dump(value, **how))
         if data is not None:
-            load(data, text="bytes", frame=2**32 - 1, keys=how.get("keys", "strict"))
+            load(data, text="bytes", max_bytes=2**32 - 1, keys=how.get("keys", "strict"))
     for it, _, unwritten in CODECS:
         quietly(lambda: it.write({"k": value}), (*unwritten, MemoryError))
 

@@ -20,7 +20,7 @@ NOTHING = object()
 
 def loaded(data: bytes, **options: Any) -> Any:
     """What the package reads."""
-    return own.loads(data, text="bytes", frame=FRAME, **options)
+    return own.loads(data, text="bytes", max_bytes=FRAME, **options)
 
 
 def built(value: Value) -> bytes:
@@ -51,7 +51,7 @@ def dead_lettered(to: str, exchange: str = "") -> dict[str, Value]:
 
 def value_at(data: bytes, *path: bytes | int) -> Value | None:
     """The value at a path, of equal keys by the last; None if there is none."""
-    found = own.find(data, *path, text="bytes", frame=FRAME, default=NOTHING)
+    found = own.find(data, *path, text="bytes", max_bytes=FRAME, default=NOTHING)
     return None if found is NOTHING else form(found)
 
 

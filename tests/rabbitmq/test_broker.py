@@ -727,7 +727,7 @@ def test_frames(connection: Connection, rules: Version, notes: list[str]) -> Non
     notes.append(f"{came}, where {FRAME_MAX} were agreed")
     assert message.frame > FRAME_MAX
     with pytest.raises(own.Error, match="too large"):
-        own.loads(back, frame=FRAME_MAX)
+        own.loads(back, max_bytes=FRAME_MAX)
     assert own.dumps(loaded(without(back, *rules.deaths))) == data
 
 

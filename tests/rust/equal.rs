@@ -71,7 +71,7 @@ fn claimed(call: Call, bytes: &[u8]) -> Option<usize> {
 
 /// Whether the drop-in answers as it has to: as the crate, or by an error if more is claimed than the limit.
 fn is_right(call: Call, bytes: &[u8], theirs: &str, ours: &str) -> bool {
-    let most = drop_in::limits::Limits::DEFAULT.bytes as usize;
+    let most = drop_in::limits::Limits::DEFAULT.max_bytes as usize;
     match claimed(call, bytes) {
         Some(claim) if claim > most => theirs.starts_with("Err(Incomplete(") && ours.starts_with(TOO_LARGE),
         _ => ours == theirs,

@@ -112,7 +112,7 @@ fn nesting_up_to_the_limit_is_read_and_no_deeper() {
 #[test]
 fn bytes_up_to_the_limit_are_read_and_no_more() {
     let (bytes, larger) = (counted(b"\x01kS\0\0\0\x03abc"), counted(b"\x01kS\0\0\0\x04abcd"));
-    let limits = Limits { bytes: 1 + bytes.len() as u32, ..LIMITS };
+    let limits = Limits { max_bytes: 1 + bytes.len() as u32, ..LIMITS };
     under(limits, &[(table, bytes, READ), (table, larger, LARGE), (array, voids(15), ERROR)]);
 }
 
@@ -145,7 +145,7 @@ fn a_process_may_choose_what_a_refused_table_becomes() {
     let key_not_utf8 = counted(b"\x01\xffV");
     let errors = Limits { refused: Refused::Error, ..LIMITS };
     under(errors, &[(table, nested(b'F', 3_000), ERROR), (table, key_not_utf8.clone(), EOF)]);
-    under(Limits { bytes: 34, ..errors }, &[(table, pairs(10), ERROR)]);
+    under(Limits { max_bytes: 34, ..errors }, &[(table, pairs(10), ERROR)]);
     under(Limits { values: 10, ..errors }, &[(table, pairs(10), ERROR)]);
     under(LIMITS, &[(table, key_not_utf8.clone(), EOF)]);
     let rows: [Row<'_>; 3] =

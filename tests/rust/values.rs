@@ -215,7 +215,7 @@ fn is_claim(tagged: &[u8]) -> bool {
         [b'S' | b'x' | b'A' | b'F', length @ ..] => length.first_chunk(),
         _ => None,
     };
-    length.is_some_and(|it| u32::from_be_bytes(*it) > LIMITS.bytes - 5)
+    length.is_some_and(|it| u32::from_be_bytes(*it) > LIMITS.max_bytes - 5)
 }
 
 /// Compares what both say of some bytes.

@@ -4,7 +4,7 @@
 use amqp_values::{Limits, ValueRef, read, read_table};
 use std::io::{Result, stdin};
 
-const LIMITS: Limits = Limits { bytes: u32::MAX, depth: Limits::MOST_DEPTH, values: u32::MAX };
+const LIMITS: Limits = Limits { max_bytes: u32::MAX, depth: Limits::MOST_DEPTH, values: u32::MAX };
 
 fn hex(bytes: impl AsRef<[u8]>) -> String {
     bytes.as_ref().iter().map(|it| format!("{it:02x}")).collect()

@@ -30,8 +30,8 @@ Reading takes these options, by name:
     equal_keys       which of equal keys in a table counts: "last" or "first"; "refuse" for an `Error` instead
     signed_decimals  True for decimals that pika or py-amqp wrote, of 32 bits with a sign
     finite           True to refuse infinities and NaNs, for which RabbitMQ closes the connection
-    depth, frame     how deep containers nest at most, up to MOST_DEPTH, and how many bytes a value has at most, the type tag
-                     of a table counted
+    depth            how deep containers nest at most, up to MOST_DEPTH
+    max_bytes        how many bytes a value has at most, the type tag of a table counted
 
 and writing these:
 
@@ -42,7 +42,8 @@ and writing these:
     depth            how deep containers nest at most
 """
 
-from ._native import DEPTH, FRAME, MOST_DEPTH, __version__, decode_table, dumps, dumps_table, find, loads, loads_table
+from ._native import DEPTH, MAX_BYTES, MOST_DEPTH, __version__
+from ._native import decode_table, dumps, dumps_table, find, loads, loads_table
 from ._types import Encoded, Error, Float, LongInt, LongString, LongUInt
 from ._types import ShortInt, ShortShortInt, ShortShortUInt, ShortUInt, Timestamp
 
@@ -56,11 +57,11 @@ __all__ = [
     "DEPTH",
     "Encoded",
     "Error",
-    "FRAME",
     "Float",
     "LongInt",
     "LongString",
     "LongUInt",
+    "MAX_BYTES",
     "MOST_DEPTH",
     "ShortInt",
     "ShortShortInt",

@@ -9,7 +9,7 @@ __version__: str
 # The largest `depth`, and the default ones.
 MOST_DEPTH: int
 DEPTH: int
-FRAME: int
+MAX_BYTES: int
 
 _Data: TypeAlias = Union[bytes, bytearray, memoryview]
 # What becomes of keys and text that aren't UTF-8.
@@ -41,11 +41,11 @@ __all__ = [
     "DEPTH",
     "Encoded",
     "Error",
-    "FRAME",
     "Float",
     "LongInt",
     "LongString",
     "LongUInt",
+    "MAX_BYTES",
     "MOST_DEPTH",
     "ShortInt",
     "ShortShortInt",
@@ -111,7 +111,7 @@ def loads(
     signed_decimals: bool = False,
     finite: bool = False,
     depth: int = 64,
-    frame: int = 1048576,
+    max_bytes: int = 1048576,
 ) -> Any: ...
 @overload
 def loads_table(
@@ -125,7 +125,7 @@ def loads_table(
     signed_decimals: bool = False,
     finite: bool = False,
     depth: int = 64,
-    frame: int = 1048576,
+    max_bytes: int = 1048576,
 ) -> dict[str, Any]: ...
 @overload
 def loads_table(
@@ -139,7 +139,7 @@ def loads_table(
     signed_decimals: bool = False,
     finite: bool = False,
     depth: int = 64,
-    frame: int = 1048576,
+    max_bytes: int = 1048576,
 ) -> dict[Union[str, bytes], Any]: ...
 @overload
 def decode_table(
@@ -154,7 +154,7 @@ def decode_table(
     signed_decimals: bool = False,
     finite: bool = False,
     depth: int = 64,
-    frame: int = 1048576,
+    max_bytes: int = 1048576,
 ) -> tuple[dict[str, Any], int]: ...
 @overload
 def decode_table(
@@ -169,7 +169,7 @@ def decode_table(
     signed_decimals: bool = False,
     finite: bool = False,
     depth: int = 64,
-    frame: int = 1048576,
+    max_bytes: int = 1048576,
 ) -> tuple[dict[Union[str, bytes], Any], int]: ...
 def find(
     data: _Data,
@@ -184,7 +184,7 @@ def find(
     signed_decimals: bool = False,
     finite: bool = False,
     depth: int = 64,
-    frame: int = 1048576,
+    max_bytes: int = 1048576,
 ) -> Any: ...
 def dumps(
     value: Any,

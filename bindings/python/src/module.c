@@ -23,7 +23,7 @@ static const struct {
     {"signed_decimals", FOR_BOTH, offsetof(Options, has_signed_decimals), NULL, 0, 0},
     {"finite", FOR_BOTH, offsetof(Options, is_finite), NULL, 0, 0},
     {"depth", FOR_BOTH, offsetof(Options, depth), NULL, MOST_DEPTH, 0},
-    {"frame", READ, offsetof(Options, frame), NULL, UINT32_MAX, 0},
+    {"max_bytes", READ, offsetof(Options, max_bytes), NULL, UINT32_MAX, 0},
     {"naive_datetimes", WRITE, offsetof(Options, has_naive_datetimes), NULL, 0, 0},
     {"integers", CLIENT, offsetof(Options, integers), INTEGERS_OF, 0, 0},
     {"ascending", CLIENT, offsetof(Options, is_ascending), NULL, 0, 0},
@@ -38,7 +38,7 @@ static const struct {
     {"offset", DECODE, offsetof(Options, offset), NULL, 0, 1},
 };
 /* The defaults of these. */
-enum { DEFAULT_DEPTH = AMQPV_MAX_DEPTH, DEFAULT_FRAME = AMQPV_MAX_BYTES };
+enum { DEFAULT_DEPTH = AMQPV_MAX_DEPTH, DEFAULT_MAX_BYTES = AMQPV_MAX_BYTES };
 
 static State *state_of(PyObject *module) { return PyModule_GetState(module); }
 
@@ -118,7 +118,7 @@ int take_named(const State *state, const char *function, int of, PyObject *name,
 
 void take_defaults(Options *how) {
     how->depth = DEFAULT_DEPTH;
-    how->frame = DEFAULT_FRAME;
+    how->max_bytes = DEFAULT_MAX_BYTES;
 }
 
 /* Takes the arguments of a function: how many there are, and its options. */
@@ -159,7 +159,7 @@ PyObject *begin_reading(Reader *reader, const State *state, const Options *how, 
         reader->how = how;
         reader->base = 0;
         reader->in = how->is_table ? amqpv_table(content, (size_t)count) : amqpv_value(content, (size_t)count);
-        reader->in.max_bytes = how->frame;
+        reader->in.max_bytes = how->max_bytes;
         reader->in.max_depth = how->depth;
         reader->in.flags |= how->keys != STRICT ? AMQPV_ANY_KEYS : 0;
         reader->in.flags |= how->equal_keys == FIRST_OF_EQUAL_KEYS ? AMQPV_FIRST_KEY : 0;
@@ -324,7 +324,7 @@ static PyObject *dumps_table(PyObject *module, PyObject *const *arguments, Py_ss
     return dumps_by(module, arguments, count, names, 1);
 }
 
-#define READ_OPTIONS "keys='strict', text='strict', plain=False, equal_keys='last', " OPTIONS_OF_BOTH ", frame=1048576"
+#define READ_OPTIONS "keys='strict', text='strict', plain=False, equal_keys='last', " OPTIONS_OF_BOTH ", max_bytes=1048576"
 #define WRITE_OPTIONS "keys='strict', text='strict', naive_datetimes=False, " OPTIONS_OF_BOTH
 #define OPTIONS_OF_BOTH "signed_decimals=False, finite=False, depth=64"
 #define CALL(name, how, doc) \
@@ -433,7 +433,7 @@ static int begin(PyObject *module) {
     return PyModule_AddObjectRef(module, "Codec", state->codec) < 0
                    || PyModule_AddIntConstant(module, "MOST_DEPTH", MOST_DEPTH) < 0
                    || PyModule_AddIntConstant(module, "DEPTH", DEFAULT_DEPTH) < 0
-                   || PyModule_AddIntConstant(module, "FRAME", DEFAULT_FRAME) < 0
+                   || PyModule_AddIntConstant(module, "MAX_BYTES", DEFAULT_MAX_BYTES) < 0
                    || PyModule_AddStringConstant(module, "__version__", AMQPV_VERSION) < 0
                ? -1
                : 0;

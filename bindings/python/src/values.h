@@ -42,7 +42,7 @@ enum { ALWAYS_L = 0, AS_PIKA = 1, AS_PIKA_1_3 = 2, AS_PY_AMQP = 3, SMALLEST = 4 
 
 /* The options of a call, as OPTIONS of module.c has them. The objects are borrowed, and may be NULL. */
 typedef struct {
-    uint32_t keys, text, equal_keys, depth, frame;
+    uint32_t keys, text, equal_keys, depth, max_bytes;
     uint32_t is_plain, is_table, is_finite, has_naive_datetimes, has_signed_decimals;
     /* how a client has it: as a Client of the adapters says */
     uint32_t is_of_client, integers, is_ascending, has_text_of_bytes, has_bytearrays, has_short_decimals;

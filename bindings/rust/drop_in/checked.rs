@@ -78,7 +78,7 @@ pub(crate) fn parse_container<I: ParsableInput, T: Container>(input: I) -> Parse
     let limits = limits::get();
     let (after, length) = parse_long_uint(input.clone())?;
     let length = usize::try_from(length).unwrap_or(usize::MAX);
-    let is_within = length.saturating_add(LENGTH + TAG) <= usize::try_from(limits.bytes).unwrap_or(usize::MAX);
+    let is_within = length.saturating_add(LENGTH + TAG) <= usize::try_from(limits.max_bytes).unwrap_or(usize::MAX);
     if after.input_len() < length && !is_within {
         return Err(error(Refusal::TooLarge));
     }
@@ -100,8 +100,8 @@ pub(crate) fn parse_container<I: ParsableInput, T: Container>(input: I) -> Parse
 }
 
 fn parse_within<T: Container>(bytes: &[u8], limits: Limits) -> Result<Result<T, ParserError>, Refusal> {
-    let Limits { bytes: most, depth, values, .. } = limits;
-    T::check(bytes, amqp_values::Limits { bytes: most, depth, values })?;
+    let Limits { max_bytes: most, depth, values, .. } = limits;
+    T::check(bytes, amqp_values::Limits { max_bytes: most, depth, values })?;
     Ok(T::parse(bytes).map(|(_, value)| value))
 }
 

@@ -11,7 +11,7 @@ static LIMITS: RwLock<Limits> = RwLock::new(Limits::DEFAULT);
 #[derive(Clone, Copy, Debug, PartialEq, Eq)]
 pub struct Limits {
     /// How many bytes it may have, its type tag included.
-    pub bytes: u32,
+    pub max_bytes: u32,
     /// How deep arrays and tables may nest, itself included. More than 4096 is as much as that.
     ///
     /// A thread's stack has to suffice for that: a level takes about 1 KiB, in a debug build 8 KiB.
@@ -24,7 +24,7 @@ pub struct Limits {
 
 impl Limits {
     /// 1 MiB, 64 levels, and 16384 values, which take up to 12 MB.
-    pub const DEFAULT: Self = Self { bytes: 1 << 20, depth: 64, values: 1 << 14, refused: Refused::Marked };
+    pub const DEFAULT: Self = Self { max_bytes: 1 << 20, depth: 64, values: 1 << 14, refused: Refused::Marked };
 }
 
 impl Default for Limits {
@@ -50,7 +50,7 @@ pub enum Refused {
 /// Why an array or a table was refused.
 #[derive(Clone, Copy, Debug, PartialEq, Eq)]
 pub enum Refusal {
-    /// It has more bytes than [`Limits::bytes`].
+    /// It has more bytes than [`Limits::max_bytes`].
     TooLarge,
     /// It nests deeper than [`Limits::depth`].
     TooDeep,

@@ -9,7 +9,7 @@ from importlib import metadata
 from types import ModuleType
 from typing import Any, Literal, NoReturn
 
-from amqp_values import DEPTH, FRAME, Error, _native
+from amqp_values import DEPTH, MAX_BYTES, Error, _native
 from amqp_values.adapters.self_check import Frame, differences, of, probed
 
 EqualKeys = Literal["first", "last", "refuse"]
@@ -88,7 +88,7 @@ class Codec:
         self,
         client: "Client",
         depth: int = DEPTH,
-        frame: int = FRAME,
+        max_bytes: int = MAX_BYTES,
         equal_keys: EqualKeys = "last",
         exact: bool = True,
         raises: bool = False,
@@ -96,7 +96,7 @@ class Codec:
     ) -> None:
         self.client, self.raises = client, raises
         how: dict[str, Any] = {"signed_decimals": True, "depth": depth, "keys": client.keys, "text": "bytes"}
-        how |= {**client.how, **manner, "frame": frame, "equal_keys": equal_keys}
+        how |= {**client.how, **manner, "max_bytes": max_bytes, "equal_keys": equal_keys}
         how |= {"finite": True, "naive_datetimes": True, "others": client.sent}
         native = _native.Codec(self, Headers, Headers if exact else None, **how)
         self.read: Callable[[Any, int], tuple[dict[Any, Any], int]] = native.read
@@ -179,7 +179,7 @@ class Client:
         self,
         *,
         depth: int = DEPTH,
-        frame: int = FRAME,
+        max_bytes: int = MAX_BYTES,
         equal_keys: EqualKeys = "last",
         exact: bool = True,
         raises: bool = False,
@@ -188,7 +188,7 @@ class Client:
 
         If it raises an exception, nothing has changed: the client has its own codec, or that of an earlier `install`.
         """
-        options: dict[str, Any] = {"depth": depth, "frame": frame, "equal_keys": equal_keys, "exact": exact}
+        options: dict[str, Any] = {"depth": depth, "max_bytes": max_bytes, "equal_keys": equal_keys, "exact": exact}
         options |= {"raises": raises}
         Codec(self, **options)
         self.warn()

@@ -19,7 +19,7 @@ fn input(bytes: &[u8], flags: u32, limits: Limits) -> amqpv_input {
     amqpv_input {
         bytes: bytes.as_ptr(),
         length: bytes.len(),
-        max_bytes: limits.bytes,
+        max_bytes: limits.max_bytes,
         max_depth: limits.depth.min(Limits::MOST_DEPTH),
         flags,
     }
@@ -154,7 +154,7 @@ impl Body<'_> {
         let (buffer, capacity, into) = (self.buffer.as_mut_ptr(), self.buffer.len(), &mut self.into);
         let (key, key_length) = (key.as_ptr(), key.len());
         // a value that was read is within the most that limits can be
-        let most = Limits { bytes: u32::MAX, depth: Limits::MOST_DEPTH, values: u32::MAX };
+        let most = Limits { max_bytes: u32::MAX, depth: Limits::MOST_DEPTH, values: u32::MAX };
         // SAFETY: the buffer can be written, the key and what is put can be read, and `into` is borrowed alone
         let result = unsafe {
             match value.payload() {

@@ -37,7 +37,7 @@ pub enum ProblemKind {
     KeyNotUtf8,
     /// A container nests deeper than [`Limits::depth`](crate::Limits::depth).
     TooDeep,
-    /// The value has more bytes than [`Limits::bytes`](crate::Limits::bytes).
+    /// The value has more bytes than [`Limits::max_bytes`](crate::Limits::max_bytes).
     TooLarge,
     /// More values are written in it than [`Limits::values`](crate::Limits::values).
     TooManyValues,

@@ -4,7 +4,7 @@
 #[derive(Clone, Copy, Debug, PartialEq, Eq)]
 pub struct Limits {
     /// How many bytes it may have, its type tag included.
-    pub bytes: u32,
+    pub max_bytes: u32,
     /// How deep arrays and tables may nest, itself included. More than [`Limits::MOST_DEPTH`] is as much as that.
     pub depth: u32,
     /// How many values may be written in it, itself included.
@@ -13,7 +13,7 @@ pub struct Limits {
 
 impl Limits {
     /// 1 MiB, 64 levels, and 16384 values: limits that suit untrusted bytes.
-    pub const DEFAULT: Self = Self { bytes: 1 << 20, depth: 64, values: 1 << 14 };
+    pub const DEFAULT: Self = Self { max_bytes: 1 << 20, depth: 64, values: 1 << 14 };
 
     /// The most levels: the stack that they take is less than the 2 MiB that a thread of `std` has.
     pub const MOST_DEPTH: u32 = 4096;

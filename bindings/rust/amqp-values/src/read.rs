@@ -16,7 +16,7 @@ pub fn read(bytes: &[u8], limits: Limits) -> Result<(ValueRef<'_>, &[u8]), Error
 }
 
 /// Reads the table without its type tag at the start of the bytes, as methods and content headers have it: its length, then
-/// its pairs. [`Limits::bytes`] counts the tag as if it were there.
+/// its pairs. [`Limits::max_bytes`] counts the tag as if it were there.
 ///
 /// # Errors
 ///

@@ -105,7 +105,7 @@ fn what_was_read_within_larger_limits_is_put() {
     for _ in 0..100 {
         bytes = [&b"A"[..], &(bytes.len() as u32).to_be_bytes(), &bytes].concat();
     }
-    let (value, _) = read(&bytes, Limits { bytes: u32::MAX, depth: 100, values: u32::MAX }).unwrap();
+    let (value, _) = read(&bytes, Limits { max_bytes: u32::MAX, depth: 100, values: u32::MAX }).unwrap();
     let mut buffer = vec![0; bytes.len() + 6];
     let mut built = TableBuilder::new(&mut buffer).unwrap();
     built.put("k", value).unwrap();

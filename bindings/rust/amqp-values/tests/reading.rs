@@ -125,10 +125,10 @@ fn a_problem_has_its_offset() {
 #[test]
 fn values_up_to_a_limit_are_read_and_no_more() {
     let bytes = counted(b'A', b"VVVVVVVVV");
-    let limits = Limits { bytes: bytes.len() as u32, depth: 1, values: 10 };
+    let limits = Limits { max_bytes: bytes.len() as u32, depth: 1, values: 10 };
     assert!(read(&bytes, limits).is_ok() && check(&bytes, limits).is_ok());
     for (limits, kind) in [
-        (Limits { bytes: limits.bytes - 1, ..limits }, ProblemKind::TooLarge),
+        (Limits { max_bytes: limits.max_bytes - 1, ..limits }, ProblemKind::TooLarge),
         (Limits { depth: 0, ..limits }, ProblemKind::TooDeep),
         (Limits { values: 9, ..limits }, ProblemKind::TooManyValues),
     ] {
@@ -136,7 +136,7 @@ fn values_up_to_a_limit_are_read_and_no_more() {
         assert_eq!(problem(check(&bytes, limits)), Some((kind, 0)));
     }
     let tables = counted(b'F', b"\x01kV\x01kV");
-    let limits = Limits { bytes: tables.len() as u32, depth: 1, values: 3 };
+    let limits = Limits { max_bytes: tables.len() as u32, depth: 1, values: 3 };
     assert!(read_table(&tables[1..], limits).is_ok() && check_table(&tables[1..], limits).is_ok());
     let fewer = Limits { values: 2, ..limits };
     assert_eq!(problem(read_table(&tables[1..], fewer)), Some((ProblemKind::TooManyValues, 0)));
@@ -145,7 +145,7 @@ fn values_up_to_a_limit_are_read_and_no_more() {
 
 #[test]
 fn no_nesting_ends_a_thread() {
-    let limits = Limits { bytes: u32::MAX, depth: u32::MAX, values: u32::MAX };
+    let limits = Limits { max_bytes: u32::MAX, depth: u32::MAX, values: u32::MAX };
     let most = Limits::MOST_DEPTH as usize;
     let worker = std::thread::Builder::new().stack_size(2 << 20).spawn(move || {
         let deepest = check_table(&nested(most)[1..], limits).map(|it| it.levels);
@@ -173,7 +173,7 @@ fn stated(before: &str) -> usize {
 fn the_stack_that_limits_state_suffices() {
     let (besides, a_level) = (stated("stack has to suffice: "), stated("each level of `depth` "));
     for depth in [64, Limits::MOST_DEPTH] {
-        let limits = Limits { bytes: u32::MAX, depth, values: u32::MAX };
+        let limits = Limits { max_bytes: u32::MAX, depth, values: u32::MAX };
         let stack = (besides << 10) + a_level * depth as usize;
         let worker = std::thread::Builder::new().stack_size(stack).spawn(move || {
             for levels in [depth as usize, depth as usize + 1] {
