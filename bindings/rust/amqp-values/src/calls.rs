@@ -75,12 +75,13 @@ pub(crate) fn measure(bytes: &[u8], flags: u32, limits: Limits) -> Result<Measur
 /// The first problem by RabbitMQ's rules.
 pub(crate) fn problem_for_rabbitmq(bytes: &[u8], flags: u32, limits: Limits) -> Option<Problem> {
     match checked(amqpv_read, bytes, flags | AMQPV_RABBITMQ, limits).err()? {
-        Error::Incomplete { .. } => Some(Problem { offset: 0, kind: ProblemKind::Cut }),
         Error::Problem(problem) => Some(problem),
+        // (Error::Incomplete: reading doesn't allocate)
+        _ => Some(Problem { offset: 0, kind: ProblemKind::Cut }),
     }
 }
 
-/// What others than RabbitMQ may not accept, if there is anything.
+/// What others may not accept of a value that RabbitMQ accepts, if there is anything.
 #[cfg(feature = "std")]
 pub(crate) fn warn(
     bytes: &[u8],
@@ -88,7 +89,9 @@ pub(crate) fn warn(
     limits: Limits,
     frame_max: u32,
     levels: u32,
-) -> Result<Option<amqpv_warnings>, crate::OutOfMemory> {
+) -> Result<Option<amqpv_warnings>, Error> {
+    // what isn't a value would have no warnings
+    checked(amqpv_read, bytes, flags | AMQPV_RABBITMQ, limits)?;
     // a level takes more stack than one of reading
     let limits = Limits { depth: limits.depth.min(Limits::MOST_DEPTH / 4), ..limits };
     let mut warnings = amqpv_warnings::default();
@@ -97,7 +100,7 @@ pub(crate) fn warn(
         AMQPV_OK => Ok(Some(warnings)),
         AMQPV_NONE => Ok(None),
         // AMQPV_NO_MEMORY: the flags are known
-        _ => Err(crate::OutOfMemory),
+        _ => Err(Error::OutOfMemory),
     }
 }
 

@@ -10,6 +10,8 @@ pub enum Error {
     },
     /// The bytes are no value, or one that is beyond the limits.
     Problem(Problem),
+    /// There isn't enough memory. Only calls that allocate return it, which need the feature `std`.
+    OutOfMemory,
 }
 
 /// Something in a value that isn't allowed.
@@ -58,16 +60,12 @@ pub enum WriteError {
     TooLarge,
 }
 
-/// There isn't enough memory.
-#[cfg(feature = "std")]
-#[derive(Clone, Copy, Debug, PartialEq, Eq)]
-pub struct OutOfMemory;
-
 impl fmt::Display for Error {
     fn fmt(&self, f: &mut fmt::Formatter<'_>) -> fmt::Result {
         match self {
             Self::Incomplete { missing } => write!(f, "{missing} more bytes are needed"),
             Self::Problem(problem) => problem.fmt(f),
+            Self::OutOfMemory => f.write_str("out of memory"),
         }
     }
 }
@@ -104,16 +102,7 @@ impl fmt::Display for WriteError {
 }
 
 #[cfg(feature = "std")]
-impl fmt::Display for OutOfMemory {
-    fn fmt(&self, f: &mut fmt::Formatter<'_>) -> fmt::Result {
-        f.write_str("out of memory")
-    }
-}
-
-#[cfg(feature = "std")]
 impl std::error::Error for Error {}
-#[cfg(feature = "std")]
-impl std::error::Error for OutOfMemory {}
 #[cfg(feature = "std")]
 impl std::error::Error for Problem {}
 #[cfg(feature = "std")]

@@ -39,8 +39,6 @@ mod read;
 mod value;
 
 pub use build::{ArrayBuilder, TableBuilder};
-#[cfg(feature = "std")]
-pub use error::OutOfMemory;
 pub use error::{Error, Problem, ProblemKind, WriteError};
 pub use iter::{ArrayValues, TablePairs};
 pub use limits::{Limits, Measure};

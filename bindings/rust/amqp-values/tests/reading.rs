@@ -155,8 +155,13 @@ fn no_nesting_ends_a_thread() {
             assert_eq!(problem(check_table(&bytes[1..], limits)).map(|it| it.0), Some(ProblemKind::TooDeep));
             assert_eq!(problem(read(&bytes, limits)).map(|it| it.0), Some(ProblemKind::TooDeep));
             assert_eq!(rabbitmq::first_problem(&bytes, limits).map(|it| it.kind), Some(ProblemKind::TooDeep));
-            assert_eq!(rabbitmq::warnings(&bytes, limits, 0, u32::MAX).unwrap().too_deep, Some(1024 * 6));
+            assert_eq!(
+                problem(rabbitmq::warnings(&bytes, limits, 0, u32::MAX)).map(|it| it.0),
+                Some(ProblemKind::TooDeep)
+            );
         }
+        let warnings = rabbitmq::warnings_in_table(&nested(most)[1..], limits, 0, u32::MAX).unwrap();
+        assert_eq!(warnings.too_deep, Some(1024 * 6 - 1));
     });
     worker.unwrap().join().expect("the thread ends well");
 }
@@ -219,6 +224,32 @@ fn warnings_are_of_what_rabbitmq_accepts() {
     assert_eq!((found.repeated_key, found.key_not_utf8, found.empty_key), (Some(13), Some(8), Some(11)));
     assert_eq!((found.too_deep, found.decimal, found.nested_header), (Some(15), Some(22), Some(15)));
     assert!(found.exceeds_frame);
+}
+
+#[test]
+fn only_what_rabbitmq_accepts_has_warnings() {
+    let warned = |bytes: &[u8]| rabbitmq::warnings(bytes, LIMITS, 0, rabbitmq::CLIENT_LEVELS);
+    let in_table = |bytes: &[u8]| rabbitmq::warnings_in_table(bytes, LIMITS, 0, rabbitmq::CLIENT_LEVELS);
+    // headers as they come, without a type tag
+    let headers = &counted(b'F', b"\x01kA\0\0\0\0")[1..];
+    assert_eq!(problem(warned(headers)), Some((ProblemKind::UnknownTag(0), 0)));
+    assert_eq!(in_table(headers).unwrap().nested_header, Some(6));
+    for (bytes, kind, offset) in [
+        (&b"F\0\0\0\x05\x01kU\0\0"[..], ProblemKind::UnknownTag(b'U'), 7),
+        (b"F\0\0\0\x07\x01kf\x7f\x80\0\0", ProblemKind::NotFinite, 7),
+        (b"F\0\0\0\x03\x01kI", ProblemKind::Cut, 7),
+        (b"S\xff\xff\xff\xff", ProblemKind::TooLarge, 0),
+    ] {
+        assert_eq!(problem(warned(bytes)), Some((kind, offset)));
+        if let [b'F', table @ ..] = bytes {
+            assert_eq!(problem(in_table(table)), Some((kind, offset - 1)));
+        }
+    }
+    assert_eq!(warned(b"F\0\0\0\x05\x01k"), Err(Error::Incomplete { missing: 3 }));
+    assert_eq!(in_table(b"\0\0\0"), Err(Error::Incomplete { missing: 1 }));
+    let shallow = Limits { depth: 1, ..LIMITS };
+    let found = rabbitmq::warnings_in_table(headers, shallow, 0, 0);
+    assert_eq!(problem(found), Some((ProblemKind::TooDeep, 6)));
 }
 
 #[test]
