@@ -15,7 +15,9 @@ static char *word(void) {
     return found != NULL ? found : (char *)"-";
 }
 
-static uint64_t number(void) { return strtoull(word(), NULL, 0); }
+static uint64_t number(void) {
+    return strtoull(word(), NULL, 0);
+}
 
 /* The bytes of the next word, with a NUL after them if they are a key; NULL for `-`. */
 static uint8_t *bytes(size_t *length, size_t after) {
@@ -104,8 +106,8 @@ static void convert(void) {
     amqpv_result results[] = {amqpv_as_bool(&entry, &truth), amqpv_as_timestamp(&entry, &seconds),
                               amqpv_as_decimal(&entry, &digits, &scale), amqpv_as_double(&entry, &real)};
     memcpy(&bits, &real, sizeof bits);
-    printf("%d %d %d %" PRIu64 " %d %" PRIu32 " %d %d %" PRIu64 "\n", results[0], truth, results[1], seconds,
-           results[2], digits, scale, results[3], bits);
+    printf("%d %d %d %" PRIu64 " %d %" PRIu32 " %d %d %" PRIu64 "\n", results[0], truth, results[1], seconds, results[2],
+           digits, scale, results[3], bits);
 }
 
 /* The places of an entry's key and content, of which any numbers are given, in so many bytes. */

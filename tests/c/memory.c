@@ -47,7 +47,9 @@ static size_t of_digits(const char *digits, uint8_t *bytes) {
     return n;
 }
 
-static int is_call(const char *name) { return strcmp(call, name) == 0; }
+static int is_call(const char *name) {
+    return strcmp(call, name) == 0;
+}
 
 /* Makes the call with a buffer of n bytes; nothing after or before what it writes may change, and no block may be left. */
 static amqpv_result make_call(size_t n, size_t *length) {
@@ -91,8 +93,7 @@ int main(void) {
     while (fgets(line, sizeof line, stdin) != NULL) {
         size_t length;
         unsigned of_line;
-        CHECK(sscanf(line, "%31s %u .%s .%s", call, &of_line, given, out) >= 3
-              || sscanf(line, "%31s %u . .%s", call, &of_line, out) == 3);
+        CHECK(sscanf(line, "%31s %u .%s .%s", call, &of_line, given, out) >= 3 || sscanf(line, "%31s %u . .%s", call, &of_line, out) == 3);
         flags = of_line;
         given_length = of_digits(given, bytes);
         memcpy(given_end - given_length, bytes, given_length);

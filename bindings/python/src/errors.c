@@ -60,9 +60,7 @@ void add_step(const State *state, PyObject *step) {
     PyErr_Fetch(&type, &error, &trace);
     PyErr_NormalizeException(&type, &error, &trace);
     /* (plain, since a subclass of str may have methods of its own) */
-    PyObject *plain = PyUnicode_Check(step) ? PyUnicode_FromObject(step)
-                      : PyBytes_Check(step) ? PyBytes_FromObject(step)
-                                            : NULL;
+    PyObject *plain = PyUnicode_Check(step) ? PyUnicode_FromObject(step) : PyBytes_Check(step) ? PyBytes_FromObject(step) : NULL;
     if (plain == NULL && !PyUnicode_Check(step) && !PyBytes_Check(step)) {
         Py_INCREF(step);
         plain = step;
@@ -91,16 +89,12 @@ void raise_type(const State *state, const char *what, PyObject *object) {
     Py_XDECREF(name);
 }
 
-void raise_problem(const State *state, const amqpv_input *in, size_t base, amqpv_result result,
-                   const amqpv_problem *problem) {
+void raise_problem(const State *state, const amqpv_input *in, size_t base, amqpv_result result, const amqpv_problem *problem) {
     size_t offset = base + problem->offset, missing = problem->missing;
     switch (result) {
-    case AMQPV_MORE:
-        raise_error(state, "cut", offset, missing, "%zu more byte%s", missing, missing == 1 ? "" : "s");
-        break;
+    case AMQPV_MORE: raise_error(state, "cut", offset, missing, "%zu more byte%s", missing, missing == 1 ? "" : "s"); break;
     case AMQPV_UNKNOWN_TAG:
-        raise_error(state, "unknown tag", offset, 0, "one of the type tags tbBsUuIilLfdDSxAFTV, not byte %d",
-                    problem->tag);
+        raise_error(state, "unknown tag", offset, 0, "one of the type tags tbBsUuIilLfdDSxAFTV, not byte %d", problem->tag);
         break;
     case AMQPV_KEY_CUT: raise_error(state, "key cut", offset, 0, "a whole key inside its table"); break;
     case AMQPV_KEY_NOT_UTF8: raise_error(state, "key not UTF-8", offset, 0, "bytes in UTF-8"); break;

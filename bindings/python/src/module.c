@@ -40,11 +40,12 @@ static const struct {
 /* The defaults of these. */
 enum { DEFAULT_DEPTH = AMQPV_MAX_DEPTH, DEFAULT_MAX_BYTES = AMQPV_MAX_BYTES };
 
-static State *state_of(PyObject *module) { return PyModule_GetState(module); }
+static State *state_of(PyObject *module) {
+    return PyModule_GetState(module);
+}
 
 /* An integer from 0 to another, whose option has a name. */
-static int limit_of(const State *state, const char *name, PyObject *value, unsigned long long most,
-                    unsigned long long *limit) {
+static int limit_of(const State *state, const char *name, PyObject *value, unsigned long long most, unsigned long long *limit) {
     int overflows;
     PyObject *number = PyNumber_Index(value);
     if (number == NULL) {
@@ -122,8 +123,8 @@ void take_defaults(Options *how) {
 }
 
 /* Takes the arguments of a function: how many there are, and its options. */
-static int take(const State *state, const char *name, Py_ssize_t most, int of, PyObject *const *arguments,
-                Py_ssize_t count, PyObject *names, Options *how) {
+static int take(const State *state, const char *name, Py_ssize_t most, int of, PyObject *const *arguments, Py_ssize_t count,
+                PyObject *names, Options *how) {
     Py_ssize_t named = names != NULL ? PyTuple_Size(names) : 0;
     take_defaults(how);
     if (count < 1 || count > most) {
@@ -197,8 +198,7 @@ static int read_whole(const Reader *reader, amqpv_entry *entry) {
     return 1;
 }
 
-static PyObject *loads_by(PyObject *module, PyObject *const *arguments, Py_ssize_t count, PyObject *names,
-                          int is_table) {
+static PyObject *loads_by(PyObject *module, PyObject *const *arguments, Py_ssize_t count, PyObject *names, int is_table) {
     const State *state = state_of(module);
     Options how = {.is_table = (uint32_t)is_table};
     Reader reader;
@@ -305,8 +305,7 @@ static PyObject *find(PyObject *module, PyObject *const *arguments, Py_ssize_t c
     return documented(state, made);
 }
 
-static PyObject *dumps_by(PyObject *module, PyObject *const *arguments, Py_ssize_t count, PyObject *names,
-                          int is_table) {
+static PyObject *dumps_by(PyObject *module, PyObject *const *arguments, Py_ssize_t count, PyObject *names, int is_table) {
     const State *state = state_of(module);
     Options how = {.is_table = (uint32_t)is_table};
     PyObject *made = NULL;
@@ -327,7 +326,7 @@ static PyObject *dumps_table(PyObject *module, PyObject *const *arguments, Py_ss
 #define READ_OPTIONS "keys='strict', text='strict', plain=False, equal_keys='last', " OPTIONS_OF_BOTH ", max_bytes=1048576"
 #define WRITE_OPTIONS "keys='strict', text='strict', naive_datetimes=False, " OPTIONS_OF_BOTH
 #define OPTIONS_OF_BOTH "signed_decimals=False, finite=False, depth=64"
-#define CALL(name, how, doc) \
+#define CALL(name, how, doc)                                                                                                     \
     { #name, (PyCFunction)(void (*)(void))name, METH_FASTCALL | METH_KEYWORDS, #name how "\n--\n\n" doc }
 
 static PyMethodDef FUNCTIONS[] = {
@@ -341,31 +340,28 @@ static PyMethodDef FUNCTIONS[] = {
          "{'a': True}\n"
          ">>> loads_table(b'\\0\\0\\0\\4\\1\\xfft\\1', keys='bytes')\n"
          "{b'\\xff': True}\n"),
-    CALL(
-        decode_table, "($module, data, /, offset=0, *, " READ_OPTIONS ")",
-        "The table without its type tag that begins at an offset, and the offset of its end. Offsets of an Error count\n"
-        "from the start of the data.\n\n"
-        ">>> decode_table(b'..\\0\\0\\0\\4\\1at\\1..', 2)\n"
-        "({'a': True}, 10)\n"),
-    CALL(
-        find, "($module, data, /, *path, table=False, default=None, " READ_OPTIONS ")",
-        "The value at a path, keys into tables and indexes from 0 into arrays, or the default if there is none. Nothing\n"
-        "else is built, but all of the data is checked as loads, or with table=True loads_table, checks it; of equal keys\n"
-        "it takes the same as these.\n\n"
-        ">>> data = dumps_table({'x-death': [{'queue': 'orders', 'count': 3}]})\n"
-        ">>> find(data, 'x-death', 0, 'queue', table=True)\n"
-        "'orders'\n"
-        ">>> find(data, 'x-death', 1, 'queue', table=True, default='nowhere')\n"
-        "'nowhere'\n"),
+    CALL(decode_table, "($module, data, /, offset=0, *, " READ_OPTIONS ")",
+         "The table without its type tag that begins at an offset, and the offset of its end. Offsets of an Error count\n"
+         "from the start of the data.\n\n"
+         ">>> decode_table(b'..\\0\\0\\0\\4\\1at\\1..', 2)\n"
+         "({'a': True}, 10)\n"),
+    CALL(find, "($module, data, /, *path, table=False, default=None, " READ_OPTIONS ")",
+         "The value at a path, keys into tables and indexes from 0 into arrays, or the default if there is none. Nothing\n"
+         "else is built, but all of the data is checked as loads, or with table=True loads_table, checks it; of equal keys\n"
+         "it takes the same as these.\n\n"
+         ">>> data = dumps_table({'x-death': [{'queue': 'orders', 'count': 3}]})\n"
+         ">>> find(data, 'x-death', 0, 'queue', table=True)\n"
+         "'orders'\n"
+         ">>> find(data, 'x-death', 1, 'queue', table=True, default='nowhere')\n"
+         "'nowhere'\n"),
     CALL(dumps, "($module, value, /, *, " WRITE_OPTIONS ")",
          "The bytes of a value, with its type tag; the keys of tables are in their order.\n\n"
          ">>> dumps([None, ShortInt(-2)])\n"
          "b'A\\x00\\x00\\x00\\x04Vs\\xff\\xfe'\n"),
-    CALL(
-        dumps_table, "($module, mapping, /, *, " WRITE_OPTIONS ")",
-        "The bytes of a table without its type tag, as methods and content headers have it: its length, then its pairs.\n\n"
-        ">>> dumps_table({'a': True})\n"
-        "b'\\x00\\x00\\x00\\x04\\x01at\\x01'\n"),
+    CALL(dumps_table, "($module, mapping, /, *, " WRITE_OPTIONS ")",
+         "The bytes of a table without its type tag, as methods and content headers have it: its length, then its pairs.\n\n"
+         ">>> dumps_table({'a': True})\n"
+         "b'\\x00\\x00\\x00\\x04\\x01at\\x01'\n"),
     {NULL, NULL, 0, NULL}};
 
 /* Imports an attribute of a module, or one of that. */
@@ -387,16 +383,13 @@ static int begin(PyObject *module) {
         }
     }
     if ((state->error = imported(types, "Error")) == NULL || (state->integer = imported(types, "_Integer")) == NULL
-        || (state->of_float = imported(types, "Float")) == NULL
-        || (state->long_string = imported(types, "LongString")) == NULL
-        || (state->encoded = imported(types, "Encoded")) == NULL
-        || (state->decimal = imported("decimal", "Decimal")) == NULL
+        || (state->of_float = imported(types, "Float")) == NULL || (state->long_string = imported(types, "LongString")) == NULL
+        || (state->encoded = imported(types, "Encoded")) == NULL || (state->decimal = imported("decimal", "Decimal")) == NULL
         || (state->as_tuple = PyObject_GetAttrString(state->decimal, "as_tuple")) == NULL
         || (state->datetime = imported("datetime", "datetime")) == NULL
         || (state->utc_offset = PyObject_GetAttrString(state->datetime, "utcoffset")) == NULL
         || (state->timedelta = imported("datetime", "timedelta")) == NULL
-        || (state->of_empty_key = imported(types, "_OF_EMPTY_KEY")) == NULL
-        || (state->codec = codec_type(module)) == NULL
+        || (state->of_empty_key = imported(types, "_OF_EMPTY_KEY")) == NULL || (state->codec = codec_type(module)) == NULL
         || (state->mapping = imported("collections.abc", "Mapping")) == NULL
         || (state->sequence = imported("collections.abc", "Sequence")) == NULL
         || (state->items = PyUnicode_InternFromString("items")) == NULL
@@ -425,8 +418,8 @@ static int begin(PyObject *module) {
     state->new_timedelta = (newfunc)(uintptr_t)PyType_GetSlot((PyTypeObject *)state->timedelta, Py_tp_new);
     state->add = (binaryfunc)(uintptr_t)PyType_GetSlot((PyTypeObject *)state->datetime, Py_nb_add);
     state->subtract = (binaryfunc)(uintptr_t)PyType_GetSlot((PyTypeObject *)state->datetime, Py_nb_subtract);
-    if (state->new_error == NULL || state->new_integer == NULL || state->new_float == NULL
-        || state->new_timedelta == NULL || state->add == NULL || state->subtract == NULL) {
+    if (state->new_error == NULL || state->new_integer == NULL || state->new_float == NULL || state->new_timedelta == NULL
+        || state->add == NULL || state->subtract == NULL) {
         PyErr_SetString(PyExc_ImportError, "amqp_values needs the types of CPython");
         return -1;
     }
@@ -465,7 +458,9 @@ static int clear_state(PyObject *module) {
     return 0;
 }
 
-static void free_state(void *module) { clear_state(module); }
+static void free_state(void *module) {
+    clear_state(module);
+}
 
 static PyModuleDef_Slot SLOTS[] = {{Py_mod_exec, (void *)(uintptr_t)begin}, {0, NULL}};
 static PyModuleDef MODULE = {.m_base = PyModuleDef_HEAD_INIT,
@@ -477,4 +472,6 @@ static PyModuleDef MODULE = {.m_base = PyModuleDef_HEAD_INIT,
                              .m_clear = clear_state,
                              .m_free = free_state};
 
-PyMODINIT_FUNC PyInit__native(void) { return PyModuleDef_Init(&MODULE); }
+PyMODINIT_FUNC PyInit__native(void) {
+    return PyModuleDef_Init(&MODULE);
+}

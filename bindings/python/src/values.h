@@ -78,8 +78,7 @@ void add_step(const State *state, PyObject *step);
 void raise_type(const State *state, const char *what, PyObject *object);
 
 /* Raises what is wrong with an input that isn't read, before which there are `base` bytes. */
-void raise_problem(const State *state, const amqpv_input *in, size_t base, amqpv_result result,
-                   const amqpv_problem *problem);
+void raise_problem(const State *state, const amqpv_input *in, size_t base, amqpv_result result, const amqpv_problem *problem);
 
 /* Bytes that are read, how many are before them, and by which options. */
 typedef struct {
