@@ -475,6 +475,26 @@ def test_the_error_is_copied_with_what_it_has() -> None:
     assert issubclass(own.Error, ValueError)
 
 
+def test_a_table_without_its_type_tag_is_recognized() -> None:
+    """If a value is expected, which doesn't begin with a zero, the error says what reads it; inside of a value it doesn't."""
+    table = own.dumps_table({"a": 1})
+    of_calls: list[tuple[Callable[[], Any], str]] = [
+        (lambda: own.loads(table), "loads_table, or table=True"),
+        (lambda: own.find(table, "a"), "loads_table, or table=True"),
+        (lambda: own.dumps([own.Encoded(table)]), "Encoded(b'F' + table)"),
+    ]
+    for call, hint in of_calls:
+        with pytest.raises(own.Error) as found:
+            call()
+        assert found.value.kind == "unknown tag"
+        assert found.value.expected.endswith(f", not byte 0: a table without its type tag? {hint}")
+    for data in (b"\7", field(b"A", b"\0")):
+        with pytest.raises(own.Error) as found:
+            own.loads(data)
+        assert found.value.expected.endswith(f", not byte {data[-1]}")
+    assert own.dumps(own.Encoded(b"F" + table)) == b"F" + table
+
+
 KIND = re.compile(r"(?ms)^_Kind: TypeAlias = Literal\[\n(.*?)^\]")
 
 

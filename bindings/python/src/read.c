@@ -48,7 +48,7 @@ int read_entry(const Reader *reader, amqpv_entry *entry) {
     amqpv_problem problem;
     amqpv_result result = amqpv_read(&reader->in, entry, &problem);
     if (result != AMQPV_OK) {
-        raise_problem(reader->state, &reader->in, reader->base, result, &problem);
+        raise_problem(reader->state, &reader->in, reader->base, result, &problem, "loads_table, or table=True");
         return 0;
     }
     return reader->how->equal_keys != REFUSE_EQUAL_KEYS || has_each_key_once(reader, entry);

@@ -353,7 +353,7 @@ static int put_encoded(Writer *writer, const Place *place, const char *bytes, si
     in.max_depth = place->levels;
     amqpv_result result = amqpv_read(&in, &entry, &problem);
     if (result != AMQPV_OK) {
-        raise_problem(writer->state, &in, offset_in(writer, place), result, &problem);
+        raise_problem(writer->state, &in, offset_in(writer, place), result, &problem, "Encoded(b'F' + table)");
         return 0;
     }
     if (entry.value.length != length) {

@@ -72,7 +72,13 @@ impl fmt::Display for Error {
 
 impl fmt::Display for Problem {
     fn fmt(&self, f: &mut fmt::Formatter<'_>) -> fmt::Result {
-        write!(f, "{}, at {}", self.kind, self.offset)
+        write!(f, "{}, at {}", self.kind, self.offset)?;
+        match self {
+            Self { kind: ProblemKind::UnknownTag(0), offset: 0 } => {
+                f.write_str(": a table without its type tag? `read_table` and calls like it take one")
+            }
+            _ => Ok(()),
+        }
     }
 }
 

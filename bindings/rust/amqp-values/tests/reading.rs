@@ -270,3 +270,12 @@ fn errors_are_those_of_std() {
     };
     assert_eq!(failed().unwrap_err().to_string(), "unknown type tag 0x7a, at 5");
 }
+
+#[test]
+fn a_table_without_its_type_tag_is_recognized() {
+    let said = |bytes: &[u8]| read(bytes, LIMITS).unwrap_err().to_string();
+    let hint = ": a table without its type tag? `read_table` and calls like it take one";
+    assert_eq!(said(b"\0\0\0\0"), format!("unknown type tag 0x00, at 0{hint}"));
+    assert_eq!(said(b"A\0\0\0\x01\0"), "unknown type tag 0x00, at 5");
+    assert_eq!(said(b"\x01"), "unknown type tag 0x01, at 0");
+}
