@@ -54,12 +54,18 @@ def test_version(name: str) -> None:
     assert {*versions} == {*version}
 
 
-def test_stack_of_limits() -> None:
-    """The stack that limits.rs states for each level is that of the header, on both processors; tests/c/nested.c takes no more."""
-    rows = dict(re.findall(r"(?m)^ \*     (amqpv_[\w, ]*\w) +(\d+ +\d+)$", HEADER.read_text()))
-    figures = next(it.split() for names, it in rows.items() if "amqpv_read" in names.split(", "))
-    text = (RUST / "amqp-values/src/limits.rs").read_text()
-    assert re.findall(r"level of `depth` (\d+) bytes on x86-64, (\d+) on aarch64", text) == [(*figures,)]
+# The modules that state the stack for each level, and the calls for C that take it.
+STATED = {"limits": ("read", "measure"), "json": ("to_json", "from_json"), "rabbitmq": ("warn",)}
+
+
+@pytest.mark.parametrize("module", STATED)
+def test_stack(module: str) -> None:
+    """The stack that is stated for each level is that of the header, on both processors; tests/c/nested.c takes no more."""
+    rows = re.findall(r"(?m)^ \*     (amqpv_[\w, ]*\w) +(\d+) +(\d+)$", HEADER.read_text())
+    figures = {name: found for names, *found in rows for name in names.split(", ")}
+    text = " ".join(re.sub(r"(?m)^ *///", "", (RUST / f"amqp-values/src/{module}.rs").read_text()).split())
+    (stated,) = re.findall(r"each level (?:of `depth` )?(\d+) bytes on x86-64, (\d+) on aarch64", text)
+    assert all(figures[f"amqpv_{it}"] == [*stated] for it in STATED[module])
 
 
 def test_unsafe_code() -> None:
@@ -92,6 +98,13 @@ def functions_of_page() -> dict[str, str]:
     """The functions on docs/RUST.md, by their names."""
     blocks = re.findall(r"```rust\n(.*?)```", (TOP / "docs/RUST.md").read_text(), re.DOTALL)
     return {found[1]: it for it in blocks if (found := re.search(r"\bfn (\w+)", it))}
+
+
+def test_json_of_page() -> None:
+    """A test of the crate has the lines."""
+    (found,) = re.findall(r"```rust\n(let .*?from_json.*?)```", (TOP / "docs/RUST.md").read_text(), re.DOTALL)
+    test = (RUST / "amqp-values/tests/json.rs").read_text()
+    assert all(f"    {it}\n" in test for it in found.splitlines())
 
 
 @pytest.mark.parametrize("name", functions_of_page())

@@ -8,9 +8,19 @@ use crate::value::Payload;
 use crate::{EqualKeys, Error, Limits, Measure, PathStep, Problem, ProblemKind, ValueRef, WriteError};
 use amqp_values_sys::*;
 use core::str;
+#[cfg(feature = "std")]
+use std::{string::String, vec::Vec};
 
 /// How many bytes the length of a table has.
 pub(crate) const LENGTH: usize = 4;
+
+/// The most levels for the calls that allocate, of which each takes more stack than one of reading.
+#[cfg(feature = "std")]
+const ALLOCATING_DEPTH: u32 = Limits::MOST_DEPTH / 4;
+
+/// How many bytes the JSON of a value may have for each byte of its encoding.
+#[cfg(feature = "std")]
+const JSON_FOR_A_BYTE: usize = 12;
 
 /// A call that checks all of a value.
 type Check<T> = unsafe extern "C" fn(*const amqpv_input, *mut T, *mut amqpv_problem) -> amqpv_result;
@@ -44,7 +54,9 @@ fn kind_of(result: amqpv_result, tag: u8) -> ProblemKind {
         AMQPV_NOT_FINITE => ProblemKind::NotFinite,
         AMQPV_TOO_DEEP => ProblemKind::TooDeep,
         AMQPV_TOO_LARGE => ProblemKind::TooLarge,
-        // AMQPV_CUT: the flags are known
+        AMQPV_NOT_JSON => ProblemKind::NotJson,
+        AMQPV_NOT_A_VALUE => ProblemKind::NotAValue,
+        // AMQPV_CUT: the flags are known, and a str is UTF-8
         _ => ProblemKind::Cut,
     }
 }
@@ -92,8 +104,7 @@ pub(crate) fn warn(
 ) -> Result<Option<amqpv_warnings>, Error> {
     // what isn't a value would have no warnings
     checked(amqpv_read, bytes, flags | AMQPV_RABBITMQ, limits)?;
-    // a level takes more stack than one of reading
-    let limits = Limits { depth: limits.depth.min(Limits::MOST_DEPTH / 4), ..limits };
+    let limits = Limits { depth: limits.depth.min(ALLOCATING_DEPTH), ..limits };
     let mut warnings = amqpv_warnings::default();
     // SAFETY: `bytes` can be read, `warnings` is borrowed alone, and the stack suffices for the depth
     match unsafe { amqpv_warn(&input(bytes, flags, limits), frame_max, levels, &mut warnings) } {
@@ -101,6 +112,73 @@ pub(crate) fn warn(
         AMQPV_NONE => Ok(None),
         // AMQPV_NO_MEMORY: the flags are known
         _ => Err(Error::OutOfMemory),
+    }
+}
+
+/// What a call writes into a buffer, whose length it sets: at first of a capacity that may be too small.
+#[cfg(feature = "std")]
+fn written(
+    capacity: usize,
+    mut call: impl FnMut(*mut u8, usize, &mut usize) -> amqpv_result,
+) -> Result<Vec<u8>, amqpv_result> {
+    let (mut buffer, mut length) = (Vec::new(), capacity);
+    for is_last in [false, true] {
+        buffer.try_reserve_exact(length.saturating_add(1)).map_err(|_| AMQPV_NO_MEMORY)?;
+        match call(buffer.as_mut_ptr(), buffer.capacity(), &mut length) {
+            AMQPV_OK => {
+                // SAFETY: the call has written so many bytes
+                unsafe { buffer.set_len(length) };
+                buffer.shrink_to_fit();
+                return Ok(buffer);
+            }
+            AMQPV_NO_ROOM if !is_last => {}
+            result => return Err(result),
+        }
+    }
+    Err(AMQPV_NO_ROOM)
+}
+
+/// The JSON of the value at the start of the bytes.
+#[cfg(feature = "std")]
+pub(crate) fn to_json(bytes: &[u8], flags: u32, limits: Limits) -> Result<String, Error> {
+    let limits = Limits { depth: limits.depth.min(ALLOCATING_DEPTH), ..limits };
+    let read = read(bytes, flags, limits)?;
+    let input = input(bytes, flags, limits);
+    let text = written(read.value.length.saturating_mul(3), |buffer, capacity, length| {
+        // SAFETY: `bytes` can be read, and the buffer written; `length` is borrowed alone, and the stack suffices for the depth
+        unsafe { amqpv_to_json(&input, buffer, capacity, length) }
+    });
+    // AMQPV_NO_MEMORY: the value was read
+    let text = text.map_err(|_| Error::OutOfMemory)?;
+    // SAFETY: JSON is UTF-8
+    Ok(unsafe { String::from_utf8_unchecked(text) })
+}
+
+/// The canonical encoding of the value that a JSON text means.
+#[cfg(feature = "std")]
+pub(crate) fn from_json(text: &str, limits: Limits) -> Result<Vec<u8>, Error> {
+    let too_large = Error::Problem(Problem { offset: 0, kind: ProblemKind::TooLarge });
+    let most = usize::try_from(limits.max_bytes).unwrap_or(usize::MAX);
+    if text.len() > most.saturating_mul(JSON_FOR_A_BYTE) {
+        return Err(too_large);
+    }
+    let mut problem = amqpv_problem::default();
+    let encoding = written(text.len(), |buffer, capacity, length| {
+        // SAFETY: `text` can be read, and the buffer written; `length` and `problem` are borrowed alone, and brackets nest at most
+        // AMQPV_JSON_NESTING deep, for which the stack suffices
+        unsafe { amqpv_from_json(text.as_ptr(), text.len(), limits.depth, buffer, capacity, length, &mut problem) }
+    });
+    match encoding {
+        Ok(encoding) if encoding.len() > most => Err(too_large),
+        Ok(encoding) => {
+            if !within_values(encoding.len(), limits) {
+                measure(&encoding, 0, Limits { depth: Limits::MOST_DEPTH, ..limits })?;
+            }
+            Ok(encoding)
+        }
+        Err(AMQPV_NO_MEMORY) => Err(Error::OutOfMemory),
+        Err(AMQPV_NO_ENCODING) => Err(too_large),
+        Err(result) => Err(Error::Problem(Problem { offset: problem.offset, kind: kind_of(result, 0) })),
     }
 }
 

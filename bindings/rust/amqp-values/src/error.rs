@@ -17,7 +17,8 @@ pub enum Error {
 /// Something in a value that isn't allowed.
 #[derive(Clone, Copy, Debug, PartialEq, Eq)]
 pub struct Problem {
-    /// How many bytes are before the value with the problem, or before the pair if its key is cut or isn't UTF-8.
+    /// How many bytes are before the value with the problem, or before the pair if its key is cut or isn't UTF-8. Of a JSON text
+    /// how many bytes are before what is wrong.
     pub offset: usize,
     /// What it is.
     pub kind: ProblemKind,
@@ -37,12 +38,19 @@ pub enum ProblemKind {
     KeyCut,
     /// A key isn't UTF-8.
     KeyNotUtf8,
-    /// A container nests deeper than [`Limits::depth`](crate::Limits::depth).
+    /// A container, or a bracket of JSON, nests deeper than [`Limits::depth`](crate::Limits::depth).
     TooDeep,
     /// The value has more bytes than [`Limits::max_bytes`](crate::Limits::max_bytes).
     TooLarge,
     /// More values are written in it than [`Limits::values`](crate::Limits::values).
     TooManyValues,
+    /// The text isn't JSON: what is before the offset can go on to a JSON text, but not with what is there. At the end of the text
+    /// it is cut.
+    NotJson,
+    /// The text is JSON up to the offset, where something begins that no value has.
+    NotAValue,
+    /// The text is the JSON of a value that isn't a table.
+    NotATable,
 }
 
 /// Why an entry isn't put into a buffer, which then stays unchanged.
@@ -93,6 +101,9 @@ impl fmt::Display for ProblemKind {
             Self::TooDeep => "too deep",
             Self::TooLarge => "too large",
             Self::TooManyValues => "too many values",
+            Self::NotJson => "not JSON",
+            Self::NotAValue => "not the JSON of a value",
+            Self::NotATable => "not the JSON of a table",
         })
     }
 }

@@ -1,7 +1,8 @@
 //! AMQP 0-9-1 field tables: checked within limits, read in place, and built in a buffer.
 //!
 //! All work is done by the calls of `libamqp_values.a`, which are proved. Reading copies and allocates nothing, and no input makes
-//! a function panic, or recurse deeper than [`Limits::depth`].
+//! a function panic, or recurse deeper than [`Limits::depth`]. With the feature `std` values are converted from and to JSON, and
+//! [`rabbitmq`] has warnings: these calls allocate.
 //!
 //! ```
 //! use amqp_values::{read_table, EqualKeys, Error, Limits, PathStep::*, TableBuilder, ValueRef, WriteError};
@@ -32,6 +33,8 @@ mod build;
 mod calls;
 mod error;
 mod iter;
+#[cfg(feature = "std")]
+mod json;
 mod limits;
 mod path;
 pub mod rabbitmq;
@@ -41,6 +44,8 @@ mod value;
 pub use build::{ArrayBuilder, TableBuilder};
 pub use error::{Error, Problem, ProblemKind, WriteError};
 pub use iter::{ArrayValues, TablePairs};
+#[cfg(feature = "std")]
+pub use json::{from_json, table_from_json, table_to_json, to_json};
 pub use limits::{Limits, Measure};
 pub use path::{EqualKeys, PathStep};
 pub use read::{check, check_table, read, read_table};

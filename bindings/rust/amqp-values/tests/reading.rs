@@ -1,8 +1,8 @@
 //! What is read, and what isn't.
 
 use amqp_values::{
-    check, check_table, rabbitmq, read, read_table, DecimalValue, EqualKeys, Error, Limits, Measure, PathStep::*,
-    Problem, ProblemKind, TableRef, ValueRef,
+    check, check_table, from_json, rabbitmq, read, read_table, table_from_json, table_to_json, to_json, DecimalValue,
+    EqualKeys, Error, Limits, Measure, PathStep::*, Problem, ProblemKind, TableRef, ValueRef,
 };
 
 const LIMITS: Limits = Limits::DEFAULT;
@@ -260,6 +260,18 @@ fn test_much_memory() {
     let none = Ok(rabbitmq::Warnings::default());
     assert_eq!(rabbitmq::warnings(&bytes, LIMITS, 0, rabbitmq::CLIENT_LEVELS), none);
     assert_eq!(rabbitmq::warnings_in_table(&bytes[1..], LIMITS, 0, rabbitmq::CLIENT_LEVELS), none);
+    let limits = Limits { values: u32::MAX, ..LIMITS };
+    let pairs: Vec<_> = (0..40_000).map(|key| format!("\"{key:07}\":null")).collect();
+    let (ascending, text) = (format!("{{{}}}", pairs.join(",")), "x".repeat(1 << 20));
+    let descending = format!("{{{}}}", pairs.iter().rev().cloned().collect::<Vec<_>>().join(","));
+    assert_eq!(to_json(&bytes, limits).as_ref(), Ok(&ascending));
+    assert_eq!(table_to_json(&bytes[1..], limits).as_ref(), Ok(&ascending));
+    let canonical = from_json(&descending, limits).unwrap();
+    assert_eq!(to_json(&canonical, limits).as_ref(), Ok(&ascending));
+    assert_eq!(table_from_json(&descending, limits).as_deref(), Ok(&canonical[1..]));
+    let limits = Limits { max_bytes: u32::MAX, ..limits };
+    let large = from_json(&format!("\"{text}\""), limits).unwrap();
+    assert_eq!((large.len(), to_json(&large, limits)), (text.len() + 5, Ok(format!("\"{text}\""))));
 }
 
 #[test]

@@ -1,0 +1,80 @@
+"""JSON by amqp-values, as json.rs calls it, next to the model."""
+
+import subprocess
+from collections import Counter
+from collections.abc import Iterator
+from pathlib import Path
+from random import Random
+
+import pytest
+
+from tests.model.json_format import LEVELS, SPACE, Rejected, json_of, large_values, texts, value_of_json
+from tests.model.printed import TYPES, damaged, extent, lack, nested, read, value_of, write
+from tests.model.tables import first_problem, odd_table, random_table, raw
+from tests.rust.cargo import CRATES, TARGET, assert_well, cargo, package
+
+pytestmark = [pytest.mark.needs("--library", "cargo"), pytest.mark.usefixtures("deep")]
+# How the crate calls each problem of the model, and each error of a text.
+KINDS = {1: "UnknownTag({})", 3: "Cut", 4: "KeyCut", 5: "TooDeep", 7: "KeyNotUtf8"}
+WRONG = {"": "NotJson", "TooDeep": "TooDeep"}
+# The deepest values of which there is JSON, and how many values are tried.
+MOST_DEPTH, COUNT = 1024, 2_000
+# A line for the program, and what it has to print.
+Row = tuple[str, str]
+
+
+def problem(kind: str, offset: int) -> str:
+    return f"Problem(Problem {{ offset: {offset}, kind: {kind} }})"
+
+
+def of_bytes(data: bytes, depth: int, left_out: int) -> Row:
+    """A row for bytes, from which a table's type tag may be left out."""
+    given = f"{'table_' * left_out}to_json {depth} {data[left_out:].hex()}"
+    found = first_problem(data, "read", min(depth, MOST_DEPTH))
+    if found is None:
+        return given, json_of(read(data)[0]).encode().hex()
+    at, kind, tag = found
+    if at == 0 and kind == 3 and (not data or chr(data[0]) in TYPES):
+        return given, f"Incomplete {{ missing: {lack(data)} }}"
+    return given, problem(KINDS[kind].format(tag), max(0, at - left_out))
+
+
+def of_text(text: bytes, depth: int, is_table: bool) -> Row:
+    given = f"{'table_' * is_table}from_json {depth} {text.hex()}"
+    try:
+        value = value_of_json(text, min(depth, LEVELS))
+    except Rejected as why:
+        return given, problem(WRONG.get(why.mismatch, "NotAValue"), why.at)
+    if is_table and value[0] != "F":
+        return given, problem("NotATable", len(text) - len(text.lstrip(SPACE)))
+    return given, write(value)[is_table:].hex()
+
+
+def rows(make: Random) -> Iterator[Row]:
+    for number, value in enumerate(large_values(make, COUNT)):
+        for data in (raw(value), odd_table(make), raw(random_table(make)), value_of(make, 3)):
+            data = damaged(make, data) if make.random() < 0.3 else data
+            # (the limit on bytes is another test's)
+            if extent(data) < 2**32:
+                yield of_bytes(data, make.choice([0, 1, 2, 64]), number % 2 if data[:1] == b"F" else 0)
+        for text in texts(make, [value]):
+            yield of_text(text, make.choice([1, 3, 64, 127, 2**32 - 1]), number % 3 == 0)
+    for form in ("A", "F", "AF"):
+        for levels in (1, 126, 127, 128, MOST_DEPTH, MOST_DEPTH + 1):
+            data = nested(form, levels, b"V")
+            yield of_bytes(data, 2**32 - 1, 0)
+            yield of_text(json_of(read(data)[0]).encode(), 2**32 - 1, False)
+
+
+def test_json(copies: Path, seed: int) -> None:
+    folder = package("json", [f'amqp-values = {{ path = "{copies / CRATES[1]}" }}'], json="json")
+    assert_well(cargo(folder, "build", "--release", "--quiet"))
+    asked = [*rows(Random(seed))]
+    given = "".join(f"{it}\n" for it, _ in asked)
+    done = subprocess.run([TARGET / "release/json"], input=given, capture_output=True, text=True, timeout=300)
+    assert (done.returncode, done.stderr) == (0, "")
+    said = done.stdout.splitlines()
+    wrong = [(it, wanted, found) for (it, wanted), found in zip(asked, said, strict=True) if found != wanted]
+    assert not wrong, f"{len(wrong)}, as {str(wrong[0]):.2000}"
+    counts = Counter(it.partition(" {")[0].partition("(")[0] if it[:1] in "IP" else "" for it in said)
+    assert counts[""] > len(said) / 3 and counts["Problem"] > len(said) / 10, counts
