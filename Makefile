@@ -59,7 +59,10 @@ deb: all ## make packages of Debian for x86-64
 	debian/rules clean binary
 
 # By Debian's Python and nothing else.
-wheel: $(OUT)/build/built $(OUT)/aarch64/built ## make wheels of the Python package
+wheel: $(OUT)/build/built ## make a wheel of the Python package for x86-64
+	python3 packaging/wheels.py $(OUT)/wheel $(OUT)/build
+
+wheels: $(OUT)/build/built $(OUT)/aarch64/built ## make those for x86-64 and aarch64, as a release has them
 	python3 packaging/wheels.py $(OUT)/wheel $(OUT)/build $(OUT)/aarch64
 
 web: ## make the page that shows a field table, out/web/amqp.html
@@ -76,4 +79,4 @@ release: ## prove, test and make all of a release of HEAD, out/release
 clean: ## remove what these targets made
 	rm -rf $(addprefix $(OUT)/,build lib aarch64 packed debian deb wheel web release steps mypy)
 
-.PHONY: help setup all lib install install-lib uninstall dist deb wheel web rust release clean
+.PHONY: help setup all lib install install-lib uninstall dist deb wheel wheels web rust release clean

@@ -1,4 +1,4 @@
-"""The Python package of bindings/python: in a folder, as tests use it, and as a wheel, which is checked: wheels.py TO X86_64 AARCH64"""
+"""The Python package of bindings/python: in a folder, as tests use it, and as a wheel, which is checked: wheels.py TO X86_64 [AARCH64]"""
 
 import os
 import re
@@ -65,12 +65,8 @@ def make_wheel(library: Path, to: Path, target: str = X86_64) -> tuple[Path, str
     with tempfile.TemporaryDirectory(prefix="wheel-") as folder:
         # (setuptools writes next to what it builds, and the header is found by its place)
         copy = Path(folder) / "bindings/python"
-        shutil.copytree(
-            PACKAGE, copy, ignore=shutil.ignore_patterns("build", "*.egg-info", "*.so", "lib", "__pycache__")
-        )
+        shutil.copytree(PACKAGE, copy, ignore=shutil.ignore_patterns("build", "*.egg-info", "*.so", "__pycache__"))
         shutil.copytree(INCLUDE, Path(folder) / "include")
-        for name in ("LICENSE", "THIRD-PARTY"):
-            shutil.copy(TOP / name, copy)
         for it in copy.rglob("*"):
             os.utime(it, (int(SOURCE_DATE_EPOCH),) * 2)
         env = {
@@ -122,7 +118,7 @@ def wrong_symbols(wheel: Path, target: str = X86_64) -> Iterator[str]:
 
 
 def main() -> int:
-    """Makes and checks the wheels over the libamqp_values.a of two folders."""
+    """Makes and checks a wheel over the libamqp_values.a of each folder."""
     to, failed = Path(sys.argv[1]).absolute(), 0
     shutil.rmtree(to, ignore_errors=True)
     for target, folder in zip(PROCESSORS, sys.argv[2:]):

@@ -1,4 +1,4 @@
-"""Builds the extension over libamqp_values.a: that of the folder AMQP_VALUES_LIB_DIR, or of lib/TARGET here.
+"""Builds the extension over libamqp_values.a: that of the folder AMQP_VALUES_LIB_DIR, or the newest that `make` has left.
 
 AMQP_VALUES_TARGET is what it is for, x86_64-unknown-linux-gnu or aarch64-unknown-linux-gnu, else the processor at hand; CC is
 then its compiler. The wheel is for glibc 2.17 and later, which `make wheel` checks.
@@ -13,16 +13,29 @@ from pathlib import Path
 from setuptools import Extension, setup
 
 HERE = Path(__file__).resolve().parent
-INCLUDE = HERE.parents[1] / "include"
+TOP = HERE.parents[1]
+INCLUDE = TOP / "include"
 TARGET = os.environ.get("AMQP_VALUES_TARGET") or f"{platform.machine()}-unknown-linux-gnu"
 PROCESSOR = TARGET.partition("-")[0]
-ARCHIVE = Path(os.environ.get("AMQP_VALUES_LIB_DIR") or HERE / "lib" / TARGET) / "libamqp_values.a"
+NAME = "libamqp_values.a"
 SOURCES = ("codec", "errors", "module", "read", "write")
 # (on no other path are the calls for C in the module's own symbols)
 LINKING = ["-Wl,-s", "-Wl,--exclude-libs,ALL", "-Wl,--gc-sections", "-Wl,-z,relro,-z,now"]
 
-if not ARCHIVE.is_file():
-    sys.exit(f"{ARCHIVE} isn't there: `make wheel` makes it, or AMQP_VALUES_LIB_DIR names its folder")
+
+def archive() -> Path:
+    """The library that is linked."""
+    folders = [TOP / "out/build", TOP / "out/lib"] if PROCESSOR == "x86_64" else [TOP / "out/aarch64"]
+    if named := os.environ.get("AMQP_VALUES_LIB_DIR"):
+        folders = [Path(named)]
+    found = [it / NAME for it in folders if (it / NAME).is_file()]
+    if not found:
+        places = " or ".join(map(str, folders))
+        sys.exit(f"{NAME} isn't in {places}: `make lib` makes it there, or AMQP_VALUES_LIB_DIR names its folder")
+    return max(found, key=lambda it: it.stat().st_mtime)
+
+
+ARCHIVE = archive()
 found = re.search(r'(?m)^#define AMQPV_VERSION "(.*)"$', (INCLUDE / "amqp_values.h").read_text())
 
 setup(

@@ -1,15 +1,17 @@
 """The wheel: made as `make wheel` makes it, checked, and installed into fresh environments from that file alone."""
 
+import os
+import shutil
 from collections.abc import Callable
 from pathlib import Path
 
 import pytest
 from building import AARCH64, X86_64
 from crates import TOP, Crates
-from wheels import PROCESSORS, PYTHON, make_wheel, put_library, wrong_symbols
+from wheels import INCLUDE, PACKAGE, PROCESSORS, PYTHON, make_wheel, put_library, ran, wrong_symbols
 
 from tests.left_out import without
-from tests.python.trying import python_in, pythons, try_unpacked, try_wheel, try_wheel_of_aarch64
+from tests.python.trying import python_in, pythons, try_packages, try_unpacked, try_wheel, try_wheel_of_aarch64
 from tests.rabbitmq.broker import DEBIAN_13, ROOTS
 
 Record = Callable[[str, object], None]
@@ -39,6 +41,31 @@ def test_wheel(request: pytest.FixtureRequest, tmp_path: Path, record_property: 
         assert not wrong and said.startswith("3.13."), f"{said} {wrong}"
         record_property("the wheel is tried by Debian 13's Python", said)
     assert f"$ pip install {wheel.name}\n" in (TOP / "docs/PYTHON.md").read_text()
+
+
+def test_install_from_the_sources(request: pytest.FixtureRequest, tmp_path: Path, record_property: Record) -> None:
+    """`pip install ./bindings/python` after `make lib`, and what is said before that."""
+    sources, packages = tmp_path / "sources", tmp_path / "site-packages"
+    unneeded = shutil.ignore_patterns("build", "*.egg-info", "__pycache__")
+    shutil.copytree(PACKAGE, sources / "bindings/python", ignore=unneeded)
+    shutil.copytree(INCLUDE, sources / "include")
+    clean = {name: it for name, it in os.environ.items() if not name.startswith(("PYTHON", "PIP_", "AMQP_VALUES_"))}
+    how = ["--no-build-isolation", "--no-index", "--no-deps", "--no-cache-dir", "--disable-pip-version-check", "-q"]
+    words = [PYTHON, "-m", "pip", "install", *how, "--target", packages, "./bindings/python"]
+    _, wrong = ran(words, cwd=sources, env=clean)
+    places = f"{sources}/out/build or {sources}/out/lib"
+    assert (
+        f"libamqp_values.a isn't in {places}: `make lib` makes it there, or AMQP_VALUES_LIB_DIR names" in wrong
+    ), wrong
+    (sources / "out/lib").mkdir(parents=True)
+    assert not put_library(Crates(), sources / "out/lib", bool(request.config.getoption("--built")))
+    _, wrong = ran(words, cwd=sources, env=clean)
+    assert not wrong, wrong
+    said, wrong = try_packages(packages, [PYTHON], {})
+    assert not wrong, wrong
+    record_property("the package is installed from the sources", said)
+    page = (TOP / "docs/PYTHON.md").read_text()
+    assert "$ make lib " in page and "$ pip install ./bindings/python " in page
 
 
 @pytest.mark.whole

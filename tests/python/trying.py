@@ -93,8 +93,13 @@ def try_unpacked(wheel: Path, words: Words, env: dict[str, str]) -> tuple[str, s
     with tempfile.TemporaryDirectory(prefix="wheel-") as folder:
         packages = Path(folder) / "site-packages"
         shutil.unpack_archive(wheel, packages, "zip")
-        clean = {"PATH": os.environ["PATH"], "PYTHONPATH": str(packages), **env}
-        said, wrong = ran([*words, "-B", "-c", TRIED], env=clean)
+        return try_packages(packages, words, env)
+
+
+def try_packages(packages: Path, words: Words, env: dict[str, str]) -> tuple[str, str]:
+    """Tries what was installed into a folder; what was said, and what went wrong."""
+    clean = {"PATH": os.environ["PATH"], "PYTHONPATH": str(packages), **env}
+    said, wrong = ran([*words, "-B", "-c", TRIED], env=clean)
     return said.strip(), wrong
 
 

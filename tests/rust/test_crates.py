@@ -26,7 +26,7 @@ def test_archive(archive: Path) -> None:
     """Without an archive amqp-values-sys isn't built, unless a variable names its folder."""
     without = copied(RUST / CRATES[0], COPIES.with_name("without-archive"))
     done = cargo(without, "build")
-    assert done.returncode and f"{NAMED_BY} names its folder" in done.stderr, done.stderr
+    assert done.returncode and f"{NAMED_BY} names its folder, as out/build of the sources after `make`" in done.stderr
     assert_well(cargo(without, "build", AMQP_VALUES_LIB_DIR=str(archive.parent)))
 
 

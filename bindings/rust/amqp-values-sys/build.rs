@@ -16,7 +16,10 @@ fn main() {
     let archive = folder.join("libamqp_values.a");
     println!("cargo:rerun-if-changed={}", archive.display());
     if !archive.is_file() {
-        eprintln!("{} isn't there: `make rust` makes it, or {NAMED_BY} names its folder", archive.display());
+        eprintln!(
+            "{} isn't there: {NAMED_BY} names its folder, as out/build of the sources after `make`, out/lib after `make lib`",
+            archive.display()
+        );
         process::exit(1);
     }
     println!("cargo:rustc-link-search=native={}", folder.display());
