@@ -8,7 +8,7 @@ from pathlib import Path
 import pytest
 from building import AARCH64, X86_64
 from crates import TOP, Crates
-from wheels import INCLUDE, PACKAGE, PROCESSORS, PYTHON, make_wheel, put_library, ran, wrong_symbols
+from wheels import INCLUDE, PACKAGE, PROCESSORS, PYTHON, Words, make_wheel, put_library, ran, wrong_symbols
 
 from tests.left_out import without
 from tests.python.trying import python_in, pythons, try_packages, try_unpacked, try_wheel, try_wheel_of_aarch64
@@ -51,7 +51,7 @@ def test_install_from_the_sources(request: pytest.FixtureRequest, tmp_path: Path
     shutil.copytree(INCLUDE, sources / "include")
     clean = {name: it for name, it in os.environ.items() if not name.startswith(("PYTHON", "PIP_", "AMQP_VALUES_"))}
     how = ["--no-build-isolation", "--no-index", "--no-deps", "--no-cache-dir", "--disable-pip-version-check", "-q"]
-    words = [PYTHON, "-m", "pip", "install", *how, "--target", packages, "./bindings/python"]
+    words: Words = [PYTHON, "-m", "pip", "install", *how, "--target", packages, "./bindings/python"]
     _, wrong = ran(words, cwd=sources, env=clean)
     places = f"{sources}/out/build or {sources}/out/lib"
     assert (
