@@ -540,6 +540,35 @@ def test_classes() -> None:
         assert not hasattr(value, "__dict__")
 
 
+def test_adding_in_place_keeps_the_type() -> None:
+    """If it has the number; otherwise it is an int, which is written as LongLongInt. What isn't in place is an int too."""
+    for name in ("ShortShortInt", "ShortShortUInt", "ShortInt", "ShortUInt", "LongInt", "LongUInt", "Timestamp"):
+        kind = getattr(own, name)
+        table = own.loads(own.dumps({"n": kind(5)}))
+        table["n"] += 3
+        table["n"] -= own.LongInt(2)
+        assert shape(table["n"]) == shape(kind(6))
+        most, least = kind(kind.most), kind(kind.least)
+        most += 1
+        least -= 1
+        assert (type(most), most, type(least), least) == (int, kind.most + 1, int, kind.least - 1)
+        assert type(kind(5) + 1) is int and type(kind(5) - 1) is int
+        number: Any = kind(5)
+        number += 1.5
+        assert shape(number) == shape(6.5)
+        number = kind(5)
+        with pytest.raises(TypeError):
+            number += "1"
+
+    class Priority(own.ShortShortUInt):
+        def __new__(cls) -> Any:
+            return super().__new__(cls, 5)
+
+    priority = Priority()
+    priority += 1
+    assert type(priority) is Priority and priority == 6
+
+
 # Pages and types
 
 

@@ -58,7 +58,7 @@ def _index(value: Any) -> int:
 
 
 class _Integer(int):
-    """An integer of one type."""
+    """An integer of one type. What is added to it in place has the same type if that has the number, and else is an int."""
 
     __slots__ = ()
     tag, least, most = "", 0, 0
@@ -68,6 +68,16 @@ class _Integer(int):
         if not cls.least <= number <= cls.most:
             raise Error("out of range", 0, f"a number from {cls.least} to {cls.most}, not {_shown(number)}")
         return int.__new__(cls, number)
+
+    def __iadd__(self, other: Any) -> Any:
+        return self._of_type(int.__add__(self, other))
+
+    def __isub__(self, other: Any) -> Any:
+        return self._of_type(int.__sub__(self, other))
+
+    def _of_type(self, number: Any) -> Any:
+        # (NotImplemented stays, so that Python asks the other object)
+        return int.__new__(type(self), number) if type(number) is int and self.least <= number <= self.most else number
 
     def __repr__(self) -> str:
         return f"{type(self).__name__}({int(self)})"
@@ -87,6 +97,10 @@ class ShortShortUInt(_Integer):
 
     >>> ShortShortUInt(5), ShortShortUInt(5) == 5
     (ShortShortUInt(5), True)
+    >>> table = {"x-max-priority": ShortShortUInt(5)}
+    >>> table["x-max-priority"] += 1
+    >>> table
+    {'x-max-priority': ShortShortUInt(6)}
     """
 
     __slots__ = ()
