@@ -466,6 +466,19 @@ def test_what_can_not_be_written() -> None:
             assert own_error(lambda: own.dumps_table(value)) == (problem[0], problem[1] - 1, problem[2])
 
 
+def test_a_long_path_is_shortened_in_the_message() -> None:
+    deep: Any = own.Encoded(b"z")
+    for at in range(60):
+        deep = {f"key {at}": deep} if at % 2 else [deep]
+    with pytest.raises(own.Error) as found:
+        own.dumps(deep)
+    assert len(found.value.path) == 60
+    assert str(found.value).endswith("(in ['key 59', 0, 'key 57', 0, .. 52 more .., 'key 3', 0, 'key 1', 0])")
+    with pytest.raises(own.Error) as found:
+        own.dumps([[[[[[[[own.Encoded(b"z")]]]]]]]])
+    assert str(found.value).endswith("(in [0, 0, 0, 0, 0, 0, 0, 0])")
+
+
 def test_the_error_is_copied_with_what_it_has() -> None:
     with pytest.raises(own.Error) as found:
         own.loads(b"S\0\0\0\5abc")

@@ -9,6 +9,10 @@ from operator import index
 from typing import Any
 
 
+# How many steps of a long path a message has of each end.
+_ENDS = 4
+
+
 class Error(ValueError):
     """What isn't read or can't be written, and why.
 
@@ -23,8 +27,8 @@ class Error(ValueError):
 
     `kind` is a few words that don't change, `offset` how many of the bytes are before the value with the problem, or, of
     what can't be written, how many would be before it. `expected` tells what it should have been. `missing` counts the
-    bytes that the field needs which is cut where the bytes end; it is 0 for all else. `path` leads to what can't be written.
-    What an object's own method raised is the `__cause__`.
+    bytes that the field needs which is cut where the bytes end; it is 0 for all else. `path` leads to what can't be written;
+    the message leaves out the middle of a long one. What an object's own method raised is the `__cause__`.
     """
 
     path: tuple[Any, ...] = ()
@@ -34,8 +38,16 @@ class Error(ValueError):
         self.kind, self.offset, self.expected, self.missing = kind, offset, expected, missing
 
     def __str__(self) -> str:
-        place = f" (in {[*self.path]!r})" if self.path else ""
+        place = f" (in {_shown_path(self.path)})" if self.path else ""
         return f"{self.kind} at {self.offset}: expected {self.expected}{place}"
+
+
+def _shown_path(path: tuple[Any, ...]) -> str:
+    """A path as a message has it: of a long one the first steps and the last."""
+    if len(path) <= 2 * _ENDS:
+        return repr([*path])
+    first, last = (", ".join(map(repr, it)) for it in (path[:_ENDS], path[-_ENDS:]))
+    return f"[{first}, .. {len(path) - 2 * _ENDS} more .., {last}]"
 
 
 def _shown(number: Any) -> str:
