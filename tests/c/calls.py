@@ -1,4 +1,4 @@
-"""The calls of each library, as the header declares them: those that allocate are in a part of their own."""
+"""The calls of each library, as the header declares them: those that allocate are in a section of their own."""
 
 import re
 
@@ -10,5 +10,6 @@ def declared(text: str) -> set[str]:
     return {*re.findall(r"(?m)^(?:amqpv_result|uint32_t) (\w+)\(", re.sub(r"(?s)/\*.*?\*/", "", text))}
 
 
-OTHERS, _, OF_ALLOCATING = HEADER.read_text().partition("/* ---- Calls that allocate ---- */")
-CALLS = {PLAIN: declared(OTHERS), ALLOCATING: declared(OF_ALLOCATING)}
+BEFORE, _, SECTION = HEADER.read_text().partition("calls that allocate ---- */")
+OF_ALLOCATING, _, AFTER = SECTION.partition("/* ====")
+CALLS = {PLAIN: declared(BEFORE) | declared(AFTER), ALLOCATING: declared(OF_ALLOCATING)}

@@ -1,0 +1,313 @@
+/*
+ * The bodies of the functions that amqp_values.h declares as inline. It includes this file; nothing else should. What ends in
+ * an underscore isn't part of the interface.
+ */
+#ifndef AMQP_VALUES_INLINE_H
+#define AMQP_VALUES_INLINE_H
+
+/* ---- Reading ---- */
+
+static inline amqpv_input amqpv_value(const void *bytes, size_t length) {
+    amqpv_input in;
+    in.bytes = AMQPV_CAST_(const uint8_t *, bytes);
+    in.length = length;
+    in.max_bytes = AMQPV_MAX_BYTES;
+    in.max_depth = AMQPV_MAX_DEPTH;
+    in.flags = 0;
+    return in;
+}
+
+static inline amqpv_input amqpv_table(const void *bytes, size_t length) {
+    amqpv_input in = amqpv_value(bytes, length);
+    in.flags = AMQPV_UNTAGGED;
+    return in;
+}
+
+static inline amqpv_result amqpv_enter(const amqpv_entry *entry, amqpv_cursor *cursor) {
+    if (entry->tag != AMQPV_ARRAY && entry->tag != AMQPV_TABLE) {
+        return AMQPV_BAD_TAG;
+    }
+    cursor->left = entry->content;
+    cursor->tag = entry->tag;
+    return AMQPV_OK;
+}
+
+static inline amqpv_result amqpv_get(const amqpv_input *in, const amqpv_entry *table, const char *key,
+                                     size_t key_length, amqpv_entry *entry) {
+    amqpv_step step;
+    step.key = key;
+    step.key_length = key_length;
+    step.index = 0;
+    step.into = AMQPV_TABLE;
+    return amqpv_find(in, table, &step, 1, entry);
+}
+
+static inline amqpv_result amqpv_entries(const amqpv_input *in, const amqpv_entry *container, amqpv_entry *entries,
+                                         size_t capacity, size_t *count) {
+    amqpv_cursor cursor;
+    amqpv_entry spare;
+    size_t n = 0;
+    amqpv_result result = amqpv_enter(container, &cursor);
+    while (result == AMQPV_OK) {
+        result = amqpv_next(in, &cursor, n < capacity ? &entries[n] : &spare);
+        n += result == AMQPV_OK;
+    }
+    if (result != AMQPV_NONE) {
+        return result;
+    }
+    *count = n;
+    return n <= capacity ? AMQPV_OK : AMQPV_NO_ROOM;
+}
+
+/* (for the two functions below) */
+static inline const char *amqpv_bytes_(const amqpv_input *in, amqpv_span span) {
+    if (span.offset > in->length || span.length > in->length - span.offset || in->bytes == NULL) {
+        return NULL;
+    }
+    return AMQPV_CAST_(const char *, AMQPV_CAST_(const void *, in->bytes + span.offset));
+}
+
+static inline const char *amqpv_key(const amqpv_input *in, const amqpv_entry *entry) {
+    return amqpv_bytes_(in, entry->key);
+}
+
+static inline const char *amqpv_text(const amqpv_input *in, const amqpv_entry *entry) {
+    return amqpv_bytes_(in, entry->content);
+}
+
+static inline amqpv_result amqpv_as_bool(const amqpv_entry *entry, int *truth) {
+    if (entry->tag != AMQPV_BOOLEAN) {
+        return AMQPV_BAD_TAG;
+    }
+    if (entry->bits > 1) {
+        return AMQPV_OUT_OF_RANGE;
+    }
+    *truth = entry->bits == 1;
+    return AMQPV_OK;
+}
+
+static inline amqpv_result amqpv_as_timestamp(const amqpv_entry *entry, uint64_t *seconds) {
+    if (entry->tag != AMQPV_TIMESTAMP) {
+        return AMQPV_BAD_TAG;
+    }
+    *seconds = entry->bits;
+    return AMQPV_OK;
+}
+
+static inline amqpv_result amqpv_as_decimal(const amqpv_entry *entry, uint32_t *number, uint8_t *scale) {
+    if (entry->tag != AMQPV_DECIMAL) {
+        return AMQPV_BAD_TAG;
+    }
+    if (entry->bits > UINT32_MAX) {
+        return AMQPV_OUT_OF_RANGE;
+    }
+    *number = AMQPV_CAST_(uint32_t, entry->bits);
+    *scale = entry->scale;
+    return AMQPV_OK;
+}
+
+static inline amqpv_result amqpv_as_double(const amqpv_entry *entry, double *number) {
+    uint32_t bits = AMQPV_CAST_(uint32_t, entry->bits);
+    float narrow;
+    if (entry->tag == AMQPV_DOUBLE) {
+        memcpy(number, &entry->bits, sizeof *number);
+        return AMQPV_OK;
+    }
+    if (entry->tag != AMQPV_FLOAT) {
+        return AMQPV_BAD_TAG;
+    }
+    if (entry->bits > UINT32_MAX) {
+        return AMQPV_OUT_OF_RANGE;
+    }
+    memcpy(&narrow, &bits, sizeof narrow);
+    *number = AMQPV_CAST_(double, narrow);
+    return AMQPV_OK;
+}
+
+/* ---- Writing ---- */
+
+static inline void amqpv_begin(amqpv_writer *w, uint8_t *buffer, size_t capacity) {
+    static const amqpv_container table = {{4, 0}, AMQPV_TABLE, 0, 0, 4};
+    w->buffer = buffer;
+    w->capacity = capacity;
+    w->open[0] = table;
+    w->level = 0;
+    w->result = capacity < 4 ? AMQPV_NO_ROOM : AMQPV_OK;
+}
+
+/* (whether the functions below add an entry, and what they pass on) */
+static inline int amqpv_may_add_(amqpv_writer *w, const char *key) {
+    if (w->result == AMQPV_OK && key == NULL && w->open[w->level].tag == AMQPV_TABLE) {
+        w->result = AMQPV_BAD_KEY;
+    }
+    return w->result == AMQPV_OK;
+}
+
+#define AMQPV_INTO_ w->buffer, w->capacity, &w->open[w->level], key != NULL ? key : "", key != NULL ? strlen(key) : 0
+static inline void amqpv_add_bits_(amqpv_writer *w, const char *key, uint8_t tag, uint64_t bits, uint8_t scale) {
+    if (amqpv_may_add_(w, key)) {
+        w->result = amqpv_put(AMQPV_INTO_, tag, bits, scale);
+    }
+}
+
+static inline void amqpv_add_int(amqpv_writer *w, const char *key, uint8_t tag, int64_t number) {
+    int is_int = tag == AMQPV_SHORT_SHORT_INT || tag == AMQPV_SHORT_INT || tag == AMQPV_LONG_INT
+                 || tag == AMQPV_LONG_LONG_INT;
+    amqpv_add_bits_(w, key, is_int ? tag : 0, AMQPV_CAST_(uint64_t, number), 0);
+}
+
+static inline void amqpv_add_uint(amqpv_writer *w, const char *key, uint8_t tag, uint64_t number) {
+    int is_uint = tag == AMQPV_SHORT_SHORT_UINT || tag == AMQPV_SHORT_UINT || tag == AMQPV_LONG_UINT;
+    amqpv_add_bits_(w, key, is_uint ? tag : 0, number, 0);
+}
+
+static inline void amqpv_add_bool(amqpv_writer *w, const char *key, int truth) {
+    amqpv_add_bits_(w, key, AMQPV_BOOLEAN, truth != 0, 0);
+}
+
+static inline void amqpv_add_timestamp(amqpv_writer *w, const char *key, uint64_t seconds) {
+    amqpv_add_bits_(w, key, AMQPV_TIMESTAMP, seconds, 0);
+}
+
+static inline void amqpv_add_decimal(amqpv_writer *w, const char *key, uint32_t number, uint8_t scale) {
+    amqpv_add_bits_(w, key, AMQPV_DECIMAL, number, scale);
+}
+
+static inline void amqpv_add_void(amqpv_writer *w, const char *key) {
+    amqpv_add_bits_(w, key, AMQPV_VOID, 0, 0);
+}
+
+static inline void amqpv_add_float(amqpv_writer *w, const char *key, float number) {
+    uint32_t bits;
+    memcpy(&bits, &number, sizeof bits);
+    amqpv_add_bits_(w, key, AMQPV_FLOAT, bits, 0);
+}
+
+static inline void amqpv_add_double(amqpv_writer *w, const char *key, double number) {
+    uint64_t bits;
+    memcpy(&bits, &number, sizeof bits);
+    amqpv_add_bits_(w, key, AMQPV_DOUBLE, bits, 0);
+}
+
+static inline void amqpv_add_string(amqpv_writer *w, const char *key, const char *text, size_t length) {
+    if (amqpv_may_add_(w, key)) {
+        w->result = amqpv_put_bytes(AMQPV_INTO_, AMQPV_LONG_STRING, text, length);
+    }
+}
+
+static inline void amqpv_add_bytes(amqpv_writer *w, const char *key, const void *bytes, size_t length) {
+    if (amqpv_may_add_(w, key)) {
+        w->result = amqpv_put_bytes(AMQPV_INTO_, AMQPV_BYTE_ARRAY, bytes, length);
+    }
+}
+
+static inline void amqpv_add_value(amqpv_writer *w, const char *key, const amqpv_input *in) {
+    if (amqpv_may_add_(w, key)) {
+        w->result = amqpv_put_value(AMQPV_INTO_, in);
+    }
+}
+
+static inline void amqpv_add_container_(amqpv_writer *w, const char *key, uint8_t tag) {
+    if (w->result == AMQPV_OK && w->level + 1 == AMQPV_WRITER_LEVELS) {
+        w->result = AMQPV_TOO_DEEP;
+    }
+    if (amqpv_may_add_(w, key)) {
+        w->result = amqpv_open(AMQPV_INTO_, tag, &w->open[w->level + 1]);
+        w->level += w->result == AMQPV_OK;
+    }
+}
+
+static inline void amqpv_add_array(amqpv_writer *w, const char *key) {
+    amqpv_add_container_(w, key, AMQPV_ARRAY);
+}
+
+static inline void amqpv_add_table(amqpv_writer *w, const char *key) {
+    amqpv_add_container_(w, key, AMQPV_TABLE);
+}
+
+static inline void amqpv_end(amqpv_writer *w) {
+    if (w->result == AMQPV_OK && w->level == 0) {
+        w->result = AMQPV_INVALID;
+    }
+    if (w->result == AMQPV_OK) {
+        w->level--;
+        w->result = amqpv_close(w->buffer, w->capacity, &w->open[w->level], &w->open[w->level + 1]);
+    }
+}
+#undef AMQPV_INTO_
+
+static inline amqpv_result amqpv_finish(amqpv_writer *w, size_t *length) {
+    uint8_t *buffer = w->buffer;
+    size_t body = w->open[0].written.length;
+    if (w->result == AMQPV_OK && w->level != 0) {
+        w->result = AMQPV_INVALID;
+    }
+    if (w->result == AMQPV_OK && body > UINT32_MAX) {
+        w->result = AMQPV_TOO_LARGE;
+    }
+    if (w->result != AMQPV_OK) {
+        w->needed = w->open[w->level].needed;
+        return w->result;
+    }
+    buffer[0] = AMQPV_CAST_(uint8_t, body >> 24 & 255);
+    buffer[1] = AMQPV_CAST_(uint8_t, body >> 16 & 255);
+    buffer[2] = AMQPV_CAST_(uint8_t, body >> 8 & 255);
+    buffer[3] = AMQPV_CAST_(uint8_t, body & 255);
+    *length = 4 + body;
+    return AMQPV_OK;
+}
+
+/* ---- Names ---- */
+
+static inline const char *amqpv_strerror(amqpv_result result) {
+    switch (result) {
+    case AMQPV_OK: return "done";
+    case AMQPV_NONE: return "none";
+    case AMQPV_MORE: return "more bytes are needed";
+    case AMQPV_UNKNOWN_TAG: return "unknown type tag";
+    case AMQPV_CUT: return "a value is missing or truncated";
+    case AMQPV_KEY_CUT: return "a key is truncated";
+    case AMQPV_KEY_NOT_UTF8: return "a key is not UTF-8";
+    case AMQPV_NOT_FINITE: return "a float is infinite or NaN";
+    case AMQPV_TOO_DEEP: return "nested too deep";
+    case AMQPV_TOO_LARGE: return "too large";
+    case AMQPV_NOT_UTF8: return "not UTF-8";
+    case AMQPV_NOT_JSON: return "not JSON";
+    case AMQPV_NOT_A_VALUE: return "not the JSON of a value";
+    case AMQPV_NO_ENCODING: return "the value has no encoding";
+    case AMQPV_INVALID: return "invalid argument";
+    case AMQPV_BAD_KEY: return "invalid key";
+    case AMQPV_BAD_TAG: return "wrong type";
+    case AMQPV_OUT_OF_RANGE: return "number out of range";
+    case AMQPV_NO_ROOM: return "buffer too small";
+    case AMQPV_NO_MEMORY: return "out of memory";
+    }
+    return "unknown result";
+}
+
+static inline const char *amqpv_tag_name(uint8_t tag) {
+    switch (tag) {
+    case AMQPV_BOOLEAN: return "Boolean";
+    case AMQPV_SHORT_SHORT_INT: return "ShortShortInt";
+    case AMQPV_SHORT_SHORT_UINT: return "ShortShortUInt";
+    case AMQPV_SHORT_INT:
+    case 'U': return "ShortInt";
+    case AMQPV_SHORT_UINT: return "ShortUInt";
+    case AMQPV_LONG_INT: return "LongInt";
+    case AMQPV_LONG_UINT: return "LongUInt";
+    case AMQPV_LONG_LONG_INT:
+    case 'L': return "LongLongInt";
+    case AMQPV_FLOAT: return "Float";
+    case AMQPV_DOUBLE: return "Double";
+    case AMQPV_DECIMAL: return "DecimalValue";
+    case AMQPV_LONG_STRING: return "LongString";
+    case AMQPV_BYTE_ARRAY: return "ByteArray";
+    case AMQPV_ARRAY: return "FieldArray";
+    case AMQPV_TABLE: return "FieldTable";
+    case AMQPV_TIMESTAMP: return "Timestamp";
+    case AMQPV_VOID: return "Void";
+    default: return "unknown";
+    }
+}
+
+#endif
