@@ -257,6 +257,29 @@ static inline amqpv_result amqpv_finish(amqpv_writer *w, size_t *length) {
     return AMQPV_OK;
 }
 
+/* ---- Calls that take more than the library's ---- */
+
+static inline amqpv_result amqpv_read_(const amqpv_input *in, amqpv_entry *entry, amqpv_problem *problem) {
+    amqpv_problem unused;
+    return amqpv_read(in, entry, problem != NULL ? problem : &unused);
+}
+
+static inline amqpv_result amqpv_measure_(const amqpv_input *in, amqpv_size *size, amqpv_problem *problem) {
+    amqpv_problem unused;
+    return amqpv_measure(in, size, problem != NULL ? problem : &unused);
+}
+
+static inline amqpv_result amqpv_from_json_(const char *text, size_t text_length, uint32_t nesting, uint8_t *buffer,
+                                            size_t capacity, size_t *length, amqpv_problem *problem) {
+    amqpv_problem unused;
+    return amqpv_from_json(text, text_length, nesting, buffer, capacity, length, problem != NULL ? problem : &unused);
+}
+
+/* (from here on these names mean the functions above) */
+#define amqpv_read amqpv_read_
+#define amqpv_measure amqpv_measure_
+#define amqpv_from_json amqpv_from_json_
+
 /* ---- Names ---- */
 
 static inline const char *amqpv_strerror(amqpv_result result) {

@@ -22,7 +22,7 @@ from tests.model.printed import field, read, value_of, write
 from tests.model.tables import random_table, raw
 
 # The programs that have no input.
-ALONE = ("large.c", "nulls.c", "threads.c")
+ALONE = ("habits.c", "large.c", "nulls.c", "threads.c")
 CC_OF_AARCH64 = [COMPILERS[AARCH64][0], *FLAGS]
 needs_aarch64 = pytest.mark.needs("--built", "aarch64")
 

@@ -1,0 +1,54 @@
+/*
+ * Does what a C programmer may do by habit, and what the header allows: each call has the result that its description leads
+ * one to expect. Prints how many calls it made.
+ */
+#include "check.h"
+
+static unsigned calls;
+
+/* Makes a call, and checks its result. */
+#define TRY(wanted, call)          \
+    do {                           \
+        calls++;                   \
+        CHECK((call) == (wanted)); \
+    } while (0)
+
+static uint8_t buffer[200];
+static size_t length;
+
+/* Headers of a message that was dead-lettered: x-death, an array of a table. */
+static amqpv_input dead_lettered(void) {
+    amqpv_writer w;
+    amqpv_begin(&w, buffer, sizeof buffer);
+    amqpv_add_array(&w, "x-death");
+    amqpv_add_table(&w, NULL);
+    amqpv_add_int(&w, "count", AMQPV_LONG_LONG_INT, 3);
+    amqpv_end(&w);
+    amqpv_end(&w);
+    TRY(AMQPV_OK, amqpv_finish(&w, &length));
+    return amqpv_table(buffer, length);
+}
+
+/* Where reading failed may be of no interest. */
+static void no_problem(void) {
+    amqpv_input in = dead_lettered();
+    amqpv_result (*reading)(const amqpv_input *, amqpv_entry *, amqpv_problem *) = amqpv_read;
+    amqpv_entry entry;
+    amqpv_size size;
+    size_t written = 77;
+    TRY(AMQPV_OK, amqpv_read(&in, &entry, NULL));
+    TRY(AMQPV_OK, amqpv_measure(&in, &size, NULL));
+    in.length--;
+    TRY(AMQPV_MORE, amqpv_read(&in, &entry, NULL));
+    TRY(AMQPV_MORE, reading(&in, &entry, NULL));
+    TRY(AMQPV_MORE, amqpv_measure(&in, &size, NULL));
+    TRY(AMQPV_OK, amqpv_from_json(AMQPV_STR("[]"), 9, buffer, sizeof buffer, &written, NULL));
+    TRY(AMQPV_NOT_JSON, amqpv_from_json(AMQPV_STR("["), 9, buffer, sizeof buffer, &written, NULL));
+    CHECK(written == 0);
+}
+
+int main(void) {
+    no_problem();
+    printf("%u calls\n", calls);
+    return 0;
+}
