@@ -32,16 +32,6 @@ static inline amqpv_result amqpv_enter(const amqpv_entry *entry, amqpv_cursor *c
     return AMQPV_OK;
 }
 
-static inline amqpv_result amqpv_get(const amqpv_input *in, const amqpv_entry *table, const char *key,
-                                     size_t key_length, amqpv_entry *entry) {
-    amqpv_step step;
-    step.key = key;
-    step.key_length = key_length;
-    step.index = 0;
-    step.into = AMQPV_TABLE;
-    return amqpv_find(in, table, &step, 1, entry);
-}
-
 static inline amqpv_result amqpv_entries(const amqpv_input *in, const amqpv_entry *container, amqpv_entry *entries,
                                          size_t capacity, size_t *count) {
     amqpv_cursor cursor;
@@ -275,10 +265,37 @@ static inline amqpv_result amqpv_from_json_(const char *text, size_t text_length
     return amqpv_from_json(text, text_length, nesting, buffer, capacity, length, problem != NULL ? problem : &unused);
 }
 
+static inline amqpv_result amqpv_find_(const amqpv_input *in, const amqpv_entry *from, const amqpv_step *path,
+                                       size_t steps, amqpv_entry *entry) {
+    amqpv_entry start;
+    size_t i;
+    for (i = 0; i < steps; i++) {
+        if (path[i].into != AMQPV_TABLE && path[i].into != AMQPV_ARRAY) {
+            return AMQPV_INVALID;
+        }
+    }
+    if (from == entry) {
+        start = *from;
+        from = &start;
+    }
+    return amqpv_find(in, from, path, steps, entry);
+}
+
+static inline amqpv_result amqpv_get(const amqpv_input *in, const amqpv_entry *table, const char *key,
+                                     size_t key_length, amqpv_entry *entry) {
+    amqpv_step step;
+    step.key = key;
+    step.key_length = key_length;
+    step.index = 0;
+    step.into = AMQPV_TABLE;
+    return amqpv_find_(in, table, &step, 1, entry);
+}
+
 /* (from here on these names mean the functions above) */
 #define amqpv_read amqpv_read_
 #define amqpv_measure amqpv_measure_
 #define amqpv_from_json amqpv_from_json_
+#define amqpv_find amqpv_find_
 
 /* ---- Names ---- */
 

@@ -47,8 +47,41 @@ static void no_problem(void) {
     CHECK(written == 0);
 }
 
+/* A loop that looks up keys has one entry. */
+static void same_entry(void) {
+    static const amqpv_step path[] = {AMQPV_INDEX(0), AMQPV_KEY("count")};
+    amqpv_input in = dead_lettered();
+    amqpv_entry entry;
+    int64_t number;
+    TRY(AMQPV_OK, amqpv_read(&in, &entry, NULL));
+    TRY(AMQPV_OK, amqpv_get(&in, &entry, AMQPV_STR("x-death"), &entry));
+    CHECK(entry.tag == AMQPV_ARRAY);
+    TRY(AMQPV_NONE, amqpv_get(&in, &entry, AMQPV_STR("count"), &entry));
+    CHECK(entry.tag == AMQPV_ARRAY);
+    TRY(AMQPV_OK, amqpv_find(&in, &entry, path, 2, &entry));
+    TRY(AMQPV_OK, amqpv_find(&in, &entry, NULL, 0, &entry));
+    TRY(AMQPV_OK, amqpv_as_int(&entry, &number));
+    CHECK(number == 3);
+}
+
+/* A step in which something was forgotten. */
+static void no_into(void) {
+    amqpv_input in = dead_lettered();
+    amqpv_step steps[2] = {{"x-death", 7, 0, AMQPV_TABLE}, {"", 0, 0, 0}};
+    amqpv_entry table, entry;
+    TRY(AMQPV_OK, amqpv_read(&in, &table, NULL));
+    TRY(AMQPV_OK, amqpv_find(&in, &table, steps, 1, &entry));
+    TRY(AMQPV_INVALID, amqpv_find(&in, &table, steps, 2, &entry));
+    steps[1].into = AMQPV_LONG_STRING;
+    TRY(AMQPV_INVALID, amqpv_find(&in, &table, steps, 2, &entry));
+    steps[0].into = 0;
+    TRY(AMQPV_INVALID, amqpv_find(&in, &table, steps, 1, &entry));
+}
+
 int main(void) {
     no_problem();
+    same_entry();
+    no_into();
     printf("%u calls\n", calls);
     return 0;
 }
