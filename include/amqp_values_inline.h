@@ -49,7 +49,7 @@ static inline amqpv_result amqpv_entries(const amqpv_input *in, const amqpv_entr
     return n <= capacity ? AMQPV_OK : AMQPV_NO_ROOM;
 }
 
-/* (for the two functions below) */
+/* (the bytes of a span) */
 static inline const char *amqpv_bytes_(const amqpv_input *in, amqpv_span span) {
     if (span.offset > in->length || span.length > in->length - span.offset || in->bytes == NULL) {
         return NULL;
@@ -62,7 +62,34 @@ static inline const char *amqpv_key(const amqpv_input *in, const amqpv_entry *en
 }
 
 static inline const char *amqpv_text(const amqpv_input *in, const amqpv_entry *entry) {
-    return amqpv_bytes_(in, entry->content);
+    int is_text = entry->tag == AMQPV_LONG_STRING || entry->tag == AMQPV_BYTE_ARRAY;
+    return is_text ? amqpv_bytes_(in, entry->content) : NULL;
+}
+
+static inline amqpv_result amqpv_as_string(const amqpv_input *in, const amqpv_entry *entry, const char **text,
+                                           size_t *length) {
+    const char *found = amqpv_text(in, entry);
+    if (entry->tag != AMQPV_LONG_STRING && entry->tag != AMQPV_BYTE_ARRAY) {
+        return AMQPV_BAD_TAG;
+    }
+    if (found == NULL) {
+        return AMQPV_INVALID;
+    }
+    *text = found;
+    *length = entry->content.length;
+    return AMQPV_OK;
+}
+
+static inline amqpv_input amqpv_of(const amqpv_input *in, const amqpv_entry *entry) {
+    amqpv_input value = *in;
+    const char *bytes = amqpv_bytes_(in, entry->value);
+    /* (between the beginning of a container and what is inside is its length, and before that its tag, if it has one) */
+    int is_untagged = entry->tag == AMQPV_TABLE && entry->content.offset == entry->value.offset + 4;
+    value.bytes = AMQPV_CAST_(const uint8_t *, AMQPV_CAST_(const void *, bytes));
+    value.length = bytes != NULL ? entry->value.length : 0;
+    value.flags &= ~AMQPV_CAST_(uint32_t, AMQPV_UNTAGGED);
+    value.flags |= is_untagged ? AMQPV_CAST_(uint32_t, AMQPV_UNTAGGED) : 0;
+    return value;
 }
 
 static inline amqpv_result amqpv_as_bool(const amqpv_entry *entry, int *truth) {

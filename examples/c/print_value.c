@@ -29,6 +29,8 @@ static void print_entry(const amqpv_input *in, const amqpv_entry *entry) {
     uint8_t scale;
     double real;
     int truth;
+    const char *text;
+    size_t length;
     printf("%s", amqpv_tag_name(entry->tag));
     if (amqpv_as_int(entry, &number) == AMQPV_OK) {
         printf(" %" PRId64, number);
@@ -40,9 +42,9 @@ static void print_entry(const amqpv_input *in, const amqpv_entry *entry) {
         printf(" %" PRIu32 "e-%d", digits, scale);
     } else if (amqpv_as_timestamp(entry, &seconds) == AMQPV_OK) {
         printf(" %" PRIu64, seconds);
-    } else if (entry->tag == AMQPV_LONG_STRING || entry->tag == AMQPV_BYTE_ARRAY) {
+    } else if (amqpv_as_string(in, entry, &text, &length) == AMQPV_OK) {
         putchar(' ');
-        print_text(amqpv_text(in, entry), entry->content.length);
+        print_text(text, length);
     }
     putchar('\n');
 }

@@ -78,10 +78,42 @@ static void no_into(void) {
     TRY(AMQPV_INVALID, amqpv_find(&in, &table, steps, 1, &entry));
 }
 
+/* What is no text has none, and a value is taken out of another. */
+static void as_string(void) {
+    static const uint8_t bytes[] = {0, 0, 0, 17, 1, 'n', 'b', 7, 1, 's', 'S', 0, 0, 0, 3, 'a', 0, 0xff, 1, 'v', 'V'};
+    amqpv_input in = amqpv_table(bytes, sizeof bytes), of_string, of_table;
+    amqpv_entry table, entry;
+    amqpv_writer w;
+    const char *text = NULL;
+    size_t count = 77;
+    TRY(AMQPV_OK, amqpv_read(&in, &table, NULL));
+    TRY(AMQPV_BAD_TAG, amqpv_as_string(&in, &table, &text, &count));
+    TRY(AMQPV_OK, amqpv_get(&in, &table, AMQPV_STR("n"), &entry));
+    TRY(AMQPV_BAD_TAG, amqpv_as_string(&in, &entry, &text, &count));
+    CHECK(text == NULL && count == 77 && amqpv_text(&in, &entry) == NULL && amqpv_text(&in, &table) == NULL);
+    TRY(AMQPV_OK, amqpv_get(&in, &table, AMQPV_STR("s"), &entry));
+    TRY(AMQPV_OK, amqpv_as_string(&in, &entry, &text, &count));
+    CHECK(count == 3 && memcmp(text, "a\0\xff", 3) == 0);
+    of_string = amqpv_of(&in, &entry);
+    of_table = amqpv_of(&in, &table);
+    CHECK(of_string.flags == 0 && of_table.flags == AMQPV_UNTAGGED);
+    amqpv_begin(&w, buffer, sizeof buffer);
+    amqpv_add_value(&w, "string", &of_string);
+    amqpv_add_value(&w, "table", &of_table);
+    TRY(AMQPV_OK, amqpv_finish(&w, &count));
+    in = amqpv_table(buffer, count);
+    TRY(AMQPV_OK, amqpv_read(&in, &table, NULL));
+    TRY(AMQPV_OK, amqpv_get(&in, &table, AMQPV_STR("table"), &table));
+    CHECK(amqpv_of(&in, &table).flags == 0 && memcmp(in.bytes + table.content.offset, bytes + 4, 17) == 0);
+    entry.value.length = sizeof buffer;
+    CHECK(amqpv_of(&in, &entry).length == 0);
+}
+
 int main(void) {
     no_problem();
     same_entry();
     no_into();
+    as_string();
     printf("%u calls\n", calls);
     return 0;
 }

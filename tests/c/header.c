@@ -21,13 +21,17 @@ static amqpv_result look_up(const amqpv_input *in, size_t index, amqpv_entry *en
     return result == AMQPV_OK && last.index > 0 ? amqpv_entries(in, entry, entry + 1, 2, &count) : result;
 }
 
-static int convert(const amqpv_entry *entry, double *number) {
+static int convert(const amqpv_input *in, const amqpv_entry *entry, double *number) {
+    const amqpv_input inside = amqpv_of(in, entry);
+    const char *text;
+    size_t length;
     int truth;
     uint64_t seconds;
     uint32_t digits;
     uint8_t scale;
     return amqpv_as_bool(entry, &truth) == AMQPV_OK || amqpv_as_timestamp(entry, &seconds) == AMQPV_OK
-           || amqpv_as_decimal(entry, &digits, &scale) == AMQPV_OK || amqpv_as_double(entry, number) == AMQPV_OK;
+           || amqpv_as_decimal(entry, &digits, &scale) == AMQPV_OK || amqpv_as_double(entry, number) == AMQPV_OK
+           || amqpv_as_string(&inside, entry, &text, &length) == AMQPV_OK;
 }
 
 static amqpv_result write(uint8_t *buffer, size_t capacity, const amqpv_input *in, size_t *length) {
@@ -59,5 +63,5 @@ const char *use(const char *given, size_t length, uint8_t *buffer, amqpv_entry *
     if (result != AMQPV_OK || look_up(&other, length, entry) != AMQPV_OK) {
         return amqpv_strerror(result);
     }
-    return convert(entry, number) ? amqpv_tag_name(entry->tag) : amqpv_key(&in, entry) != NULL ? amqpv_text(&in, entry) : "";
+    return convert(&in, entry, number) ? amqpv_tag_name(entry->tag) : amqpv_key(&in, entry) != NULL ? amqpv_text(&in, entry) : "";
 }

@@ -110,7 +110,7 @@ static void convert(void) {
            digits, scale, results[3], bits);
 }
 
-/* The places of an entry's key and content, of which any numbers are given, in so many bytes. */
+/* The places of an entry's key, content and value, of which any numbers are given, in so many bytes. */
 static void place(void) {
     size_t length = number();
     uint8_t *all = (uint8_t *)malloc(length);
@@ -118,8 +118,16 @@ static void place(void) {
     amqpv_entry entry = {{0, 0}, {0, 0}, {0, 0}, 0, 0, 0};
     entry.key.offset = entry.content.length = number();
     entry.key.length = entry.content.offset = number();
-    const char *key = amqpv_key(&in, &entry), *text = amqpv_text(&in, &entry), *start = (const char *)in.bytes;
-    printf("%td %td\n", key != NULL ? key - start : -1, text != NULL ? text - start : -1);
+    entry.tag = (uint8_t)number();
+    entry.value = entry.content;
+    const char *key = amqpv_key(&in, &entry), *text = amqpv_text(&in, &entry), *start = (const char *)in.bytes, *found = start;
+    amqpv_result result = amqpv_as_string(&in, &entry, &found, &length);
+    in.flags = (uint32_t)number();
+    amqpv_input value = amqpv_of(&in, &entry);
+    ptrdiff_t at = value.bytes != NULL ? (const char *)value.bytes - start : -1;
+    printf("%td %td %d %td %zu ", key != NULL ? key - start : -1, text != NULL ? text - start : -1, result,
+           found != NULL ? found - start : 0, length);
+    printf("%td %zu %u\n", at, value.length, (unsigned)value.flags);
     free(all);
 }
 

@@ -174,13 +174,20 @@ def test_conversions(inline: Program) -> None:
 def test_places(inline: Program) -> None:
     """The bytes of corrupted spans."""
     numbers = [0, 1, 2, 7, 8, 9, 2**32, 2**63 - 1, 2**63, 2**64 - 8, 2**64 - 1]
-    asked = [(length, one, other) for length in (0, 1, 8) for one in numbers for other in numbers]
+    tags = [(ord(tag), flags) for tag in "SxFAV" for flags in (0, 1, 9)]
+    asked = [(length, one, other, *it) for length in (0, 1, 8) for one in numbers for other in numbers for it in tags]
 
-    def at(length: int, offset: int, count: int) -> int:
-        return offset if length and is_inside((offset, count), length) else -1
+    def placed(length: int, one: int, other: int, tag: int, flags: int) -> str:
+        key, content = is_inside((one, other), length), is_inside((other, one), length)
+        key_at, at = one if length and key else -1, other if length and content else -1
+        is_text = tag in b"Sx"
+        result = calls.BAD_TAG if not is_text else OK if at >= 0 else INVALID
+        string = f"{result} {at} {one}" if result == OK else f"{result} 0 {length}"
+        value = f"{at} {one if at >= 0 else 0} {flags & ~1}"
+        return f"{key_at} {at if is_text else -1} {string} {value}"
 
-    wanted = [f"{at(length, one, other)} {at(length, other, one)}" for length, one, other in asked]
-    assert lines_of(inline, [f"place {length} {one} {other}" for length, one, other in asked]) == wanted
+    lines = [" ".join(map(str, ("place", *it))) for it in asked]
+    assert lines_of(inline, lines) == [placed(*it) for it in asked]
 
 
 def listed(data: bytes, flags: int, places: int) -> str:
