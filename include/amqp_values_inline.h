@@ -144,26 +144,53 @@ static inline amqpv_result amqpv_as_double(const amqpv_entry *entry, double *num
 /* ---- Writing ---- */
 
 static inline void amqpv_begin(amqpv_writer *w, uint8_t *buffer, size_t capacity) {
-    static const amqpv_container table = {{4, 0}, AMQPV_TABLE, 0, 0, 4};
+    static const amqpv_container table = {{4, 0}, AMQPV_TABLE, 0, 0, 0};
     w->buffer = buffer;
     w->capacity = capacity;
     w->open[0] = table;
     w->level = 0;
     w->result = capacity < 4 ? AMQPV_NO_ROOM : AMQPV_OK;
+    w->needed = 4;
 }
 
-/* (whether the functions below add an entry, and what they pass on) */
+/*
+ * (An entry is put into the innermost container, in the buffer. From the first on that has no room, each is put into an empty
+ * container and no buffer instead: that has no room either, and needs as much as the entry has.)
+ */
+static inline amqpv_container *amqpv_into_(amqpv_writer *w, amqpv_container *empty) {
+    if (w->result == AMQPV_OK) {
+        return &w->open[w->level];
+    }
+    *empty = w->open[w->level];
+    empty->written.offset = 0;
+    empty->written.length = 0;
+    empty->inner = 0;
+    return empty;
+}
+
+/* (whether an entry may be added) */
 static inline int amqpv_may_add_(amqpv_writer *w, const char *key) {
-    if (w->result == AMQPV_OK && key == NULL && w->open[w->level].tag == AMQPV_TABLE) {
+    if ((w->result == AMQPV_OK || w->result == AMQPV_NO_ROOM) && key == NULL && w->open[w->level].tag == AMQPV_TABLE) {
         w->result = AMQPV_BAD_KEY;
     }
-    return w->result == AMQPV_OK;
+    return w->result == AMQPV_OK || w->result == AMQPV_NO_ROOM;
 }
 
-#define AMQPV_INTO_ w->buffer, w->capacity, &w->open[w->level], key != NULL ? key : "", key != NULL ? strlen(key) : 0
+/* (after an entry was put into a container that amqpv_into_() has returned) */
+static inline void amqpv_added_(amqpv_writer *w, amqpv_result result, const amqpv_container *into) {
+    if (result == AMQPV_NO_ROOM) {
+        w->needed = w->result == AMQPV_OK ? into->needed : w->needed + into->needed;
+    }
+    w->result = result;
+}
+
+/* (what these functions pass on; without room a buffer of no bytes) */
+#define AMQPV_INTO_                                                                                     \
+    w->buffer, w->result == AMQPV_OK ? w->capacity : 0, into, key != NULL ? key : "", key != NULL ? strlen(key) : 0
 static inline void amqpv_add_bits_(amqpv_writer *w, const char *key, uint8_t tag, uint64_t bits, uint8_t scale) {
     if (amqpv_may_add_(w, key)) {
-        w->result = amqpv_put(AMQPV_INTO_, tag, bits, scale);
+        amqpv_container empty, *into = amqpv_into_(w, &empty);
+        amqpv_added_(w, amqpv_put(AMQPV_INTO_, tag, bits, scale), into);
     }
 }
 
@@ -208,29 +235,38 @@ static inline void amqpv_add_double(amqpv_writer *w, const char *key, double num
 
 static inline void amqpv_add_string(amqpv_writer *w, const char *key, const char *text, size_t length) {
     if (amqpv_may_add_(w, key)) {
-        w->result = amqpv_put_bytes(AMQPV_INTO_, AMQPV_LONG_STRING, text, length);
+        amqpv_container empty, *into = amqpv_into_(w, &empty);
+        amqpv_added_(w, amqpv_put_bytes(AMQPV_INTO_, AMQPV_LONG_STRING, text, length), into);
     }
 }
 
 static inline void amqpv_add_bytes(amqpv_writer *w, const char *key, const void *bytes, size_t length) {
     if (amqpv_may_add_(w, key)) {
-        w->result = amqpv_put_bytes(AMQPV_INTO_, AMQPV_BYTE_ARRAY, bytes, length);
+        amqpv_container empty, *into = amqpv_into_(w, &empty);
+        amqpv_added_(w, amqpv_put_bytes(AMQPV_INTO_, AMQPV_BYTE_ARRAY, bytes, length), into);
     }
 }
 
 static inline void amqpv_add_value(amqpv_writer *w, const char *key, const amqpv_input *in) {
     if (amqpv_may_add_(w, key)) {
-        w->result = amqpv_put_value(AMQPV_INTO_, in);
+        amqpv_container empty, *into = amqpv_into_(w, &empty);
+        amqpv_added_(w, amqpv_put_value(AMQPV_INTO_, in), into);
     }
 }
 
 static inline void amqpv_add_container_(amqpv_writer *w, const char *key, uint8_t tag) {
-    if (w->result == AMQPV_OK && w->level + 1 == AMQPV_WRITER_LEVELS) {
+    if ((w->result == AMQPV_OK || w->result == AMQPV_NO_ROOM) && w->level + 1 == AMQPV_WRITER_LEVELS) {
         w->result = AMQPV_TOO_DEEP;
     }
     if (amqpv_may_add_(w, key)) {
-        w->result = amqpv_open(AMQPV_INTO_, tag, &w->open[w->level + 1]);
-        w->level += w->result == AMQPV_OK;
+        amqpv_container empty, *into = amqpv_into_(w, &empty), *body = &w->open[w->level + 1];
+        amqpv_added_(w, amqpv_open(AMQPV_INTO_, tag, body), into);
+        if (w->result == AMQPV_NO_ROOM) {
+            *body = w->open[w->level];
+            body->tag = tag;
+            body->written.offset = w->needed;
+        }
+        w->level += w->result == AMQPV_OK || w->result == AMQPV_NO_ROOM;
     }
 }
 
@@ -243,35 +279,38 @@ static inline void amqpv_add_table(amqpv_writer *w, const char *key) {
 }
 
 static inline void amqpv_end(amqpv_writer *w) {
-    if (w->result == AMQPV_OK && w->level == 0) {
+    if ((w->result == AMQPV_OK || w->result == AMQPV_NO_ROOM) && w->level == 0) {
         w->result = AMQPV_INVALID;
     }
     if (w->result == AMQPV_OK) {
         w->level--;
         w->result = amqpv_close(w->buffer, w->capacity, &w->open[w->level], &w->open[w->level + 1]);
+    } else if (w->result == AMQPV_NO_ROOM) {
+        if (w->needed - w->open[w->level].written.offset > UINT32_MAX) {
+            w->result = AMQPV_TOO_LARGE;
+        }
+        w->level--;
     }
 }
 #undef AMQPV_INTO_
 
 static inline amqpv_result amqpv_finish(amqpv_writer *w, size_t *length) {
     uint8_t *buffer = w->buffer;
-    size_t body = w->open[0].written.length;
-    if (w->result == AMQPV_OK && w->level != 0) {
+    size_t body = w->result == AMQPV_OK ? w->open[0].written.length : w->needed - 4;
+    if ((w->result == AMQPV_OK || w->result == AMQPV_NO_ROOM) && w->level != 0) {
         w->result = AMQPV_INVALID;
     }
-    if (w->result == AMQPV_OK && body > UINT32_MAX) {
+    if ((w->result == AMQPV_OK || w->result == AMQPV_NO_ROOM) && body > UINT32_MAX) {
         w->result = AMQPV_TOO_LARGE;
     }
-    if (w->result != AMQPV_OK) {
-        w->needed = w->open[w->level].needed;
-        return w->result;
+    *length = w->result == AMQPV_OK || w->result == AMQPV_NO_ROOM ? 4 + body : 0;
+    if (w->result == AMQPV_OK) {
+        buffer[0] = AMQPV_CAST_(uint8_t, body >> 24 & 255);
+        buffer[1] = AMQPV_CAST_(uint8_t, body >> 16 & 255);
+        buffer[2] = AMQPV_CAST_(uint8_t, body >> 8 & 255);
+        buffer[3] = AMQPV_CAST_(uint8_t, body & 255);
     }
-    buffer[0] = AMQPV_CAST_(uint8_t, body >> 24 & 255);
-    buffer[1] = AMQPV_CAST_(uint8_t, body >> 16 & 255);
-    buffer[2] = AMQPV_CAST_(uint8_t, body >> 8 & 255);
-    buffer[3] = AMQPV_CAST_(uint8_t, body & 255);
-    *length = 4 + body;
-    return AMQPV_OK;
+    return w->result;
 }
 
 /* ---- Calls that take more than the library's ---- */

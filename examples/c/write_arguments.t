@@ -8,10 +8,10 @@ exact_buffer
 
 no_buffer
   $ echo '# nothing is read' | write_arguments 0
-  buffer too small
+  buffer too small: 92 bytes are needed
   [1]
 
 small_buffer
   $ echo '# nothing is read' | write_arguments 91
-  buffer too small
+  buffer too small: 92 bytes are needed
   [1]

@@ -109,11 +109,98 @@ static void as_string(void) {
     CHECK(amqpv_of(&in, &entry).length == 0);
 }
 
+/* Some arguments, and one that can't be written if `is_wrong`. */
+static amqpv_result write_arguments(uint8_t *to, size_t capacity, size_t *count, int is_wrong) {
+    amqpv_writer w;
+    amqpv_begin(&w, to, capacity);
+    amqpv_add_string(&w, "x-queue-type", AMQPV_STR("quorum"));
+    amqpv_add_array(&w, "hosts");
+    amqpv_add_table(&w, NULL);
+    amqpv_add_int(&w, "port", AMQPV_LONG_INT, 5672);
+    amqpv_end(&w);
+    amqpv_add_void(&w, is_wrong ? "key" : NULL);
+    amqpv_end(&w);
+    amqpv_add_bool(&w, "durable", 1);
+    return amqpv_finish(&w, count);
+}
+
+/* A table is measured, and then written: with each smaller buffer the capacity is the same. */
+static void measure(void) {
+    uint8_t small[100];
+    size_t needed = 77, count;
+    TRY(AMQPV_NO_ROOM, write_arguments(NULL, 0, &needed, 0));
+    CHECK(needed > 50 && needed < sizeof small);
+    for (size_t capacity = 0; capacity < needed; capacity++) {
+        memset(small, 0x33, sizeof small);
+        TRY(AMQPV_NO_ROOM, write_arguments(small, capacity, &count, 0));
+        CHECK(count == needed && small[capacity] == 0x33);
+        TRY(AMQPV_BAD_KEY, write_arguments(small, capacity, &count, 1));
+        CHECK(count == 0);
+    }
+    TRY(AMQPV_OK, write_arguments(small, needed, &count, 0));
+    CHECK(count == needed);
+    TRY(AMQPV_BAD_KEY, write_arguments(small, sizeof small, &count, 1));
+    CHECK(count == 0);
+}
+
+/* A buffer that grows while nothing is wrong. */
+static void grow(void) {
+    uint8_t first[16], second[64];
+    amqpv_writer w, copy;
+    size_t count;
+    amqpv_begin(&w, first, sizeof first);
+    amqpv_add_bool(&w, "a", 1);
+    copy = w;
+    memcpy(second, first, sizeof first);
+    copy.buffer = second;
+    copy.capacity = sizeof second;
+    amqpv_add_string(&copy, "b", AMQPV_STR("longer than the first"));
+    TRY(AMQPV_OK, amqpv_finish(&copy, &count));
+    CHECK(count == 4 + 4 + 2 + 5 + 21);
+    TRY(AMQPV_OK, amqpv_finish(&w, &count));
+    CHECK(count == 8);
+}
+
+/* What is wrong with a table is known without a buffer too. */
+static void errors_of_writer(void) {
+    for (size_t capacity = 0; capacity <= sizeof buffer; capacity += sizeof buffer) {
+        uint8_t *to = capacity > 0 ? buffer : NULL;
+        amqpv_writer w;
+        size_t count = 77;
+        amqpv_begin(&w, to, capacity);
+        amqpv_add_table(&w, "t");
+        TRY(AMQPV_INVALID, amqpv_finish(&w, &count));
+        CHECK(count == 0);
+        amqpv_begin(&w, to, capacity);
+        amqpv_add_int(&w, "t", AMQPV_LONG_UINT, 1);
+        TRY(AMQPV_BAD_TAG, amqpv_finish(&w, &count));
+        amqpv_begin(&w, to, capacity);
+        amqpv_add_int(&w, "t", AMQPV_SHORT_INT, 70000);
+        TRY(AMQPV_OUT_OF_RANGE, amqpv_finish(&w, &count));
+        amqpv_begin(&w, to, capacity);
+        amqpv_add_array(&w, "t");
+        amqpv_add_bool(&w, "key", 1);
+        TRY(AMQPV_BAD_KEY, amqpv_finish(&w, &count));
+        amqpv_begin(&w, to, capacity);
+        amqpv_end(&w);
+        TRY(AMQPV_INVALID, amqpv_finish(&w, &count));
+        amqpv_begin(&w, to, capacity);
+        for (int i = 0; i < AMQPV_WRITER_LEVELS; i++) {
+            amqpv_add_table(&w, "t");
+        }
+        TRY(AMQPV_TOO_DEEP, amqpv_finish(&w, &count));
+        CHECK(count == 0);
+    }
+}
+
 int main(void) {
     no_problem();
     same_entry();
     no_into();
     as_string();
+    measure();
+    grow();
+    errors_of_writer();
     printf("%u calls\n", calls);
     return 0;
 }

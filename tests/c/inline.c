@@ -81,7 +81,7 @@ static void add(amqpv_writer *w, const char *what) {
     free(key);
 }
 
-/* Ends the table, and prints the result, and its length and bytes or what capacity is needed. */
+/* Ends the table, and prints the result, the length, what was counted, and the bytes. */
 static void finish(amqpv_writer *w) {
     size_t length = 77;
     amqpv_result result = amqpv_finish(w, &length);
