@@ -357,11 +357,31 @@ static inline amqpv_result amqpv_get(const amqpv_input *in, const amqpv_entry *t
     return amqpv_find_(in, table, &step, 1, entry);
 }
 
+/* (after a text was written to a buffer but for its last byte: the NUL, or the room for it) */
+static inline amqpv_result amqpv_ended_(amqpv_result result, char *buffer, size_t *length) {
+    if (result == AMQPV_OK) {
+        buffer[*length] = 0;
+    } else if (result == AMQPV_NO_ROOM && *length < SIZE_MAX) {
+        ++*length;
+    }
+    return result;
+}
+
+static inline amqpv_result amqpv_to_json_(const amqpv_input *in, char *buffer, size_t capacity, size_t *length) {
+    return amqpv_ended_(amqpv_to_json(in, buffer, capacity > 0 ? capacity - 1 : 0, length), buffer, length);
+}
+
+static inline amqpv_result amqpv_write_json_(const amqpv_input *in, char *buffer, size_t capacity, size_t *length) {
+    return amqpv_ended_(amqpv_write_json(in, buffer, capacity > 0 ? capacity - 1 : 0, length), buffer, length);
+}
+
 /* (from here on these names mean the functions above) */
 #define amqpv_read amqpv_read_
 #define amqpv_measure amqpv_measure_
 #define amqpv_from_json amqpv_from_json_
 #define amqpv_find amqpv_find_
+#define amqpv_to_json amqpv_to_json_
+#define amqpv_write_json amqpv_write_json_
 
 /* ---- Names ---- */
 

@@ -193,6 +193,29 @@ static void errors_of_writer(void) {
     }
 }
 
+/* JSON is printed by %s. */
+static void print_json(void) {
+    static const char wanted[] = "{\"x-death\":[{\"count\":3}]}";
+    amqpv_result (*const writing[])(const amqpv_input *, char *, size_t, size_t *) = {amqpv_to_json, amqpv_write_json};
+    amqpv_input in = dead_lettered();
+    for (size_t i = 0; i < 2; i++) {
+        char json[64];
+        size_t needed = 77, count;
+        memset(json, 0x33, sizeof json);
+        TRY(AMQPV_NO_ROOM, writing[i](&in, NULL, 0, &needed));
+        CHECK(needed == sizeof wanted);
+        TRY(AMQPV_NO_ROOM, writing[i](&in, json, 1, &count));
+        TRY(AMQPV_NO_ROOM, writing[i](&in, json, needed - 1, &count));
+        CHECK(count == needed && json[needed - 1] == 0x33);
+        TRY(AMQPV_OK, writing[i](&in, json, needed, &count));
+        CHECK(count == strlen(json) && strcmp(json, wanted) == 0 && json[needed] == 0x33);
+        in.length--;
+        TRY(AMQPV_MORE, writing[i](&in, json, sizeof json, &count));
+        CHECK(count == 0);
+        in.length++;
+    }
+}
+
 int main(void) {
     no_problem();
     same_entry();
@@ -201,6 +224,7 @@ int main(void) {
     measure();
     grow();
     errors_of_writer();
+    print_json();
     printf("%u calls\n", calls);
     return 0;
 }

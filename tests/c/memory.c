@@ -51,6 +51,11 @@ static int is_call(const char *name) {
     return strcmp(call, name) == 0;
 }
 
+/* How many bytes more than the output a buffer needs: JSON ends with a NUL. */
+static size_t after(void) {
+    return is_call("to_json") || is_call("write_json");
+}
+
 /* Makes the call with a buffer of n bytes; nothing after or before what it writes may change, and no block may be left. */
 static amqpv_result make_call(size_t n, size_t *length) {
     amqpv_input in = amqpv_value(given_end - given_length, given_length);
@@ -75,13 +80,14 @@ static amqpv_result make_call(size_t n, size_t *length) {
         *length = 0;
     }
     calls++;
-    for (size_t i = result == AMQPV_OK ? *length : is_call("write_json") ? n : 0; i < n; i++) {
+    for (size_t i = result == AMQPV_OK ? *length + after() : is_call("write_json") ? n : 0; i < n; i++) {
         CHECK(buffer[i] == FILLED);
     }
     for (size_t i = 1; i <= 16; i++) {
         CHECK(buffer[-(ptrdiff_t)i] == FILLED);
     }
     CHECK(blocks == 0 && (result != AMQPV_OK || memcmp(buffer, wanted, *length) == 0));
+    CHECK(result != AMQPV_OK || after() == 0 || buffer[*length] == 0);
     return result;
 }
 
@@ -99,16 +105,17 @@ int main(void) {
         memcpy(given_end - given_length, bytes, given_length);
         wanted_length = of_digits(out, wanted);
         uint64_t before = requests;
-        amqpv_result result = make_call(wanted_length, &length), without = is_call("warn") ? result : AMQPV_OK;
+        size_t needed = wanted_length + after();
+        amqpv_result result = make_call(needed, &length), without = is_call("warn") ? result : AMQPV_OK;
         CHECK(result == without && length == wanted_length && (requests == before || !is_call("write_json")));
         int is_small = wanted_length < 300;
-        for (size_t n = is_small || wanted_length == 0 ? 0 : wanted_length - 3; n <= wanted_length + 1; n++) {
-            CHECK(make_call(n, &length) == (n < wanted_length ? AMQPV_NO_ROOM : without) && length == wanted_length);
+        for (size_t n = is_small || wanted_length == 0 ? 0 : wanted_length - 3; n <= needed + 1; n++) {
+            CHECK(make_call(n, &length) == (n < needed ? AMQPV_NO_ROOM : without) && length == (n < needed ? needed : wanted_length));
         }
         for (uint64_t nth = 1;; nth += is_small ? 1 : 17) {
             before = requests;
             failing = requests + nth;
-            result = make_call(wanted_length, &length);
+            result = make_call(needed, &length);
             failing = 0;
             CHECK(result == without ? length == wanted_length : result == AMQPV_NO_MEMORY && length == 0);
             if (requests - before < nth) {
