@@ -14,7 +14,7 @@ OK, NONE = 0, 1
     MORE, UNKNOWN_TAG, CUT, KEY_CUT, KEY_NOT_UTF8, NOT_FINITE, TOO_DEEP, TOO_LARGE, NOT_UTF8, NOT_JSON, NOT_A_VALUE,
     NO_ENCODING, INVALID, BAD_KEY, BAD_TAG, OUT_OF_RANGE, NO_ROOM, NO_MEMORY,
 ) = range(-1, -19, -1)  # fmt: skip
-UNTAGGED, ANY_KEYS, RABBITMQ, FIRST_KEY = 1, 2, 4, 8
+UNTAGGED, ANY_KEYS, RABBITMQ, FIRST_KEY, STREAMS = 1, 2, 4, 8, 16
 MAX_BYTES, MAX_DEPTH, NESTING = 2**20, 64, 127
 NOWHERE = 2**64 - 1
 # The kind of a problem in tests/model/tables.py, by the result.
@@ -58,7 +58,7 @@ FLAGS = [("tag", c_uint8), ("inner", c_uint8), ("any_keys", c_uint8)]
 Container = _struct("Container", ("written", Span), *FLAGS, ("needed", c_size_t))
 OFFSETS = ("repeated_key", "key_not_utf8", "empty_key", "too_deep", "decimal", "nested_header")
 LATER = [("exceeds_frame", c_uint8), ("reserved_flags", c_uint8 * 7)]
-Warnings = _struct("Warnings", *_sizes(*OFFSETS), ("reserved", c_size_t * 4), *LATER)
+Warnings = _struct("Warnings", *_sizes("count", *OFFSETS), ("reserved", c_size_t * 4), *LATER)
 
 
 class Place:
@@ -166,7 +166,7 @@ def as_number(name: str, tag: str, bits: int) -> tuple[int, int | None]:
 
 
 def warn(data: bytes, flags: int, max_depth: int, frame_max: int, levels: int) -> tuple[int, dict[str, Any] | None]:
-    """The result, and what is doubtful, by its name: an offset or None, and of the frame a bool."""
+    """The result, and what is doubtful, by its name: an offset or None, of the frame a bool, and how much it is."""
     warnings: Any = Warnings.fresh()
     limits = byref(given(data, flags, MAX_BYTES, max_depth)), c_uint32(frame_max), c_uint32(levels)
     result = called("warn", *limits, byref(warnings))
@@ -174,7 +174,7 @@ def warn(data: bytes, flags: int, max_depth: int, frame_max: int, levels: int) -
         return result, None
     assert [*warnings.reserved] == [NOWHERE] * 4 and [*warnings.reserved_flags] == [0] * 7
     offsets = {it: getattr(warnings, it) for it in OFFSETS}
-    exceeds = {"exceeds_frame": warnings.exceeds_frame == 1}
+    exceeds = {"exceeds_frame": warnings.exceeds_frame == 1, "count": warnings.count}
     return result, {it: None if at == NOWHERE else at for it, at in offsets.items()} | exceeds
 
 

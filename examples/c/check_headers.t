@@ -30,6 +30,20 @@ keys
   an empty key, at 12
   [1]
 
+streams
+  $ check_headers streams <<'END'
+  > 00000018
+  > 01 61 44 02 0000013a                       # a: a decimal
+  > 01 62 41 00000009 46 00000004 01 63 74 01  # b: an array of a table
+  > END
+  a decimal, which a stream does not take, at 6
+  a container, which a stream drops, at 14
+  [1]
+
+streams_not_asked_for
+  $ echo '00000018 01 61 44 02 0000013a 01 62 41 00000009 46 00000004 01 63 74 01' | check_headers
+  no warnings
+
 unknown_tag
   $ echo '00000005 01 61 55 0007   # RabbitMQ does not know the tag U' | check_headers
   not accepted: unknown type tag, at 6

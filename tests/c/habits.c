@@ -216,6 +216,20 @@ static void print_json(void) {
     }
 }
 
+/* What is well is sent: without AMQPV_STREAMS nothing is wrong with x-death. */
+static void warn(void) {
+    static const uint8_t repeated[] = {0, 0, 0, 6, 1, 'a', 'V', 1, 'a', 'V'};
+    amqpv_input in = dead_lettered(), other = amqpv_table(repeated, sizeof repeated);
+    amqpv_warnings warnings;
+    TRY(AMQPV_OK, amqpv_warn(&in, 131072, AMQPV_CLIENT_LEVELS, &warnings));
+    CHECK(warnings.count == 0 && warnings.nested_header == SIZE_MAX);
+    in.flags |= AMQPV_STREAMS;
+    TRY(AMQPV_OK, amqpv_warn(&in, 131072, AMQPV_CLIENT_LEVELS, &warnings));
+    CHECK(warnings.count == 1 && warnings.nested_header == 12);
+    TRY(AMQPV_OK, amqpv_warn(&other, 131072, AMQPV_CLIENT_LEVELS, &warnings));
+    CHECK(warnings.count == 1 && warnings.repeated_key == 7);
+}
+
 int main(void) {
     no_problem();
     same_entry();
@@ -225,6 +239,7 @@ int main(void) {
     grow();
     errors_of_writer();
     print_json();
+    warn();
     printf("%u calls\n", calls);
     return 0;
 }

@@ -58,16 +58,17 @@ FIELD(amqpv_container, inner, 17, 1);
 FIELD(amqpv_container, any_keys, 18, 1);
 FIELD(amqpv_container, needed, 24, 8);
 
-STRUCT(amqpv_warnings, 88, 8);
-FIELD(amqpv_warnings, repeated_key, 0, 8);
-FIELD(amqpv_warnings, key_not_utf8, 8, 8);
-FIELD(amqpv_warnings, empty_key, 16, 8);
-FIELD(amqpv_warnings, too_deep, 24, 8);
-FIELD(amqpv_warnings, decimal, 32, 8);
-FIELD(amqpv_warnings, nested_header, 40, 8);
-FIELD(amqpv_warnings, reserved, 48, 32);
-FIELD(amqpv_warnings, exceeds_frame, 80, 1);
-FIELD(amqpv_warnings, reserved_flags, 81, 7);
+STRUCT(amqpv_warnings, 96, 8);
+FIELD(amqpv_warnings, count, 0, 8);
+FIELD(amqpv_warnings, repeated_key, 8, 8);
+FIELD(amqpv_warnings, key_not_utf8, 16, 8);
+FIELD(amqpv_warnings, empty_key, 24, 8);
+FIELD(amqpv_warnings, too_deep, 32, 8);
+FIELD(amqpv_warnings, decimal, 40, 8);
+FIELD(amqpv_warnings, nested_header, 48, 8);
+FIELD(amqpv_warnings, reserved, 56, 32);
+FIELD(amqpv_warnings, exceeds_frame, 88, 1);
+FIELD(amqpv_warnings, reserved_flags, 89, 7);
 
 STRUCT(amqpv_writer, 544, 8);
 FIELD(amqpv_writer, buffer, 0, 8);
@@ -102,6 +103,7 @@ CONSTANT(AMQPV_UNTAGGED, 1);
 CONSTANT(AMQPV_ANY_KEYS, 2);
 CONSTANT(AMQPV_RABBITMQ, 4);
 CONSTANT(AMQPV_FIRST_KEY, 8);
+CONSTANT(AMQPV_STREAMS, 16);
 
 CONSTANT(AMQPV_MAX_BYTES, 1048576);
 CONSTANT(AMQPV_MAX_DEPTH, 64);

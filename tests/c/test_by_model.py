@@ -8,7 +8,7 @@ from typing import Any
 import pytest
 
 from tests import calls_for_c as calls
-from tests.calls_for_c import ANY_KEYS, FIRST_KEY, INVALID, NONE, NOWHERE, OK, RABBITMQ, UNTAGGED
+from tests.calls_for_c import ANY_KEYS, FIRST_KEY, INVALID, NONE, NOWHERE, OK, RABBITMQ, STREAMS, UNTAGGED
 from tests.model.json_format import LEVELS, Rejected, json_of, some_value, text_for, texts, value_of_json
 from tests.model.printed import COUNTED, SIGNED, TYPES, doubtful, exceeds, extent, field, inputs, is_utf8, lack, nested
 from tests.model.printed import read, unfit_for_streams, untagged, value_of, write
@@ -130,22 +130,22 @@ def test_problems(flags: int, seed: int) -> None:
     "data", (b"", b"I", b"I\0\0\0\7", b"z", b"F\0\0\0\3\1aV", b"F\0\0\0\3\1\xffV", b"S\0\0\0\2ab", b"U\0\1")
 )
 def test_limits(data: bytes) -> None:
-    for flags in range(16):
+    for flags in range(32):
         for max_bytes in (0, 1, 2, 4, 5, 6, 7, 8, 2**31, 2**32 - 1):
             for max_depth in (0, 1, 2, 2**32 - 1):
                 assert_read(data, flags, max_bytes, max_depth)
 
 
 # Every bit of the flags that has no meaning; and those that most calls don't take.
-UNKNOWN = [1 << it for it in range(4, 32)]
+UNKNOWN = [1 << it for it in range(5, 32)]
 
 
 @pytest.mark.parametrize("data", (b"", b"V", b"z", b"F\0\0\0\0"))
 def test_flags(data: bytes) -> None:
     """A flag that isn't known comes before all else."""
     entry = calls.Entry()
-    for flags in [*UNKNOWN, *(it | 15 for it in UNKNOWN), ANY_KEYS, RABBITMQ, RABBITMQ | UNTAGGED]:
-        is_known = flags < 16
+    for flags in [*UNKNOWN, *(it | 31 for it in UNKNOWN), ANY_KEYS, RABBITMQ, RABBITMQ | UNTAGGED]:
+        is_known = flags < 32
         if not is_known:
             assert calls.read(data, flags) == (INVALID, None, None)
             assert calls.peek(data, flags) == (INVALID, None)
@@ -553,12 +553,13 @@ def test_texts_with_other_spellings(seed: int) -> None:
 # Warnings
 
 
-def warnings_of(data: bytes, levels: int, frame_max: int, left_out: int) -> dict[str, Any] | None:
+def warnings_of(data: bytes, levels: int, frame_max: int, flags: int) -> dict[str, Any]:
     """What is doubtful by the model, of a table without its type tag if one byte is left out."""
-    places = doubtful(data, levels) | unfit_for_streams(data)
-    first = {name: max(0, it[0] - left_out) if it else None for name, it in places.items()}
+    of_streams = unfit_for_streams(data)
+    places = doubtful(data, levels) | (of_streams if flags & STREAMS else {it: [] for it in of_streams})
+    first = {name: max(0, it[0] - (flags & UNTAGGED)) if it else None for name, it in places.items()}
     found = first | {"exceeds_frame": exceeds(extent(data[:5]), frame_max)}
-    return found if any(it is not None and it is not False for it in found.values()) else None
+    return found | {"count": sum(it is not None and it is not False for it in found.values())}
 
 
 def test_warnings(seed: int) -> None:
@@ -567,12 +568,14 @@ def test_warnings(seed: int) -> None:
     for data in (odd_table(make) for _ in range(2000)):
         for levels in range(5) if not first_problem(data, "RabbitMQ", 4) else ():
             for left_out in (0, 1):
-                flags, frame_max = left_out | make.choice([0, FIRST_KEY, ANY_KEYS, RABBITMQ]), make.choice([64, 64, 0])
+                flags = left_out | make.choice([0, FIRST_KEY, ANY_KEYS, RABBITMQ]) | make.choice([0, STREAMS])
+                frame_max = make.choice([64, 64, 0])
                 result, found = calls.warn(data[left_out:], flags, 4, frame_max, levels)
-                wanted = warnings_of(data, levels, frame_max, left_out)
-                assert (result, found) == ((OK, wanted) if wanted else (NONE, None)), data.hex()
-            seen |= {name for name, it in found.items() if it is not None and it is not False} if found else {""}
-    assert seen == {*calls.OFFSETS, "exceeds_frame", ""}
+                wanted = warnings_of(data, levels, frame_max, flags)
+                assert (result, found) == (OK, wanted), data.hex()
+                seen |= {name for name, it in wanted.items() if it is not None and it is not False}
+                seen |= set() if wanted["count"] else {""}
+    assert seen == {*calls.OFFSETS, "exceeds_frame", "count", ""}
 
 
 def test_much_memory() -> None:
@@ -586,7 +589,8 @@ def test_much_memory() -> None:
     assert calls.to_json(data, *limits) == (OK, in_order)
     assert calls.write_json(wanted, *limits) == (OK, in_order)
     assert calls.from_json(text.encode()) == (OK, wanted, None)
-    assert calls.warn(data, 0, 1, 0, 1) == (NONE, None)
+    result, found = calls.warn(data, 0, 1, 0, 1)
+    assert result == OK and found and found["count"] == 0
 
 
 def test_version() -> None:

@@ -106,8 +106,8 @@ def some_line(make: Random, writer: Writer) -> str:
         writer.append(key, field(ADDED[what].encode(), data or b""))
         return f"{line} {word(data)}"
     if what == "value":
-        data, flags = make.choice(VALUES), make.choice([0, 0, 1, 2, 4, 16])
-        whole, wrong = b"F" * (flags & 1) + data, INVALID if flags > 15 else wanted_problem(data, flags, 2**20, 64)[0]
+        data, flags = make.choice(VALUES), make.choice([0, 0, 1, 2, 4, 16, 32])
+        whole, wrong = b"F" * (flags & 1) + data, INVALID if flags > 31 else wanted_problem(data, flags, 2**20, 64)[0]
         writer.append(key, whole[: extent(whole)], wrong)
         return f"{line} {word(data)} {flags}"
     scale = make.randrange(256) * (what == "decimal")

@@ -21,9 +21,12 @@ is_untagged = has_flag 0
 abbrev pub is_first_key : Input → Bool
 is_first_key = has_flag 3
 
--- whether there is another flag than these four
+abbrev pub is_for_streams : Input → Bool
+is_for_streams = has_flag 4
+
+-- whether there is another flag than these five
 abbrev pub has_unknown_flag : Input → Bool
-has_unknown_flag input = nat_lt 15 input.flags
+has_unknown_flag input = nat_lt 31 input.flags
 
 -- the rules that the value has to keep, if there is none
 abbrev pub rules : Input → Option Rules

@@ -5,7 +5,7 @@ ghost use Rattle.amqp_value_core.specs.Inputs.{IsBytes};
 ghost use Rattle.amq_protocol_types.specs.parsing.Limits.{IsHeader};
 ghost use Rattle.amqp_in_place.specs.declared.problems.Rules.TheVariants.{Reading};
 ghost use Rattle.amqp_in_place.specs.ProblemResults.{FindsValue, FailsAt};
-ghost use Rattle.amqp_c.specs.Inputs.{limits, is_untagged, is_first_key, has_unknown_flag, rules, is_strict, encoding};
+ghost use Rattle.amqp_c.specs.Inputs.{limits, is_untagged, is_first_key, is_for_streams, has_unknown_flag, rules, is_strict, encoding};
 ghost use Rattle.amqp_c.specs.ReadErrors.{first_problem, read_error};
 
 use crate::problem::ReadError;
@@ -24,7 +24,8 @@ pub struct Input<'a> {
     pub max_bytes: u32,
     /// How deep containers may nest.
     pub max_depth: u32,
-    /// The sum of `AMQPV_UNTAGGED` (1), `AMQPV_ANY_KEYS` (2), `AMQPV_RABBITMQ` (4) and `AMQPV_FIRST_KEY` (8).
+    /// The sum of `AMQPV_UNTAGGED` (1), `AMQPV_ANY_KEYS` (2), `AMQPV_RABBITMQ` (4), `AMQPV_FIRST_KEY` (8) and
+    /// `AMQPV_STREAMS` (16).
     pub flags: u32,
 }
 
@@ -65,12 +66,19 @@ impl<'a> Input<'a> {
         self.flags >> 3 & 1 == 1
     }
 
+    /// Whether warnings are of stream queues too.
+    pub fn is_for_streams(&self) -> bool
+        ensures { result ≡ is_for_streams self.now }
+    {
+        self.flags >> 4 & 1 == 1
+    }
+
     /// Whether a flag is unknown.
     #[inline(always)]
     pub fn has_unknown_flag(&self) -> bool
         ensures { result ≡ has_unknown_flag self.now }
     {
-        self.flags > 15
+        self.flags > 31
     }
 
     /// The rules that the value has to keep, or `None` if a flag is unknown.

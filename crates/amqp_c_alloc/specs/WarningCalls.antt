@@ -1,12 +1,12 @@
 -- The call that looks for what a client or a stream queue may not accept.
-use Rattle.std.specs.Prelude.{ℕ, ◌≡◌, ◌<◌, ◌-◌, ◌^◌, ◌||◌, ℤ, pos, min, Bool, true, false, if◌then◌else◌, [], ◌∷◌, length, Option, Some, None, is_some, Result, Ok, Err, MatchResult, ◌⊎◌}
+use Rattle.std.specs.Prelude.{ℕ, ◌≡◌, ◌<◌, ◌+◌, ◌-◌, ◌^◌, ℤ, min, Bool, true, false, if◌then◌else◌, [], ◌∷◌, length, Option, Some, None, is_some, Result, Ok, Err, MatchResult, ◌⊎◌}
 use Rattle.amqp_in_place.specs.declared.rabbitmq.warning.Warned.{Warned}
 use Rattle.amqp_in_place.specs.RabbitmqWarnings.{WarningPlace, first_repeated_key, first_key_not_utf8, first_empty_key, first_too_deep, first_decimal, in_untagged, passes_frame, AreInside}
 use Rattle.amqp_c.specs.declared.fault.Fault.{Fault}
 use Rattle.amqp_c.specs.declared.fault.Fault.TheVariants.{Invalid, NoMemory}
 use Rattle.amqp_c.specs.declared.input.Input.{Input}
-use Rattle.amqp_c.specs.Inputs.{is_untagged, has_unknown_flag, encoding}
-use Rattle.amqp_c.specs.ReturnCodes.{code_of}
+use Rattle.amqp_c.specs.Inputs.{is_untagged, is_for_streams, has_unknown_flag, encoding}
+use Rattle.amqp_c.specs.ReturnCodes.{return_code_of}
 use Rattle.amqp_c_alloc.specs.declared.warnings.Warnings.{Warnings}
 
 -- no offset
@@ -17,8 +17,19 @@ abbrev pub offset_of : Option ℕ → ℕ
 offset_of (Some n) = n
 offset_of None = nowhere
 
+-- 1 if it is so, otherwise 0
+abbrev pub one_if : Bool → ℕ
+one_if b = if b then 1 else 0
+
+-- how many warnings there are
+abbrev pub count_of : Warned → ℕ
+count_of w =
+    one_if (is_some w.repeated_key) + one_if (is_some w.key_not_utf8) + one_if (is_some w.empty_key) + one_if (is_some w.too_deep)
+    + one_if (is_some w.decimal) + one_if (is_some w.nested_header) + one_if w.exceeds_frame
+
 abbrev pub numbered : Warned → Warnings
 numbered w = record {
+  count = count_of w;
   repeated_key = offset_of w.repeated_key;
   key_not_utf8 = offset_of w.key_not_utf8;
   empty_key = offset_of w.empty_key;
@@ -26,30 +37,26 @@ numbered w = record {
   decimal = offset_of w.decimal;
   nested_header = offset_of w.nested_header;
   reserved = nowhere ∷ nowhere ∷ nowhere ∷ nowhere ∷ [];
-  exceeds_frame = if w.exceeds_frame then 1 else 0;
+  exceeds_frame = one_if w.exceeds_frame;
   reserved_flags = 0 ∷ 0 ∷ 0 ∷ 0 ∷ 0 ∷ 0 ∷ 0 ∷ [];
 }
 
--- whether there are warnings
-abbrev pub has_any : Warned → Bool
-has_any w =
-    is_some w.repeated_key
-    || is_some w.key_not_utf8
-    || is_some w.empty_key
-    || is_some w.too_deep
-    || is_some w.decimal
-    || is_some w.nested_header
-    || w.exceeds_frame
+-- without the flag for streams, what concerns only these isn't a warning
+abbrev pub asked_for : Input → Warned → Warned
+asked_for input w = if is_for_streams input then w else record {
+  repeated_key = w.repeated_key;
+  key_not_utf8 = w.key_not_utf8;
+  empty_key = w.empty_key;
+  too_deep = w.too_deep;
+  decimal = None;
+  nested_header = None;
+  exceeds_frame = w.exceeds_frame;
+}
 
--- the result: 0 if there are warnings, 1 if there are none, or that of the fault
-abbrev pub warnings_code : Result Warned Fault → ℤ
-warnings_code (Ok w) = if has_any w then pos 0 else pos 1
-warnings_code (Err f) = code_of f
-
--- what is left: the warnings, if there are any, otherwise what was there
-abbrev pub numbered_or_old : Warnings → Result Warned Fault → Warnings
-numbered_or_old old (Ok w) = if has_any w then numbered w else old
-numbered_or_old old (Err f) = old
+-- what is left: the warnings that are asked for, or after a fault what was there
+abbrev pub warnings_or_old : Input → Warnings → Result Warned Fault → Warnings
+warnings_or_old input old (Ok w) = numbered (asked_for input w)
+warnings_or_old input old (Err f) = old
 
 -- the place of the first in the input, of a table without its type tag by its length
 abbrev pub place_in : Input → WarningPlace → Option ℕ
@@ -78,9 +85,9 @@ IsWarningFault input f = ((has_unknown_flag input ≡ true) × (f ≡ Invalid)) 
 abbrev pub IsFoundBy : ℕ → ℕ → Input → Result Warned Fault → Type 0
 IsFoundBy frame_max levels input found = MatchResult found (λ w. (has_unknown_flag input ≡ false) × AreFirst frame_max levels input w) (IsWarningFault input)
 
--- what is found is given if there are warnings, otherwise what was there stays
+-- the warnings that are asked for are left, or after a fault what was there
 pub record GivesWarnings (frame_max levels : ℕ) (input : Input) (old : Warnings) (code : ℤ) (new : Warnings) : Type 0 where
   pub found : Result Warned Fault
   pub right : IsFoundBy frame_max levels input found
-  pub returned : code ≡ warnings_code found
-  pub left : new ≡ numbered_or_old old found
+  pub returned : code ≡ return_code_of found
+  pub left : new ≡ warnings_or_old input old found

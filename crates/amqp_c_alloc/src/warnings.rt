@@ -1,25 +1,25 @@
 //! What RabbitMQ accepts in a value, and a client or a stream queue may not.
 
-ghost use Rattle.std.specs.Prelude.{◌≡◌, MatchResult};
-ghost use Rattle.amqp_c_alloc.specs.WarningCalls.{offset_of, numbered, has_any, warnings_code, numbered_or_old, IsFoundBy, AreFirst, CanRunOut};
+ghost use Rattle.std.specs.Prelude.{◌≡◌, ◌≤◌, MatchResult};
+ghost use Rattle.amqp_c.specs.ReturnCodes.{return_code_of};
+ghost use Rattle.amqp_c_alloc.specs.WarningCalls.{offset_of, one_if, count_of, numbered, asked_for, warnings_or_old, IsFoundBy, AreFirst, CanRunOut};
 
 use amqp_c::{Fault, Input};
 use amqp_in_place::rabbitmq::{Warned, warnings, warnings_in_table};
 use std::alloc::{AllocError, Global};
 
-/// There are warnings.
+/// It was looked for them.
 const OK: i32 = 0;
-
-/// There are none.
-const NONE: i32 = 1;
 
 /// No offset.
 const NOWHERE: usize = usize::MAX;
 
-/// The offset of the first of each construct: `amqpv_warnings`.
+/// How many constructs there are, and the offset of the first of each: `amqpv_warnings`.
 #[repr(C)]
 #[derive(Clone, Copy)]
 pub struct Warnings {
+    /// How many of the constructs below there are.
+    pub count: usize,
     /// A pair whose key an earlier pair of the same table has.
     pub repeated_key: usize,
     /// A pair whose key isn't UTF-8.
@@ -46,6 +46,7 @@ impl Warnings {
         ensures { result ≡ numbered warned }
     {
         Warnings {
+            count: count_of(warned),
             repeated_key: offset_of(warned.repeated_key),
             key_not_utf8: offset_of(warned.key_not_utf8),
             empty_key: offset_of(warned.empty_key),
@@ -93,20 +94,35 @@ fn warnings_of(
     }
 }
 
-/// Leaves the warnings, if there are any, and returns whether there are any.
-pub fn store_warnings(found: Result<Warned, Fault>, warnings: &mut Warnings) -> i32
-    ensures returned { result ≡ warnings_code found }
-    ensures warnings { warnings.new ≡ numbered_or_old warnings.old found }
+/// Leaves the warnings that are asked for.
+pub fn store_warnings(
+    input: &Input<'_>,
+    found: Result<Warned, Fault>,
+    warnings: &mut Warnings,
+) -> i32
+    ensures returned { result ≡ return_code_of found }
+    ensures warnings { warnings.new ≡ warnings_or_old input.now warnings.old found }
 {
     match found {
         Ok(warned) => {
-            if !has_any(warned) {
-                return NONE;
-            }
-            *warnings = Warnings::of(warned);
+            *warnings = Warnings::of(asked_for(input, warned));
             OK
         }
         Err(fault) => fault.code(),
+    }
+}
+
+/// The warnings, without those of stream queues unless a flag asks for them.
+fn asked_for(input: &Input<'_>, warned: Warned) -> Warned
+    ensures { result ≡ asked_for input.now warned }
+{
+    if input.is_for_streams() {
+        return warned;
+    }
+    Warned {
+        decimal: None,
+        nested_header: None,
+        ..warned
     }
 }
 
@@ -120,15 +136,23 @@ fn offset_of(offset: Option<usize>) -> usize
     }
 }
 
-/// Whether there are warnings.
-fn has_any(warned: Warned) -> bool
-    ensures { result ≡ has_any warned }
+/// How many warnings there are.
+fn count_of(warned: Warned) -> usize
+    ensures { result ≡ count_of warned }
 {
-    warned.repeated_key.is_some()
-        || warned.key_not_utf8.is_some()
-        || warned.empty_key.is_some()
-        || warned.too_deep.is_some()
-        || warned.decimal.is_some()
-        || warned.nested_header.is_some()
-        || warned.exceeds_frame
+    one_if(warned.repeated_key.is_some())
+        + one_if(warned.key_not_utf8.is_some())
+        + one_if(warned.empty_key.is_some())
+        + one_if(warned.too_deep.is_some())
+        + one_if(warned.decimal.is_some())
+        + one_if(warned.nested_header.is_some())
+        + one_if(warned.exceeds_frame)
+}
+
+/// 1 if it is so, otherwise 0.
+fn one_if(is_so: bool) -> usize
+    ensures value { result ≡ one_if is_so }
+    ensures small { result ≤ 1 }
+{
+    usize::from(is_so)
 }

@@ -93,7 +93,7 @@ pub(crate) fn problem_for_rabbitmq(bytes: &[u8], flags: u32, limits: Limits) -> 
     }
 }
 
-/// What others may not accept of a value that RabbitMQ accepts, if there is anything.
+/// What others than RabbitMQ may not accept, streams included.
 #[cfg(feature = "std")]
 pub(crate) fn warn(
     bytes: &[u8],
@@ -101,15 +101,14 @@ pub(crate) fn warn(
     limits: Limits,
     frame_max: u32,
     levels: u32,
-) -> Result<Option<amqpv_warnings>, Error> {
+) -> Result<amqpv_warnings, Error> {
     // what isn't a value would have no warnings
     checked(amqpv_read, bytes, flags | AMQPV_RABBITMQ, limits)?;
     let limits = Limits { depth: limits.depth.min(ALLOCATING_DEPTH), ..limits };
     let mut warnings = amqpv_warnings::default();
     // SAFETY: `bytes` can be read, `warnings` is borrowed alone, and the stack suffices for the depth
-    match unsafe { amqpv_warn(&input(bytes, flags, limits), frame_max, levels, &mut warnings) } {
-        AMQPV_OK => Ok(Some(warnings)),
-        AMQPV_NONE => Ok(None),
+    match unsafe { amqpv_warn(&input(bytes, flags | AMQPV_STREAMS, limits), frame_max, levels, &mut warnings) } {
+        AMQPV_OK => Ok(warnings),
         // AMQPV_NO_MEMORY: the flags are known
         _ => Err(Error::OutOfMemory),
     }
