@@ -13,7 +13,15 @@ VERIFICATION, ANSWERS = "docs/VERIFICATION.md", "crates/test_calls/data/rust.cal
 RESULTS = "bench/RESULTS.md"
 # The default limits on bytes and on levels: where they are, and patterns of which each has groups for `bytes` or `depth`.
 DEFAULTS = {
-    "README.md": [r"frame: (?P<bytes>[\d_]+), depth: (?P<depth>\d+)"],
+    "crates/examples/src/in_place.rt": [r"frame: (?P<bytes>[\d_]+),\s+depth: (?P<depth>\d+)"],
+    "docs/LIMITS.md": [
+        r"`Limits::DEFAULT` has (?P<bytes>\d+) \| `Limits::depth`; (?P<depth>\d+) ",
+        r"`max_bytes`; (?P<bytes>\d+) \| `max_depth`; (?P<depth>\d+) ",
+        r"`max_bytes`; (?P<bytes>\d+) \| `depth`; (?P<depth>\d+), at most 512 ",
+        r"`max_bytes`; (?P<bytes>\d+) \| `depth`; (?P<depth>\d+), at most 4096 ",
+        r"`--max-bytes`; (?P<bytes>\d+) \| `--depth`; (?P<depth>\d+), at most 1000 ",
+        r"`AMQPV_MAX_BYTES`; (?P<bytes>\d+) \| `AMQPV_MAX_DEPTH`; (?P<depth>\d+) ",
+    ],
     "crates/amq_protocol_types/src/parsing/limits.rt": [r"frame: (?P<bytes>[\d_]+), depth: (?P<depth>\d+)"],
     "crates/amqp_show/src/arguments.rt": [
         r"const MAX_BYTES: u32 = (?P<bytes>[\d_]+);",

@@ -1,10 +1,11 @@
-"""The example of docs/ADOPTING.md, which takes the place of pika's function, in pika's own frames."""
+"""The examples of README.md and docs/ADOPTING.md for pika, in pika's own frames, without a broker."""
 
 import re
 from typing import Any
 
 import pika.data
 import pytest
+from amqp_values.adapters import pika as adapter
 from crates import TOP
 from pika import frame, spec
 
@@ -21,19 +22,19 @@ def example(monkeypatch: pytest.MonkeyPatch) -> dict[str, Any]:
     return names
 
 
-def headers_in_a_frame(table: bytes) -> Any:
+def properties_of(table: bytes) -> Any:
     """What pika reads of a content header with these headers, and a property after them."""
     flags = spec.BasicProperties.FLAG_HEADERS | spec.BasicProperties.FLAG_DELIVERY_MODE
     body = b"\0\x3c\0\0" + bytes(8) + flags.to_bytes(2, "big") + table + b"\x02"
     _, header = frame.decode_frame(b"\x02\0\x01" + len(body).to_bytes(4, "big") + body + b"\xce")
     assert header.properties.delivery_mode == 2
-    return header.properties.headers
+    return header.properties
 
 
 def test_headers_are_read_as_by_pika(example: dict[str, Any]) -> None:
     for name, data in captured().items():
         if name.startswith("x-death"):
-            assert headers_in_a_frame(data[1:])["x-death"][0]["count"] >= 1, name
+            assert properties_of(data[1:]).headers["x-death"][0]["count"] >= 1, name
 
 
 @pytest.mark.parametrize(
@@ -48,5 +49,34 @@ def test_headers_are_read_as_by_pika(example: dict[str, Any]) -> None:
 )
 def test_headers_are_refused(example: dict[str, Any], table: bytes, kind: str) -> None:
     """The frame is read on after a table that is refused."""
-    found = headers_in_a_frame(table)
+    found = properties_of(table).headers
     assert isinstance(found, example["RefusedHeaders"]) and found.problem.kind == kind
+
+
+class Channel:
+    """What the handler of README.md calls, in order."""
+
+    def __init__(self) -> None:
+        self.calls: list[str] = []
+
+    def basic_reject(self, tag: int, requeue: bool) -> None:
+        self.calls.append(f"reject {tag} {requeue}")
+
+    def basic_ack(self, tag: int) -> None:
+        self.calls.append(f"ack {tag}")
+
+
+def test_handler_of_the_readme(capsys: pytest.CaptureFixture[str]) -> None:
+    """It rejects a message of 500 levels of headers, takes the next one, and prints what the page shows."""
+    page = (TOP / "README.md").read_text()
+    ((code, shown),) = re.findall(r"```python\n(from .*?)```.*?```console\n(.*?)```", page, re.DOTALL)
+    names: dict[str, Any] = {}
+    channel = Channel()
+    try:
+        exec(code, names)
+        for tag, depth, body in ((1, 500, b"deep"), (2, 1, b"next")):
+            table = field(b"", b"\1a" + nested("F", depth - 1, b"", b"\1a"))
+            names["on_message"](channel, spec.Basic.Deliver(delivery_tag=tag), properties_of(table), body)
+    finally:
+        adapter.uninstall()
+    assert (channel.calls, capsys.readouterr().out) == (["reject 1 False", "ack 2"], shown)

@@ -137,8 +137,6 @@ def printed_by_c(code: str, made: Made) -> list[str]:
     return done.stdout.splitlines()
 
 
-# (the README leaves it out)
-USE = "use amqp_values::{EqualKeys, Error, Limits, PathStep::*, ValueRef, read_table};\n"
 IN_RUST = """
 {code}
 fn main() {{
@@ -152,7 +150,6 @@ fn main() {{
 
 def printed_by_rust(code: str, made: Made) -> list[str]:
     source = made.folder / "deaths.rs"
-    code = code if "use amqp_values" in code else USE + code
     source.write_text(IN_RUST.format(code=code, given=", ".join(map(literal, GIVEN))))
     more = f'[[bin]]\nname = "deaths"\npath = "{source}"\n'
     folder = package("deaths", [f'amqp-values = {{ path = "{made.copies}/amqp-values" }}'], more)
@@ -186,13 +183,15 @@ RUNNERS: dict[str, Callable[[str, Made], list[str]]] = {
 }  # fmt: skip
 # The lines before the function that have to be there, and the function; of Python an expression.
 CODE = {
-    "Rattle": r"(?ms)^((?:use [^\n]*;\n)+)\n(fn deaths\(.*?^}\n)",
+    "Rattle": r"(?ms)^((?:use [^\n]*;\n)+)\n(?:///? [^\n]*\n)*(fn deaths\(.*?^}\n)",
     "C": r"(?ms)()^(static int64_t deaths\(.*?^}\n)",
     "Rust": r"(?ms)^((?:use [^\n]*;\n)*)\n?(?:/// [^\n]*\n)?(fn deaths\([^\n]*, Error>.*?^}\n)",
     "Python": r"(?m)()^>>> (av\.find\(.*\))$",
 }
 EXAMPLES = [
-    *(("README.md", it) for it in RUNNERS),
+    ("README.md", "C"),
+    ("README.md", "Python"),
+    ("crates/examples/src/in_place.rt", "Rattle"),
     ("docs/C.md", "C"),
     ("examples/c/count_deaths.c", "C"),
     ("docs/RUST.md", "Rust"),
@@ -207,7 +206,7 @@ def test_example(page: str, language: str, made: Made) -> None:
     text = re.sub(r"(?m)^//! ?", "", (TOP / page).read_text())
     found = re.findall(CODE[language], text)
     assert len(found) == 1, f"{page} has {len(found)} examples in {language}"
-    code = "".join(found[0]).replace("use std::io::{self, Read};\n", "")
+    code = re.sub(r"use (std::io|crate::).*;\n", "", "".join(found[0]))
     printed = RUNNERS[language](code, made)
     wrong = {name: it for name, it, wanted in zip(CASES, printed, WANTED, strict=True) if it != wanted}
     assert not wrong
