@@ -9,10 +9,10 @@ import tempfile
 from collections.abc import Iterator, Sequence
 from pathlib import Path
 
-from building import AARCH64, CALLS_FOR_C, COMPILERS, X86_64, archive, build_archive
+from building import AARCH64, CALLS_FOR_C, COMPILERS, MALLOC, X86_64, archive, build_archive
 from crates import TOP, Crates, said_by
 
-PACKAGE, INCLUDE = TOP / "bindings/python", TOP / "include"
+PACKAGE, INCLUDE, LIBRARY = TOP / "bindings/python", TOP / "include", "libamqp_values.a"
 # Debian's Python, by which the package is built.
 PYTHON = "/usr/bin/python3"
 # The processors by their targets, as wheels name them.
@@ -34,10 +34,9 @@ def ran(words: Words, **others: object) -> tuple[str, str]:
 
 def build_package(crates: Crates, folder: Path, is_built: bool, options: Words = ()) -> str:
     """Puts the package into a folder, for Debian's Python and tests; what went wrong. Options are the compiler's."""
-    done = build_archive(crates, CALLS_FOR_C[0], is_built)
-    if done.returncode:
-        return f"lib{CALLS_FOR_C[0]}.a: {(done.stderr or done.stdout)[-1000:]}"
-    return compile_package(archive(crates, CALLS_FOR_C[0]), folder, options)
+    with tempfile.TemporaryDirectory(prefix="library-") as name:
+        wrong = put_library(crates, Path(name), is_built)
+        return wrong or compile_package(Path(name) / LIBRARY, folder, options)
 
 
 def compile_package(library: Path, folder: Path, options: Words = ()) -> str:
@@ -51,12 +50,18 @@ def compile_package(library: Path, folder: Path, options: Words = ()) -> str:
 
 
 def put_library(crates: Crates, folder: Path, is_built: bool, target: str = X86_64) -> str:
-    """Puts libamqp_values.a into a folder, with the calls that don't allocate; what went wrong."""
-    done = build_archive(crates, CALLS_FOR_C[0], is_built, target)
-    if done.returncode:
-        return (done.stderr or done.stdout)[-1000:]
-    shutil.copy(archive(crates, CALLS_FOR_C[0], target), folder / "libamqp_values.a")
-    return ""
+    """Puts libamqp_values.a into a folder, of the objects that CMakeLists.txt makes it of; what went wrong."""
+    compiler, archiver = COMPILERS[target]
+    objects = [folder / f"{name}.o" for name in (*CALLS_FOR_C, "malloc")]
+    steps: list[Words] = [[compiler, "-c", "-O2", "-fPIC", "-o", objects[-1], MALLOC]]
+    for name, made in zip(CALLS_FOR_C, objects):
+        done = build_archive(crates, name, is_built, target)
+        if done.returncode:
+            return f"lib{name}.a: {(done.stderr or done.stdout)[-1000:]}"
+        linked = archive(crates, name, target)
+        steps.append([compiler, "-r", "-nostdlib", "-o", made, "-Wl,--whole-archive", linked])
+    steps.append([archiver, "rcs", folder / LIBRARY, *objects])
+    return next((wrong for words in steps if (wrong := ran(words)[1])), "")
 
 
 def make_wheel(library: Path, to: Path, target: str = X86_64) -> tuple[Path, str]:

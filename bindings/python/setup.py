@@ -18,7 +18,7 @@ INCLUDE = TOP / "include"
 TARGET = os.environ.get("AMQP_VALUES_TARGET") or f"{platform.machine()}-unknown-linux-gnu"
 PROCESSOR = TARGET.partition("-")[0]
 NAME = "libamqp_values.a"
-SOURCES = ("codec", "errors", "module", "read", "write")
+SOURCES = ("codec", "errors", "json", "module", "read", "write")
 # (on no other path are the calls for C in the module's own symbols)
 LINKING = ["-Wl,-s", "-Wl,--exclude-libs,ALL", "-Wl,--gc-sections", "-Wl,-z,relro,-z,now"]
 

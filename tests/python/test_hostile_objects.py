@@ -37,7 +37,8 @@ def test_hostile_arguments(seed: int) -> None:
         lambda it: own.find(data, "a", it, table=True), lambda it: own.loads(it), lambda it: own.decode_table(it),
         lambda it: own.dumps([], depth=it), lambda it: own.dumps([], finite=it), lambda it: own.find(data, table=it),
         lambda it: own.LongInt(it), lambda it: own.Float(it), lambda it: own.Timestamp(it), lambda it: own.LongString(it),
-        lambda it: own.Float.of_bits(it), lambda it: own.Encoded(it),
+        lambda it: own.Float.of_bits(it), lambda it: own.Encoded(it), lambda it: own.to_json(it), lambda it: own.from_json(it),
+        lambda it: own.to_json(data, table=it), lambda it: own.from_json("{}", depth=it), lambda it: own.from_json("{}", max_bytes=it),
     ]  # fmt: skip
     for _ in range(5000):
         value = made(make)
@@ -215,11 +216,14 @@ class Other(Client):
     how = {"integers": "py-amqp", "ascending": True, "bytes_are_text": True, "bytearrays": True, "short_decimals": True}
 codec = Codec(Other(), equal_keys="refuse", aware_datetimes=True, milliseconds=True)
 came = codec.read(data, 1)[0]
+text = av.to_json(data).encode()
 call = {
     "loads": lambda: av.loads(data),
     "plain": lambda: av.loads(bytearray(data), plain=True),
     "refuse": lambda: av.decode_table(data, 1, equal_keys="refuse"),
     "find": lambda: av.find(data, "a", 2),
+    "to_json": lambda: av.to_json(bytearray(data)),
+    "from_json": lambda: av.from_json(bytearray(text)),
     "dumps": lambda: av.dumps(value),
     "escaped": lambda: av.dumps_table({"\\udcff": "\\udcff"}, keys="surrogateescape", text="surrogateescape"),
     "bytes": lambda: av.dumps_table({b"\\xff": 1}, keys="bytes"),

@@ -182,6 +182,8 @@ def test_much_memory() -> None:
     codec = Codec(None, type(None), None, max_bytes=most)
     assert codec.read(data, 0) == (table, len(data))
     assert codec.write(table) == data
+    text = own.to_json(data, table=True, max_bytes=most)
+    assert own.loads_table(own.from_json(text, table=True, max_bytes=most), max_bytes=most) == table
 
 
 def test_data_of_every_type() -> None:
@@ -587,7 +589,7 @@ def test_adding_in_place_keeps_the_type() -> None:
 
 def test_signatures_are_those_of_the_types() -> None:
     text = (TOP / "bindings/python/amqp_values/__init__.pyi").read_text()
-    for name in ("loads", "loads_table", "decode_table", "find", "dumps", "dumps_table"):
+    for name in ("loads", "loads_table", "decode_table", "find", "dumps", "dumps_table", "to_json", "from_json"):
         (typed, *_) = re.findall(rf"(?s)def {name}\((.*?)\) -> ", text)
         names = [it.strip().partition(":")[0] for it in re.sub(r"\[.*?\]", "", typed).split(",") if it.strip()]
         signature = inspect.signature(getattr(own, name))

@@ -58,6 +58,9 @@ def read_and_write(data: bytes, options: dict[str, Any]) -> int:
     quietly(lambda: own.loads_table(data[1:], **options))
     quietly(lambda: own.decode_table(b"..." + data + b"...", 4, **options))
     quietly(lambda: own.find(data, *(next(iter(found), "") if isinstance(found, dict) else ""), **options))
+    text = quietly(lambda: own.to_json(data))
+    for it in (text, text and text[: len(text) // 2], data):
+        quietly(lambda: own.from_json(it, depth=9, table=len(data) % 2 == 0))
     for it, unread, unwritten in CODECS:
         table, _ = quietly(lambda: it.read(data, 1), (unread,)) or ({}, 0)
         quietly(lambda: it.write(table), unwritten)

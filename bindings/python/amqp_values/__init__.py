@@ -43,7 +43,7 @@ and writing these:
 """
 
 from ._native import DEPTH, MAX_BYTES, MOST_DEPTH, __version__
-from ._native import decode_table, dumps, dumps_table, find, loads, loads_table
+from ._native import decode_table, dumps, dumps_table, find, from_json, loads, loads_table, to_json
 from ._types import Encoded, Error, Float, LongInt, LongString, LongUInt
 from ._types import ShortInt, ShortShortInt, ShortShortUInt, ShortUInt, Timestamp
 
@@ -73,6 +73,8 @@ __all__ = [
     "dumps",
     "dumps_table",
     "find",
+    "from_json",
     "loads",
     "loads_table",
+    "to_json",
 ]

@@ -35,6 +35,9 @@ _Kind: TypeAlias = Literal[
     "changed",
     "raised",
     "bad option",
+    "not JSON",
+    "not a value",
+    "not a table",
 ]
 
 __all__ = [
@@ -57,8 +60,10 @@ __all__ = [
     "dumps",
     "dumps_table",
     "find",
+    "from_json",
     "loads",
     "loads_table",
+    "to_json",
 ]
 
 class Error(ValueError):
@@ -210,4 +215,13 @@ def dumps_table(
     signed_decimals: bool = False,
     finite: bool = False,
     depth: int = 64,
+) -> bytes: ...
+def to_json(data: _Data, /, *, table: bool = False, depth: int = 64, max_bytes: int = 1048576) -> str: ...
+def from_json(
+    text: Union[str, _Data],
+    /,
+    *,
+    table: bool = False,
+    depth: int = 64,
+    max_bytes: int = 1048576,
 ) -> bytes: ...

@@ -22,8 +22,8 @@ static const struct {
     {"equal_keys", READ, offsetof(Options, equal_keys), EQUAL_KEYS, 0, 0},
     {"signed_decimals", FOR_BOTH, offsetof(Options, has_signed_decimals), NULL, 0, 0},
     {"finite", FOR_BOTH, offsetof(Options, is_finite), NULL, 0, 0},
-    {"depth", FOR_BOTH, offsetof(Options, depth), NULL, MOST_DEPTH, 0},
-    {"max_bytes", READ, offsetof(Options, max_bytes), NULL, UINT32_MAX, 0},
+    {"depth", FOR_BOTH | JSON, offsetof(Options, depth), NULL, MOST_DEPTH, 0},
+    {"max_bytes", READ | JSON, offsetof(Options, max_bytes), NULL, UINT32_MAX, 0},
     {"naive_datetimes", WRITE, offsetof(Options, has_naive_datetimes), NULL, 0, 0},
     {"integers", CLIENT, offsetof(Options, integers), INTEGERS_OF, 0, 0},
     {"ascending", CLIENT, offsetof(Options, is_ascending), NULL, 0, 0},
@@ -33,7 +33,7 @@ static const struct {
     {"aware_datetimes", CLIENT, offsetof(Options, has_aware_datetimes), NULL, 0, 0},
     {"milliseconds", CLIENT, offsetof(Options, has_milliseconds), NULL, 0, 0},
     {"others", CLIENT, offsetof(Options, others), NULL, 0, 1},
-    {"table", FIND, offsetof(Options, is_table), NULL, 0, 0},
+    {"table", FIND | JSON, offsetof(Options, is_table), NULL, 0, 0},
     {"default", FIND, offsetof(Options, otherwise), NULL, 0, 1},
     {"offset", DECODE, offsetof(Options, offset), NULL, 0, 1},
 };
@@ -323,9 +323,36 @@ static PyObject *dumps_table(PyObject *module, PyObject *const *arguments, Py_ss
     return dumps_by(module, arguments, count, names, 1);
 }
 
+static PyObject *to_json(PyObject *module, PyObject *const *arguments, Py_ssize_t count, PyObject *names) {
+    const State *state = state_of(module);
+    Options how = {.is_table = 0};
+    Reader reader;
+    PyObject *content = NULL, *made = NULL;
+    amqpv_entry entry;
+    if (take(state, "to_json", 1, JSON, arguments, count, names, &how)) {
+        content = begin_reading(&reader, state, &how, arguments[0]);
+    }
+    if (content != NULL && read_whole(&reader, &entry)) {
+        made = json_of(&reader, &entry);
+    }
+    Py_XDECREF(content);
+    return documented(state, made);
+}
+
+static PyObject *from_json(PyObject *module, PyObject *const *arguments, Py_ssize_t count, PyObject *names) {
+    const State *state = state_of(module);
+    Options how = {.is_table = 0};
+    PyObject *made = NULL;
+    if (take(state, "from_json", 1, JSON, arguments, count, names, &how)) {
+        made = encoding_of_json(state, &how, arguments[0]);
+    }
+    return documented(state, made);
+}
+
 #define READ_OPTIONS "keys='strict', text='strict', plain=False, equal_keys='last', " OPTIONS_OF_BOTH ", max_bytes=1048576"
 #define WRITE_OPTIONS "keys='strict', text='strict', naive_datetimes=False, " OPTIONS_OF_BOTH
 #define OPTIONS_OF_BOTH "signed_decimals=False, finite=False, depth=64"
+#define JSON_OPTIONS "table=False, depth=64, max_bytes=1048576"
 #define CALL(name, how, doc)                                                                                                     \
     { #name, (PyCFunction)(void (*)(void))name, METH_FASTCALL | METH_KEYWORDS, #name how "\n--\n\n" doc }
 
@@ -362,6 +389,17 @@ static PyMethodDef FUNCTIONS[] = {
          "The bytes of a table without its type tag, as methods and content headers have it: its length, then its pairs.\n\n"
          ">>> dumps_table({'a': True})\n"
          "b'\\x00\\x00\\x00\\x04\\x01at\\x01'\n"),
+    CALL(to_json, "($module, data, /, *, " JSON_OPTIONS ")",
+         "The JSON of the value that all of the bytes are, or with table=True of the table without its type tag. A type that\n"
+         "plain JSON doesn't have is an object with one key; keys ascend, and of equal keys the last counts.\n\n"
+         ">>> to_json(dumps_table({'b': b'\\1', 'a': [ShortInt(5), 5]}), table=True)\n"
+         "'{\"a\":[{\"$ShortInt\":5},5],\"b\":{\"$ByteArray\":\"01\"}}'\n"),
+    CALL(from_json, "($module, text, /, *, " JSON_OPTIONS ")",
+         "The encoding of the value that a JSON text means, with its type tag, or with table=True of a table without it. It is\n"
+         "the canonical one, in which keys ascend. Brackets nest at most `depth` deep, and at most 127; that of a named value\n"
+         "counts. The offset of an Error counts the characters of a str.\n\n"
+         ">>> loads_table(from_json('{\"a\": {\"$ShortInt\": 5}}', table=True))\n"
+         "{'a': ShortInt(5)}\n"),
     {NULL, NULL, 0, NULL}};
 
 /* Imports an attribute of a module, or one of that. */

@@ -51,7 +51,7 @@ typedef struct {
 } Options;
 
 /* The options as bits, and those of reading, of writing, and of a client. */
-enum { FOR_BOTH = 1, READ = 2, WRITE = 4, FIND = 8, DECODE = 16, CLIENT = 32 };
+enum { FOR_BOTH = 1, READ = 2, WRITE = 4, FIND = 8, DECODE = 16, CLIENT = 32, JSON = 64 };
 enum { READING = FOR_BOTH | READ, WRITING = FOR_BOTH | WRITE, ALL_OF_CLIENT = READING | WRITE | CLIENT };
 
 /* The options that a call has if none is given. */
@@ -110,6 +110,12 @@ PyObject *with_end(PyObject *made, size_t end);
 
 /* The bytes of a value, or of a table without its type tag. */
 PyObject *written(const State *state, const Options *how, PyObject *value);
+
+/* The JSON of a value that was read. */
+PyObject *json_of(const Reader *reader, const amqpv_entry *entry);
+
+/* The encoding of the value that a JSON text means, which is a str or bytes; or of a table, without its type tag. */
+PyObject *encoding_of_json(const State *state, const Options *how, PyObject *text);
 
 /* The type that adapters read and write by. */
 PyObject *codec_type(PyObject *module);
