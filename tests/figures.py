@@ -36,8 +36,11 @@ DEFAULTS = {
     "bindings/python/amqp_values/__init__.pyi": [r"max_bytes: int = (?P<bytes>\d+),", r"depth: int = (?P<depth>\d+)"],
     "bindings/python/src/module.c": [r"\bmax_bytes=(?P<bytes>\d+)", r"\bdepth=(?P<depth>\d+)"],
     "docs/PYTHON.md": [r"`max_bytes`, (?P<bytes>\d+)\|", r"`depth`, (?P<depth>\d+)\|"],
-    "bindings/rust/amqp-values/src/limits.rs": [r"max_bytes: (?P<bytes>1 << \d+), depth: (?P<depth>\d+)"],
-    "bindings/rust/drop_in/limits.rs": [r"max_bytes: (?P<bytes>1 << \d+), depth: (?P<depth>\d+)"],
+    **{
+        name: [r"max_bytes: (?P<bytes>1 << \d+), depth: (?P<depth>\d+)", r"1 MiB, (?P<depth>\d+) levels"]
+        for name in ("bindings/rust/amqp-values/src/limits.rs", "bindings/rust/drop_in/limits.rs")
+    },
+    "docs/RUST.md": [r"more than (?P<depth>\d+) levels", r"(?P<depth>\d+) levels by default"],
     "include/amqp_values_rabbitmq.h": [r"AMQPV_MAX_BYTES \((?P<bytes>\d+)\)", r"AMQPV_MAX_DEPTH \((?P<depth>\d+)\)"],
 }
 # What names no version of RabbitMQ that only docs/INTEROP.md may name.
