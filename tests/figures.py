@@ -35,6 +35,7 @@ DEFAULTS = {
     "bindings/web/index.html": [r'id="frame"[^>]* value="(?P<bytes>\d+)"', r'id="depth"[^>]* value="(?P<depth>\d+)"'],
     "bindings/python/amqp_values/__init__.pyi": [r"max_bytes: int = (?P<bytes>\d+),", r"depth: int = (?P<depth>\d+)"],
     "bindings/python/src/module.c": [r"\bmax_bytes=(?P<bytes>\d+)", r"\bdepth=(?P<depth>\d+)"],
+    "bindings/python/amqp_values/adapters/shared.py": [r"\bmax_bytes=(?P<bytes>\d+)", r"\bdepth=(?P<depth>\d+)"],
     "docs/PYTHON.md": [r"`max_bytes`, (?P<bytes>\d+)\|", r"`depth`, (?P<depth>\d+)\|"],
     **{
         name: [r"max_bytes: (?P<bytes>1 << \d+), depth: (?P<depth>\d+)", r"1 MiB, (?P<depth>\d+) levels"]

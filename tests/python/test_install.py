@@ -1,5 +1,7 @@
 """`install` of each adapter, by the client's own frames: its self-check, its options, and that it changes everything or nothing."""
 
+import inspect
+import json
 import sys
 import traceback
 import warnings
@@ -283,6 +285,17 @@ def test_the_message_has_what_differs(monkeypatch: pytest.MonkeyPatch) -> None:
     CHANGES["pyamqp, another type"][1](monkeypatch)
     with pytest.raises(IncompatibleClient, match=r"D in a header was float 3.14 and is Decimal Decimal\('3.14'\)"):
         pyamqp.install()
+
+
+# Help
+
+
+def test_help_has_each_option() -> None:
+    """With its default."""
+    text = str(inspect.getdoc(shared.Client.install))
+    options = [it for it in inspect.signature(shared.Client.install).parameters.values() if it.kind is it.KEYWORD_ONLY]
+    shown = [f"{it.name}={json.dumps(it.default) if isinstance(it.default, str) else it.default}" for it in options]
+    assert len(shown) == 5 and not [it for it in shown if f"\n    {it} " not in text]
 
 
 # Versions

@@ -579,7 +579,7 @@ def test_adding_in_place_keeps_the_type() -> None:
         def __new__(cls) -> Any:
             return super().__new__(cls, 5)
 
-    priority = Priority()
+    priority: Any = Priority()
     priority += 1
     assert type(priority) is Priority and priority == 6
 
@@ -596,6 +596,16 @@ def test_signatures_are_those_of_the_types() -> None:
         assert [it.partition("=")[0] for it in str(signature)[1:-1].split(", ")] == names, name
         for option, default in re.findall(r"(\w+): [^,=]+ = ([^,]+)", typed):
             assert repr(signature.parameters[option].default) == default.strip().replace('"', "'")
+
+
+@pytest.mark.parametrize(("name", "has_other"), (("loads", ""), ("dumps", ""), ("to_json", ""), ("find", "loads")))
+def test_help_has_each_option(name: str, has_other: str) -> None:
+    """With its default, and an example."""
+    text = str(getattr(own, name).__doc__)
+    others = [*inspect.signature(getattr(own, has_other)).parameters] if has_other else []
+    options = [it for it in inspect.signature(getattr(own, name)).parameters.values() if it.kind is it.KEYWORD_ONLY]
+    assert options and not [it for it in options if it.name not in others and f"\n    {it} " not in text]
+    assert f"\n>>> {name}(" in text or "\n>>> data = dumps_table(" in text
 
 
 @pytest.mark.parametrize("name", ("docs/PYTHON.md", "README.md"))

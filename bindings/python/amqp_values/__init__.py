@@ -22,24 +22,7 @@ So `dumps(loads(data))` is `data`, but for what can be written in two ways: the 
 that isn't 1 becomes 1, and of equal keys in a table one is kept. What isn't read or can't be written raises `Error`; besides
 it only TypeError, for an object of no type that a hint allows, and MemoryError come.
 
-Reading takes these options, by name:
-
-    keys, text       what becomes of a key, or a string, that isn't UTF-8: "strict", an `Error`; "bytes", bytes (a string is
-                     LongString); "surrogateescape", a str with surrogates, as in the names of files
-    plain            True for the plain types of Python: int, float, bytes, and for a Timestamp a datetime in UTC
-    equal_keys       which of equal keys in a table counts: "last" or "first"; "refuse" for an `Error` instead
-    signed_decimals  True for decimals that pika or py-amqp wrote, of 32 bits with a sign
-    finite           True to refuse infinities and NaNs, for which RabbitMQ closes the connection
-    depth            how deep containers nest at most, up to MOST_DEPTH
-    max_bytes        how many bytes a value has at most, the type tag of a table counted
-
-and writing these:
-
-    keys, text       "bytes" for keys that are any bytes; "surrogateescape" for str with such surrogates
-    naive_datetimes  True to write a datetime without a time zone, as of UTC
-    signed_decimals  True to write decimals of 32 bits with a sign, as pika and py-amqp do
-    finite           True to refuse infinities and NaNs
-    depth            how deep containers nest at most
+`help(loads)` has the options of reading, `help(dumps)` those of writing, and `help(to_json)` those of JSON.
 """
 
 from ._native import DEPTH, MAX_BYTES, MOST_DEPTH, __version__

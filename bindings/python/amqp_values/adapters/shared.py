@@ -184,7 +184,18 @@ class Client:
         exact: bool = True,
         raises: bool = False,
     ) -> None:
-        """Puts this codec in place of the client's, with these options, after a self-check.
+        """Puts this codec in place of the client's, with these options, after a self-check. Call it before you connect.
+
+            from amqp_values.adapters import pika
+            pika.install(equal_keys="refuse")
+
+        Options, by name:
+
+            depth=64           how deep containers nest at most, up to MOST_DEPTH; a deeper table is a `Refused`
+            max_bytes=1048576  how many bytes a table has at most, its type tag counted; a larger one is a `Refused`
+            equal_keys="last"  of equal keys in a table the last counts; "first", or "refuse": such a table is a `Refused`
+            exact=True         headers keep their bytes, which are sent if they are published unchanged; False for a `dict`
+            raises=False       True raises the client's exception in place of a `Refused`, so that the connection is lost
 
         If it raises an exception, nothing has changed: the client has its own codec, or that of an earlier `install`.
         """
