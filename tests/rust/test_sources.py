@@ -68,6 +68,22 @@ def test_stack(module: str) -> None:
     assert all(figures[f"amqpv_{it}"] == [*stated] for it in STATED[module])
 
 
+# The pages and modules that state the memory for each byte, and the calls for C that take it, in their order.
+MEMORY = {
+    "bindings/rust/amqp-values/src/json.rs": ("to_json", "from_json"),
+    "bindings/rust/amqp-values/src/rabbitmq.rs": ("warn",),
+    "docs/PYTHON.md": ("to_json", "from_json"),
+}
+
+
+@pytest.mark.parametrize("name", MEMORY)
+def test_memory(name: str) -> None:
+    """The memory that is stated is that of the header."""
+    figures = dict(re.findall(r"(?m)^ \*     amqpv_(\w+) +(\d+) per byte", HEADER.read_text()))
+    text = " ".join(re.sub(r"(?m)^ *///", "", (TOP / name).read_text()).split())
+    assert re.findall(r"at most (\d+) bytes of memory", text) == [figures[it] for it in MEMORY[name]]
+
+
 def test_unsafe_code() -> None:
     """Is where docs/RUST.md says that it is: in the module that calls C, and not in what is added to the Rust crate."""
     found = {it.name for it in (RUST / "amqp-values/src").glob("*.rs") if re.search(r"\bunsafe\b", it.read_text())}
