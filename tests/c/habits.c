@@ -230,6 +230,30 @@ static void warn(void) {
     CHECK(warnings.count == 1 && warnings.repeated_key == 7);
 }
 
+/* What was checked by RabbitMQ's rules is converted with the same input. */
+static void check_and_convert(void) {
+    static const uint8_t other[] = {0, 0, 0, 3, 1, 0xff, 'V'};
+    char json[64];
+    uint8_t encoding[64];
+    size_t count;
+    for (uint32_t flags = 0; flags < 32; flags++) {
+        amqpv_input in = dead_lettered(), odd = amqpv_table(other, sizeof other);
+        amqpv_entry entry;
+        amqpv_size size;
+        in.flags = odd.flags = flags | AMQPV_UNTAGGED;
+        TRY(AMQPV_OK, amqpv_read(&in, &entry, NULL));
+        TRY(AMQPV_OK, amqpv_measure(&in, &size, NULL));
+        TRY(AMQPV_OK, amqpv_is_canonical(&in));
+        TRY(AMQPV_OK, amqpv_canonical(&in, encoding, sizeof encoding, &count));
+        TRY(AMQPV_OK, amqpv_to_json(&in, json, sizeof json, &count));
+        TRY(AMQPV_OK, amqpv_write_json(&in, json, sizeof json, &count));
+        TRY(flags & (AMQPV_ANY_KEYS | AMQPV_RABBITMQ) ? AMQPV_OK : AMQPV_KEY_NOT_UTF8, amqpv_read(&odd, &entry, NULL));
+        TRY(AMQPV_KEY_NOT_UTF8, amqpv_measure(&odd, &size, NULL));
+        TRY(AMQPV_KEY_NOT_UTF8, amqpv_to_json(&odd, json, sizeof json, &count));
+        TRY(AMQPV_KEY_NOT_UTF8, amqpv_canonical(&odd, encoding, sizeof encoding, &count));
+    }
+}
+
 int main(void) {
     no_problem();
     same_entry();
@@ -240,6 +264,7 @@ int main(void) {
     errors_of_writer();
     print_json();
     warn();
+    check_and_convert();
     printf("%u calls\n", calls);
     return 0;
 }

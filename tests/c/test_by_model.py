@@ -78,10 +78,9 @@ def assert_read(data: bytes, flags: int = 0, max_bytes: int = calls.MAX_BYTES, m
     assert (found, plain(entry), why) == (result, wanted, problem), (data.hex(), limits)
     assert_peeked(data, flags)
     measured, is_canonical = calls.measure(data, *limits), calls.is_canonical(data, *limits)
-    if flags & (ANY_KEYS | RABBITMQ):
-        assert (measured, is_canonical) == ((INVALID, None, None), INVALID)
-    elif result != OK:
-        assert (measured, is_canonical) == ((result, None, problem), result)
+    by_reading, where = wanted_problem(data, flags & ~(ANY_KEYS | RABBITMQ), max_bytes, max_depth)
+    if by_reading != OK:
+        assert (measured, is_canonical) == ((by_reading, None, where), by_reading)
     else:
         whole = b"F" * left_out + data
         size = extent(whole)
@@ -107,8 +106,9 @@ def test_inputs_of_every_kind(seed: int) -> None:
     given = [*((it, 0) for it in inputs()), *((it, UNTAGGED) for it in untagged())]
     given += [(raw(random_table(make)), 0) for _ in range(1500)] + [(value_of(make, 3), 0) for _ in range(1500)]
     for data, flags in given:
-        results[assert_read(data, flags | make.choice([0, 0, ANY_KEYS, RABBITMQ, ANY_KEYS | RABBITMQ, FIRST_KEY]))] += 1
-        assert_written(data, flags)
+        others = make.choice([0, 0, ANY_KEYS, RABBITMQ, ANY_KEYS | RABBITMQ, FIRST_KEY, STREAMS])
+        results[assert_read(data, flags | others)] += 1
+        assert_written(data, flags, others=others)
     assert results[OK] > 3000 and results[calls.MORE] and results[calls.TOO_LARGE]
 
 
@@ -136,7 +136,7 @@ def test_limits(data: bytes) -> None:
                 assert_read(data, flags, max_bytes, max_depth)
 
 
-# Every bit of the flags that has no meaning; and those that most calls don't take.
+# Every bit of the flags that has no meaning.
 UNKNOWN = [1 << it for it in range(5, 32)]
 
 
@@ -144,17 +144,15 @@ UNKNOWN = [1 << it for it in range(5, 32)]
 def test_flags(data: bytes) -> None:
     """A flag that isn't known comes before all else."""
     entry = calls.Entry()
-    for flags in [*UNKNOWN, *(it | 31 for it in UNKNOWN), ANY_KEYS, RABBITMQ, RABBITMQ | UNTAGGED]:
-        is_known = flags < 32
-        if not is_known:
-            assert calls.read(data, flags) == (INVALID, None, None)
-            assert calls.peek(data, flags) == (INVALID, None)
-            assert calls.find(data, entry, [], flags) == (INVALID, None)
-            into = calls.Container()
-            assert calls.Buffer(0).put_value(into, b"x" * 300, data, flags) == INVALID
+    for flags in [*UNKNOWN, *(it | 31 for it in UNKNOWN)]:
+        assert calls.read(data, flags) == (INVALID, None, None)
+        assert calls.peek(data, flags) == (INVALID, None)
+        assert calls.find(data, entry, [], flags) == (INVALID, None)
+        into = calls.Container()
+        assert calls.Buffer(0).put_value(into, b"x" * 300, data, flags) == INVALID
         assert calls.measure(data, flags) == (INVALID, None, None)
         assert calls.is_canonical(data, flags) == INVALID
-        assert (calls.warn(data, flags, 9, 0, 9)[0] == INVALID) == (not is_known)
+        assert calls.warn(data, flags, 9, 0, 9) == (INVALID, None)
         for call in (calls.canonical, calls.to_json, calls.write_json):
             assert call(data, flags) == (INVALID, 0)
         cursor = calls.Cursor((0, 0), ord("A"))
@@ -466,10 +464,10 @@ def test_larger_buffer(seed: int) -> None:
 # The canonical encoding and JSON
 
 
-def assert_written(data: bytes, flags: int = 0, max_depth: int = calls.MAX_DEPTH) -> None:
-    """The canonical encoding and the JSON of a value, which means it."""
-    limits = flags, calls.MAX_BYTES, max_depth
-    result, _ = wanted_problem(data, *limits)
+def assert_written(data: bytes, left_out: int = 0, max_depth: int = calls.MAX_DEPTH, others: int = 0) -> None:
+    """The canonical encoding and the JSON of a value, which means it, whatever other flags there are."""
+    flags, limits = left_out, (left_out | others, calls.MAX_BYTES, max_depth)
+    result, _ = wanted_problem(data, left_out, *limits[1:])
     if result != OK:
         for call in (calls.canonical, calls.to_json, calls.write_json):
             assert call(data, *limits) == (result, 0), data.hex()

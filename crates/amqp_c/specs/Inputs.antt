@@ -28,13 +28,13 @@ is_for_streams = has_flag 4
 abbrev pub has_unknown_flag : Input → Bool
 has_unknown_flag input = nat_lt 31 input.flags
 
+-- whether there is none
+abbrev pub has_known_flags : Input → Bool
+has_known_flags input = if has_unknown_flag input then false else true
+
 -- the rules that the value has to keep, if there is none
 abbrev pub rules : Input → Option Rules
 rules input = if has_unknown_flag input then None else if has_flag 2 input then Some RabbitMq else if has_flag 1 input then Some AnyKeys else Some Reading
-
--- the flags are those of a call that reads by the rules of reading only
-abbrev pub is_strict : Input → Bool
-is_strict input = elim (rules input) [ Some Reading ↦ true | _ ↦ false ]
 
 -- the bytes that a value is read from: of a table without its type tag, these after the type tag
 abbrev pub encoding : Input → List ℕ

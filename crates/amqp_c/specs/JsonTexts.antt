@@ -10,9 +10,9 @@ use Rattle.amqp_c.specs.declared.fault.Fault.{Fault}
 use Rattle.amqp_c.specs.declared.fault.Fault.TheVariants.{Invalid, NoMemory, NoRoom}
 use Rattle.amqp_c.specs.declared.input.Input.{Input}
 use Rattle.amqp_c.specs.Buffers.{IsPutAtStart}
-use Rattle.amqp_c.specs.Inputs.{limits, is_strict, encoding}
+use Rattle.amqp_c.specs.Inputs.{limits, has_known_flags, encoding}
 use Rattle.amqp_c.specs.ReturnCodes.{return_code_of, length_of}
-use Rattle.amqp_c.specs.Views.{IsStrictFault}
+use Rattle.amqp_c.specs.Views.{IsInputFault}
 
 -- the JSON text of the value that is read is put into the buffer, and in its tables the keys ascend
 abbrev pub IsOrderedJsonPut : Input → List ℕ → List ℕ → ℕ → Type 0
@@ -29,7 +29,7 @@ IsTextTooLong input buffer f = (t : List ℕ) × (rest : List ℕ) × IsOrderedJ
 -- a fault is right, for a buffer of that many bytes: the value isn't read, or has keys that don't ascend, or the text is
 -- too long
 abbrev pub IsOrderedJsonFault : Input → ℕ → Fault → Type 0
-IsOrderedJsonFault input buffer f = IsStrictFault input f ⊎ ((f ≡ NoMemory) × HasUnorderedKeys input) ⊎ IsTextTooLong input buffer f
+IsOrderedJsonFault input buffer f = IsInputFault input f ⊎ ((f ≡ NoMemory) × HasUnorderedKeys input) ⊎ IsTextTooLong input buffer f
 
 -- the JSON text of the value is put into the buffer, or the fault is right
 pub record WritesOrderedJson (input : Input) (old : List ℕ) (code : ℤ) (new : List ℕ) (n : ℕ) : Type 0 where
@@ -37,4 +37,4 @@ pub record WritesOrderedJson (input : Input) (old : List ℕ) (code : ℤ) (new 
   pub returned : code ≡ return_code_of done
   pub counted : n ≡ length_of done
   pub written : MatchResult done (IsOrderedJsonPut input old new) (IsOrderedJsonFault input (length old))
-  pub flags : is_strict input ≡ false → done ≡ Err Invalid
+  pub flags : has_known_flags input ≡ false → done ≡ Err Invalid

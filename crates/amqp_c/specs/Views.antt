@@ -14,7 +14,7 @@ use Rattle.amqp_c.specs.declared.fault.Fault.{Fault}
 use Rattle.amqp_c.specs.declared.fault.Fault.TheVariants.{Invalid}
 use Rattle.amqp_c.specs.declared.input.Input.{Input}
 use Rattle.amqp_c.specs.declared.problem.ReadError.{ReadError}
-use Rattle.amqp_c.specs.Inputs.{limits, is_strict, encoding}
+use Rattle.amqp_c.specs.Inputs.{limits, has_known_flags, encoding}
 use Rattle.amqp_c.specs.ReadErrors.{read_error}
 
 -- a value is read from the start of s within the limits, `view` refers to it, and `rest` is after it
@@ -25,6 +25,6 @@ IsViewOf l s view rest = IsBytes s × IsViewIn s view rest × ((v : Tree) × Den
 abbrev pub IsReadFault : Input → Fault → Type 0
 IsReadFault input f = (e : ReadError) × (read_error Reading input ≡ Some e) × (f ≡ e.fault) × (FindsValue (limits input) (encoding input) → ⊥)
 
--- a fault of a call that reads by these rules only is right: a flag is set that it doesn't take, or no value is read
-abbrev pub IsStrictFault : Input → Fault → Type 0
-IsStrictFault input f = ((is_strict input ≡ false) × (f ≡ Invalid)) ⊎ ((is_strict input ≡ true) × IsReadFault input f)
+-- a fault of a call that reads by these rules only is right: a flag is unknown, or no value is read
+abbrev pub IsInputFault : Input → Fault → Type 0
+IsInputFault input f = ((has_known_flags input ≡ false) × (f ≡ Invalid)) ⊎ ((has_known_flags input ≡ true) × IsReadFault input f)

@@ -5,7 +5,7 @@ ghost use Rattle.amqp_value_core.specs.Inputs.{IsBytes};
 ghost use Rattle.amq_protocol_types.specs.parsing.Limits.{IsHeader};
 ghost use Rattle.amqp_in_place.specs.declared.problems.Rules.TheVariants.{Reading};
 ghost use Rattle.amqp_in_place.specs.ProblemResults.{FindsValue, FailsAt};
-ghost use Rattle.amqp_c.specs.Inputs.{limits, is_untagged, is_first_key, is_for_streams, has_unknown_flag, rules, is_strict, encoding};
+ghost use Rattle.amqp_c.specs.Inputs.{limits, is_untagged, is_first_key, is_for_streams, has_unknown_flag, rules, has_known_flags, encoding};
 ghost use Rattle.amqp_c.specs.ReadErrors.{first_problem, read_error};
 
 use crate::problem::ReadError;
@@ -98,13 +98,12 @@ impl<'a> Input<'a> {
         Some(Rules::Reading)
     }
 
-    /// Whether the flags are those of a call that reads by `Rules::Reading` only: none is unknown, and neither
-    /// `AMQPV_ANY_KEYS` nor `AMQPV_RABBITMQ` is set.
+    /// Whether no flag is unknown.
     #[inline(always)]
-    pub fn is_strict(&self) -> bool
-        ensures { result ≡ is_strict self.now }
+    pub fn has_known_flags(&self) -> bool
+        ensures { result ≡ has_known_flags self.now }
     {
-        matches!(self.rules(), Some(Rules::Reading))
+        !self.has_unknown_flag()
     }
 
     /// Why the value at the start isn't read by the rules, or `None` if it is.

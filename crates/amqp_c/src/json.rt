@@ -2,7 +2,7 @@
 
 ghost use Rattle.std.specs.Prelude.{◌≡◌, false, length, Err, MatchResult};
 ghost use Rattle.amqp_c.specs.declared.fault.Fault.TheVariants.{Invalid};
-ghost use Rattle.amqp_c.specs.Inputs.{is_strict};
+ghost use Rattle.amqp_c.specs.Inputs.{has_known_flags};
 ghost use Rattle.amqp_c.specs.JsonTexts.{IsOrderedJsonPut, IsOrderedJsonFault};
 
 use crate::{Fault, Input};
@@ -16,7 +16,7 @@ pub fn put_json(input: &Input<'_>, buffer: &mut [u8]) -> Result<usize, Fault>
     ensures written { MatchResult result
         (IsOrderedJsonPut input.now buffer.old buffer.new)
         (IsOrderedJsonFault input.now (length buffer.old)) }
-    ensures flags { is_strict input.now ≡ false → result ≡ Err Invalid }
+    ensures flags { has_known_flags input.now ≡ false → result ≡ Err Invalid }
 {
     let value = input.view()?;
     let capacity = buffer.len();

@@ -11,7 +11,7 @@ ghost use Rattle.std.specs.Prelude.{◌≡◌, Some, None, true, false, pos};
 ghost use Rattle.amqp_value_core.specs.Outcomes.{Outcome};
 ghost use Rattle.amqp_in_place.specs.declared.problems.Rules.TheVariants.{Reading};
 ghost use Rattle.amqp_c.specs.declared.fault.Fault.TheVariants.{Invalid};
-ghost use Rattle.amqp_c.specs.Inputs.{rules, is_first_key, is_strict, encoding};
+ghost use Rattle.amqp_c.specs.Inputs.{rules, is_first_key, has_known_flags, encoding};
 ghost use Rattle.amqp_c.specs.ReadErrors.{read_error};
 ghost use Rattle.amqp_c.specs.ReturnCodes.{code_of};
 ghost use Rattle.amqp_c.specs.BuildCalls.{PutsScalar, PutsBytes, PutsValue, OpensContainer, ClosesContainer};
@@ -152,13 +152,13 @@ pub extern "C" fn amqpv_as_uint(entry: &Entry, number: &mut u64) -> i32
 /// Checks the value at the start of the input as `amqpv_read` does, and measures it.
 #[unsafe(no_mangle)]
 pub extern "C" fn amqpv_measure(input: &Input<'_>, size: &mut Size, problem: &mut Problem) -> i32
-    ensures flags { is_strict input.now ≡ false → (result ≡ code_of Invalid)
+    ensures flags { has_known_flags input.now ≡ false → (result ≡ code_of Invalid)
         × (size.new ≡ size.old) × (problem.new ≡ problem.old) }
-    ensures measures { is_strict input.now ≡ true
+    ensures measures { has_known_flags input.now ≡ true
         → ReadsAs (IsMeasured input.now) (read_error Reading input.now)
         size.old problem.old result size.new problem.new }
 {
-    if !input.is_strict() {
+    if !input.has_known_flags() {
         return Fault::Invalid.code();
     }
     store_read(measure(input), size, problem)
@@ -167,10 +167,10 @@ pub extern "C" fn amqpv_measure(input: &Input<'_>, size: &mut Size, problem: &mu
 /// Returns whether the value at the start of the input, which is read as by `amqpv_read`, is encoded canonically.
 #[unsafe(no_mangle)]
 pub extern "C" fn amqpv_is_canonical(input: &Input<'_>) -> i32
-    ensures flags { is_strict input.now ≡ false → result ≡ code_of Invalid }
-    ensures tells { is_strict input.now ≡ true → TellsCanonical input.now result }
+    ensures flags { has_known_flags input.now ≡ false → result ≡ code_of Invalid }
+    ensures tells { has_known_flags input.now ≡ true → TellsCanonical input.now result }
 {
-    if !input.is_strict() {
+    if !input.has_known_flags() {
         return Fault::Invalid.code();
     }
     told(is_canonical(input))

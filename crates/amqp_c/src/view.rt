@@ -4,8 +4,8 @@ ghost use Rattle.std.specs.Prelude.{◌≡◌, ℕ, false, Err, List, MatchOptio
 ghost use Rattle.amq_protocol_types.specs.parsing.Untagged.{tagged};
 ghost use Rattle.amqp_in_place.specs.ProblemResults.{FindsValue};
 ghost use Rattle.amqp_c.specs.declared.fault.Fault.TheVariants.{Invalid};
-ghost use Rattle.amqp_c.specs.Inputs.{limits, is_strict, encoding};
-ghost use Rattle.amqp_c.specs.Views.{IsViewOf, IsStrictFault};
+ghost use Rattle.amqp_c.specs.Inputs.{limits, has_known_flags, encoding};
+ghost use Rattle.amqp_c.specs.Views.{IsViewOf, IsInputFault};
 
 use crate::fault::Fault;
 use crate::input::Input;
@@ -14,14 +14,14 @@ use amqp_in_place::{Rules, ValueRef, read_in_place, read_table_in_place};
 use amqp_value_core::types::AMQPType;
 
 impl<'a> Input<'a> {
-    /// The value at the start, by the rules of reading. The flags must be those of a call that reads by these only.
+    /// The value at the start, by the rules of reading, whatever other rules the flags name.
     pub fn view(&self) -> Result<ValueRef<'a>, Fault>
         ensures read { MatchResult result
             (λ value. (rest : List ℕ) × IsViewOf (limits self.now) (encoding self.now) value rest)
-            (IsStrictFault self.now) }
-        ensures flags { is_strict self.now ≡ false → result ≡ Err Invalid }
+            (IsInputFault self.now) }
+        ensures flags { has_known_flags self.now ≡ false → result ≡ Err Invalid }
     {
-        if !self.is_strict() {
+        if !self.has_known_flags() {
             return Err(Fault::Invalid);
         }
         if let Some(value) = self.read_view() {

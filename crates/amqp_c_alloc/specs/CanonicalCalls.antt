@@ -13,9 +13,9 @@ use Rattle.amqp_c.specs.declared.fault.Fault.{Fault}
 use Rattle.amqp_c.specs.declared.fault.Fault.TheVariants.{Invalid, NoMemory}
 use Rattle.amqp_c.specs.declared.input.Input.{Input}
 use Rattle.amqp_c.specs.Buffers.{IsPutAtStart, LacksRoom}
-use Rattle.amqp_c.specs.Inputs.{limits, is_untagged, is_strict, encoding}
+use Rattle.amqp_c.specs.Inputs.{limits, is_untagged, has_known_flags, encoding}
 use Rattle.amqp_c.specs.ReturnCodes.{return_code_of, length_of}
-use Rattle.amqp_c.specs.Views.{IsStrictFault}
+use Rattle.amqp_c.specs.Views.{IsInputFault}
 
 -- bytes after the type tag that the input lacks
 abbrev pub after_tag : Input → List ℕ → List ℕ
@@ -49,7 +49,7 @@ IsNotCanonical l s = (n : ℕ) → IsCanonicalLen l s n → ⊥
 -- encoded canonically; or the canonical encoding has more bytes, as many as the fault reports
 abbrev pub IsCanonicalFault : Input → ℕ → Fault → Type 0
 IsCanonicalFault input buffer f =
-    IsStrictFault input f
+    IsInputFault input f
     ⊎ ((f ≡ NoMemory) × IsNotCanonical (limits input) (encoding input) × FindsValue (limits input) (encoding input))
     ⊎ ((bytes : List ℕ) × IsCanonicalOf input bytes × LacksRoom bytes buffer f)
 
@@ -59,5 +59,5 @@ pub record WritesCanonical (input : Input) (old : List ℕ) (code : ℤ) (new : 
   pub returned : code ≡ return_code_of done
   pub counted : n ≡ length_of done
   pub written : MatchResult done (IsCanonicalWritten input old new) (IsCanonicalFault input (length old))
-  pub flags : is_strict input ≡ false → done ≡ Err Invalid
+  pub flags : has_known_flags input ≡ false → done ≡ Err Invalid
   pub kept : IfErr done (λ _. new ≡ old)

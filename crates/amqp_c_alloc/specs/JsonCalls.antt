@@ -15,9 +15,9 @@ use Rattle.amqp_c.specs.declared.input.Input.{Input}
 use Rattle.amqp_c.specs.declared.problem.Problem.{Problem}
 use Rattle.amqp_c.specs.Buffers.{IsPutAtStart}
 use Rattle.amqp_c.specs.JsonTexts.{HasUnorderedKeys}
-use Rattle.amqp_c.specs.Inputs.{limits, is_strict, encoding}
+use Rattle.amqp_c.specs.Inputs.{limits, has_known_flags, encoding}
 use Rattle.amqp_c.specs.ReturnCodes.{return_code_of, length_of}
-use Rattle.amqp_c.specs.Views.{IsStrictFault}
+use Rattle.amqp_c.specs.Views.{IsInputFault}
 
 -- ---- from an encoding to JSON text
 
@@ -33,7 +33,7 @@ LacksRoomFor t buffer f = (f ≡ NoRoom (counted t)) × (buffer < counted t)
 -- don't ascend; or the text has more bytes, as many as the fault reports
 abbrev pub IsJsonFault : Input → ℕ → Fault → Type 0
 IsJsonFault input buffer f =
-    IsStrictFault input f
+    IsInputFault input f
     ⊎ ((f ≡ NoMemory) × HasUnorderedKeys input)
     ⊎ ((t : List ℕ) × (rest : List ℕ) × IsJsonOf (limits input) (encoding input) t rest × LacksRoomFor t buffer f)
 
@@ -43,7 +43,7 @@ pub record WritesJson (input : Input) (old : List ℕ) (code : ℤ) (new : List 
   pub returned : code ≡ return_code_of done
   pub counted : n ≡ length_of done
   pub written : MatchResult done (IsJsonPut input old new) (IsJsonFault input (length old))
-  pub flags : is_strict input ≡ false → done ≡ Err Invalid
+  pub flags : has_known_flags input ≡ false → done ≡ Err Invalid
   pub kept : IfErr done (λ _. new ≡ old)
 
 -- ---- from JSON text to the encoding

@@ -5,7 +5,7 @@ ghost use Rattle.amqp_value_core.specs.Texts.{text, size, Fits};
 ghost use Rattle.amqp_value_core.specs.View.{view};
 ghost use Rattle.amq_protocol_types.specs.parsing.Untagged.{tagged};
 ghost use Rattle.amqp_c.specs.declared.fault.Fault.TheVariants.{Invalid, NoMemory};
-ghost use Rattle.amqp_c.specs.Inputs.{limits, is_strict, encoding};
+ghost use Rattle.amqp_c.specs.Inputs.{limits, has_known_flags, encoding};
 ghost use Rattle.amqp_c_alloc.specs.CanonicalCalls.{IsCanonicalText, IsCanonicalOf, IsNotCanonical, IsCanonicalWritten, IsCanonicalFault};
 
 use amq_protocol_types::generation::{GenError, WriteContext, gen_value};
@@ -22,10 +22,10 @@ pub fn canonical(alloc: Global, input: &Input<'_>, buffer: &mut [u8]) -> Result<
     ensures written { MatchResult result
         (IsCanonicalWritten input.now buffer.old buffer.new)
         (IsCanonicalFault input.now (length buffer.old)) }
-    ensures flags { is_strict input.now ≡ false → result ≡ Err Invalid }
+    ensures flags { has_known_flags input.now ≡ false → result ≡ Err Invalid }
     ensures kept { OnErr result (buffer.new ≡ buffer.old) }
 {
-    if !input.is_strict() {
+    if !input.has_known_flags() {
         return Err(Fault::Invalid);
     }
     if let Some(bytes) = canonical_start(input) {

@@ -2,7 +2,7 @@
 
 ghost use Rattle.std.specs.Prelude.{◌≡◌, false, length, Err, OnErr, MatchResult};
 ghost use Rattle.amqp_c.specs.declared.fault.Fault.TheVariants.{Invalid};
-ghost use Rattle.amqp_c.specs.Inputs.{is_strict};
+ghost use Rattle.amqp_c.specs.Inputs.{has_known_flags};
 ghost use Rattle.amqp_c_alloc.specs.JsonCalls.{IsJsonPut, IsJsonFault};
 
 use amqp_c::{Fault, Input, put_at_start};
@@ -15,7 +15,7 @@ pub fn put_json(alloc: Global, input: &Input<'_>, buffer: &mut [u8]) -> Result<u
     ensures written { MatchResult result
         (IsJsonPut input.now buffer.old buffer.new)
         (IsJsonFault input.now (length buffer.old)) }
-    ensures flags { is_strict input.now ≡ false → result ≡ Err Invalid }
+    ensures flags { has_known_flags input.now ≡ false → result ≡ Err Invalid }
     ensures kept { OnErr result (buffer.new ≡ buffer.old) }
 {
     let value = input.view()?;
