@@ -78,6 +78,12 @@ def test_no_allocator_is_linked(use: Use) -> None:
     assert " main" in taken and "rattle_alloc" not in taken
 
 
+def test_archive_has_the_calls_only(prefix: Path) -> None:
+    """Another archive that Rattle made, with functions of the same names over malloc, links with it."""
+    found = symbols(prefix / "lib/libamqp_values.a", "-g", "--defined-only")
+    assert found == {name for names in CALLS.values() for name in names}
+
+
 def test_shared_object_shows_the_calls(prefix: Path) -> None:
     # (each with its version, which is a symbol too, of kind A)
     found = symbols(prefix / "lib/libamqp_values.so", "-D", "--defined-only", kinds="B-Z")
