@@ -254,6 +254,22 @@ static void check_and_convert(void) {
     }
 }
 
+/* Without an allocator JSON has its keys in the order of the table, which must ascend. */
+static void unordered(void) {
+    amqpv_writer w;
+    amqpv_input in;
+    char json[64];
+    size_t count;
+    amqpv_begin(&w, buffer, sizeof buffer);
+    amqpv_add_bool(&w, "b", 1);
+    amqpv_add_bool(&w, "a", 1);
+    TRY(AMQPV_OK, amqpv_finish(&w, &count));
+    in = amqpv_table(buffer, count);
+    TRY(AMQPV_UNORDERED, amqpv_write_json(&in, json, sizeof json, &count));
+    TRY(AMQPV_OK, amqpv_to_json(&in, json, sizeof json, &count));
+    CHECK(strcmp(json, "{\"a\":true,\"b\":true}") == 0);
+}
+
 int main(void) {
     no_problem();
     same_entry();
@@ -265,6 +281,7 @@ int main(void) {
     print_json();
     warn();
     check_and_convert();
+    unordered();
     printf("%u calls\n", calls);
     return 0;
 }

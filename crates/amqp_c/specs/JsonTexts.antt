@@ -7,7 +7,7 @@ use Rattle.amqp_json.specs.Ascending.{OutOfOrder}
 use Rattle.amqp_json.specs.Conversions.{IsOrderedJsonOf}
 use Rattle.amqp_json.specs.Written.{counted}
 use Rattle.amqp_c.specs.declared.fault.Fault.{Fault}
-use Rattle.amqp_c.specs.declared.fault.Fault.TheVariants.{Invalid, NoMemory, NoRoom}
+use Rattle.amqp_c.specs.declared.fault.Fault.TheVariants.{Invalid, NoRoom, Unordered}
 use Rattle.amqp_c.specs.declared.input.Input.{Input}
 use Rattle.amqp_c.specs.Buffers.{IsPutAtStart}
 use Rattle.amqp_c.specs.Inputs.{limits, has_known_flags, encoding}
@@ -29,7 +29,7 @@ IsTextTooLong input buffer f = (t : List ℕ) × (rest : List ℕ) × IsOrderedJ
 -- a fault is right, for a buffer of that many bytes: the value isn't read, or has keys that don't ascend, or the text is
 -- too long
 abbrev pub IsOrderedJsonFault : Input → ℕ → Fault → Type 0
-IsOrderedJsonFault input buffer f = IsInputFault input f ⊎ ((f ≡ NoMemory) × HasUnorderedKeys input) ⊎ IsTextTooLong input buffer f
+IsOrderedJsonFault input buffer f = IsInputFault input f ⊎ ((f ≡ Unordered) × HasUnorderedKeys input) ⊎ IsTextTooLong input buffer f
 
 -- the JSON text of the value is put into the buffer, or the fault is right
 pub record WritesOrderedJson (input : Input) (old : List ℕ) (code : ℤ) (new : List ℕ) (n : ℕ) : Type 0 where

@@ -44,6 +44,8 @@ pub enum Fault {
     NoRoom(usize),
     /// An allocation failed.
     NoMemory,
+    /// The keys of a table don't ascend, each once.
+    Unordered,
 }
 
 impl Fault {
@@ -70,6 +72,7 @@ impl Fault {
             Fault::OutOfRange => -16,
             Fault::NoRoom(_) => -17,
             Fault::NoMemory => -18,
+            Fault::Unordered => -19,
         }
     }
 }

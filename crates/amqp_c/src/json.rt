@@ -11,7 +11,7 @@ use amqp_json::write_json_of_view;
 /// Puts the JSON text of the value at the start of the input at the start of `buffer`, and returns how many bytes it
 /// has. After a fault the buffer may have some of it.
 ///
-/// If the keys of a table don't ascend, the fault is `NoMemory`, since nothing can be sorted without an allocator.
+/// If the keys of a table don't ascend, the fault is `Unordered`, since nothing can be sorted without an allocator.
 pub fn put_json(input: &Input<'_>, buffer: &mut [u8]) -> Result<usize, Fault>
     ensures written { MatchResult result
         (IsOrderedJsonPut input.now buffer.old buffer.new)
@@ -21,7 +21,7 @@ pub fn put_json(input: &Input<'_>, buffer: &mut [u8]) -> Result<usize, Fault>
     let value = input.view()?;
     let capacity = buffer.len();
     let Some(count) = write_json_of_view(value, buffer) else {
-        return Err(Fault::NoMemory);
+        return Err(Fault::Unordered);
     };
     if count > capacity {
         return Err(Fault::NoRoom(count));

@@ -248,7 +248,7 @@ pub extern "C" fn amqpv_close(buffer: &mut [u8], into: &mut Container, body: &Co
 }
 
 /// Writes the JSON text of the value at the start of the input to the start of `buffer`. If the keys of a table don't
-/// ascend, it returns the code of `NoMemory`, since it would have to allocate to sort them. After an error the buffer
+/// ascend, it returns the code of `Unordered`, since it would have to allocate to sort them. After an error the buffer
 /// may have some of the text.
 ///
 /// `length` becomes how many bytes were written, or the capacity that is needed, otherwise 0.
