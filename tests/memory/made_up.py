@@ -28,8 +28,6 @@ LISTED = {
     # these calls fail only for want of memory: their error is an AllocError
     ("amqp_c_alloc/src/canonical.rt", "return Err(Fault::NoMemory);"),
     ("amqp_c_alloc/src/decode.rt", "return Err(Fault::NoMemory);"),
-    # nothing is allocated there: a clause states that the keys of a table don't ascend
-    ("amqp_c/src/json.rt", "return Err(Fault::NoMemory);"),
 }
 # The lines that ask for memory by a number, and what bounds that.
 BY_NUMBER = {
