@@ -12,10 +12,9 @@ static int64_t deaths(const uint8_t *headers, size_t length) {
     static const amqpv_step path[] = {AMQPV_KEY("x-death"), AMQPV_INDEX(0), AMQPV_KEY("count")};
     amqpv_input in = amqpv_table(headers, length);
     amqpv_entry table, count;
-    amqpv_problem problem;
     int64_t number;
     in.flags |= AMQPV_FIRST_KEY; /* of equal keys, as RabbitMQ does for arguments */
-    if (amqpv_read(&in, &table, &problem) == AMQPV_OK && amqpv_find(&in, &table, path, 3, &count) == AMQPV_OK
+    if (amqpv_read(&in, &table, NULL) == AMQPV_OK && amqpv_find(&in, &table, path, 3, &count) == AMQPV_OK
         && amqpv_as_int(&count, &number) == AMQPV_OK) {
         return number;
     }

@@ -8,7 +8,8 @@
 //!   buffers of capacity 0.
 //! - Structs are aligned, as the compiler does by default.
 //! - What a call writes to does not overlap anything else that is passed to it.
-//! - No length exceeds PTRDIFF_MAX.
+//! - No length of what a pointer is passed to exceeds PTRDIFF_MAX. (Numbers in an entry, a cursor or
+//!   a container may.)
 #![no_std]
 
 #[allow(non_camel_case_types)]
