@@ -72,8 +72,8 @@ pub extern "C" fn amqpv_from_json(
 }
 
 /// Looks for what a client or a stream queue may not accept in the value at the start of the input. A container is too
-/// deep that nests deeper than `levels`, or than the limit of the input. A `frame_max` of 0 means that there is none. What
-/// concerns stream queues only is a warning if a flag asks for it.
+/// deep that nests deeper than `levels`, or than the limit of the input. A `frame_max` of 0 means that there is none.
+/// What concerns stream queues only is a warning if a flag asks for it.
 #[unsafe(no_mangle)]
 pub extern "C" fn amqpv_warn(
     alloc: Global,
