@@ -4,9 +4,7 @@ mod Numbers
 mod Parts
 mod Prefixes
 mod Stepping
-mod Finding
-mod FirstFinding
-mod NthFinding
+mod LookUps
 mod Paths
 mod ByRules
 mod AnyKeys

@@ -1,5 +1,5 @@
 -- Following a path.
-use Rattle.std.proofs.Common.{◌≡◌, ◌+◌, ◌<◌, ◌≤◌, ℕ, suc, Bool, true, false, get_or, eq-eqb, drop, drop-cons, length-drop, List, [], ◌∷◌, length, IfOk, IfSome, Option, Some, None, Result, Ok, Err, refl, sym, ◌∙◌, subst, inl, inr, arith}
+use Rattle.std.proofs.Common.{◌≡◌, ◌+◌, ◌<◌, ◌≤◌, ℕ, suc, Bool, false, get_or, eq-eqb, drop, drop-cons, length-drop, List, [], ◌∷◌, length, IfOk, IfSome, Option, Some, None, Result, Ok, Err, refl, sym, ◌∙◌, subst, inl, inr, arith}
 use Rattle.std.proofs.lemmas.Bool.{cases_eq, ne_eqb}
 use Rattle.std.proofs.lemmas.List.{nil_from_length}
 use Rattle.amqp_value_core.specs.declared.types.amqp_type.AMQPType.{AMQPType}
@@ -8,16 +8,16 @@ use Rattle.amqp_value_core.specs.Ids.{id_of}
 use Rattle.amqp_value_core.specs.Values.{Tree, scalar, short, long, octets, array, table, Scalar, type_of}
 use Rattle.amqp_value_core.specs.Grammar.{Wire, wire, Raw, raw_fixed, raw_short, raw_long, raw_octets, raw_array, raw_table}
 use Rattle.amqp_value_core.specs.Layouts.{Layout, fixed}
-use Rattle.amqp_c.specs.declared.cursor.Cursor.{Cursor}
 use Rattle.amqp_c.specs.declared.entry.Entry.{Entry}
 use Rattle.amqp_c.specs.declared.lookup.Step.{Step}
 use Rattle.amqp_c.specs.declared.fault.Fault.{Fault}
 use Rattle.amqp_c.specs.declared.fault.Fault.TheVariants.{Invalid}
 use Rattle.amqp_c.specs.Spans.{part}
-use Rattle.amqp_c.specs.Entries.{IsEntry, EntryIsIn}
-use Rattle.amqp_c.specs.Steps.{array_tag, table_tag, contents, GivesFound, IsFoundIn}
-use Rattle.amqp_c.specs.NthValues.{IsNthIn, LooksUpNth}
-use Rattle.amqp_c.specs.Paths.{Fits, IsInside, LooksUpBy, StepLeads, StepsLead, arrives, finds_none, fails, goes_on, value_by, value_on, LooksUpOn}
+use Rattle.amqp_c.specs.Entries.{IsEntry}
+use Rattle.amqp_c.specs.declared.span.Span.{Span}
+use Rattle.amqp_c.specs.Steps.{array_tag, table_tag, contents}
+use Rattle.amqp_c.specs.LookUps.{GivesFound, IsFoundIn, LooksUp, LooksUpNth}
+use Rattle.amqp_c.specs.Paths.{Fits, IsInside, StepLeads, StepsLead, arrives, finds_none, fails, goes_on, value_by, value_on, LooksUpOn}
 use Rattle.amqp_c.proofs.Prefixes.{fixed_tag}
 
 -- ---- the type tags of values that are no containers
@@ -67,22 +67,10 @@ led s step e (table es) r leads inside is = elim (cases_eq step.into table_tag) 
 ]
 
 -- what is found is inside the bytes
-inside_of : (s : List ℕ) (e : Entry) → EntryIsIn (length s) e → IsInside (length s) e
-inside_of s e inside = (inside.key, inside.value, inside.content)
-
-nth_inside : (s : List ℕ) (c : Cursor) (r : Result (Option Entry) Fault) → IfOk r (λ o. IfSome o (IsNthIn s c)) → IfOk r (λ o. IfSome o (IsInside (length s)))
-nth_inside s c (Ok (Some e)) h = inside_of s e h.inside
-nth_inside s c (Ok None) h = tt
-nth_inside s c (Err f) h = tt
-
-key_inside : (s : List ℕ) (c : Cursor) (key : List ℕ) (r : Result (Option Entry) Fault) → IfOk r (λ o. IfSome o (IsFoundIn s c key)) → IfOk r (λ o. IfSome o (IsInside (length s)))
-key_inside s c key (Ok (Some e)) h = inside_of s e h.inside
-key_inside s c key (Ok None) h = tt
-key_inside s c key (Err f) h = tt
-
-by_inside : (s : List ℕ) (first : Bool) (c : Cursor) (key : List ℕ) (r : Result (Option Entry) Fault) → LooksUpBy first s c key r → IfOk r (λ o. IfSome o (IsInside (length s)))
-by_inside s false c key r looks = key_inside s c key r looks.entry
-by_inside s true c key r looks = key_inside s c key r looks.entry
+found_inside : (Stands : List ℕ → Span → Entry → Type 0) (s : List ℕ) (p : Span) (r : Result (Option Entry) Fault) → IfOk r (λ o. IfSome o (IsFoundIn Stands s p)) → IfOk r (λ o. IfSome o (IsInside (length s)))
+found_inside Stands s p (Ok (Some e)) h = (h.inside.key, h.inside.value, h.inside.content)
+found_inside Stands s p (Ok None) h = tt
+found_inside Stands s p (Err f) h = tt
 
 -- a step into another type, into neither, into an array and into a table
 pub leads_none : (s : List ℕ) (first : Bool) (step : Step) (e : Entry) → (e.tag ≡ step.into → ⊥) → StepLeads s first step e (Ok None)
@@ -106,15 +94,15 @@ leads_nth s first step e r to same looks = record {
   keyed = λ table is. absurd (omega (arith, table, to));
   indexed = λ to is. looks;
   elsewhere = λ no. absurd (no (inr to, same));
-  inside = nth_inside s (contents e) r looks.entry;
+  inside = found_inside _ s e.content r looks.finds.entry;
 }
 
-pub leads_by : (s : List ℕ) (first : Bool) (step : Step) (e : Entry) (r : Result (Option Entry) Fault) → step.into ≡ table_tag → e.tag ≡ step.into → LooksUpBy first s (contents e) step.key.now r → StepLeads s first step e r
+pub leads_by : (s : List ℕ) (first : Bool) (step : Step) (e : Entry) (r : Result (Option Entry) Fault) → step.into ≡ table_tag → e.tag ≡ step.into → LooksUp first s (contents e) step.key.now r → StepLeads s first step e r
 leads_by s first step e r to same looks = record {
   keyed = λ to is. looks;
   indexed = λ array is. absurd (omega (arith, array, to));
   elsewhere = λ no. absurd (no (inl to, same));
-  inside = by_inside s first (contents e) step.key.now r looks;
+  inside = found_inside _ s e.content r looks.finds.entry;
 }
 
 -- ---- all steps

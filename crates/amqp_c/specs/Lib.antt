@@ -7,8 +7,7 @@ pub mod Scalars
 pub mod Entries
 pub mod Heads
 pub mod Steps
-pub mod FirstPairs
-pub mod NthValues
+pub mod LookUps
 pub mod Paths
 pub mod CallResults
 pub mod Measures

@@ -1,23 +1,16 @@
 -- Looking a value up by a path.
-use Rattle.std.specs.Prelude.{ℕ, ◌≡◌, List, [], ◌∷◌, length, Bool, true, false, ◌==◌, if◌then◌else◌, Option, Some, None, IfSome, Result, Ok, Err, IfOk, ◌⊎◌}
+use Rattle.std.specs.Prelude.{ℕ, ◌≡◌, List, [], ◌∷◌, length, Bool, false, ◌==◌, if◌then◌else◌, Option, Some, None, IfSome, Result, Ok, Err, IfOk, ◌⊎◌}
 use Rattle.amqp_value_core.specs.Values.{Tree, array, table}
 use Rattle.amqp_value_core.specs.Maps.{value_at}
 use Rattle.amqp_in_place.specs.Walks.{tree_at}
-use Rattle.amqp_c.specs.declared.cursor.Cursor.{Cursor}
 use Rattle.amqp_c.specs.declared.entry.Entry.{Entry}
 use Rattle.amqp_c.specs.declared.lookup.Step.{Step}
 use Rattle.amqp_c.specs.declared.fault.Fault.{Fault}
 use Rattle.amqp_c.specs.declared.fault.Fault.TheVariants.{Invalid}
 use Rattle.amqp_c.specs.Spans.{SpanIsIn}
 use Rattle.amqp_c.specs.Entries.{IsEntry}
-use Rattle.amqp_c.specs.Steps.{array_tag, table_tag, contents, LooksUp, GivesFound}
-use Rattle.amqp_c.specs.FirstPairs.{LooksUpFirst}
-use Rattle.amqp_c.specs.NthValues.{LooksUpNth}
-
--- a look-up by a key: of equal keys the first, or the last
-abbrev pub LooksUpBy : Bool → List ℕ → Cursor → List ℕ → Result (Option Entry) Fault → Type 0
-LooksUpBy true = LooksUpFirst
-LooksUpBy false = LooksUp
+use Rattle.amqp_c.specs.Steps.{array_tag, table_tag, contents}
+use Rattle.amqp_c.specs.LookUps.{GivesFound, LooksUp, LooksUpNth}
 
 -- the step is into a table or an array, and the entry is of one
 abbrev pub Fits : Step → Entry → Type 0
@@ -30,7 +23,7 @@ IsInside n e = SpanIsIn n e.key × SpanIsIn n e.value × SpanIsIn n e.content
 -- a step from an entry: into a table by its key and into an array by its index; one that doesn't fit
 -- the entry finds nothing. What is found is inside the bytes
 pub record StepLeads (s : List ℕ) (first : Bool) (step : Step) (e : Entry) (done : Result (Option Entry) Fault) : Type 0 where
-  pub keyed : step.into ≡ table_tag → e.tag ≡ table_tag → LooksUpBy first s (contents e) step.key.now done
+  pub keyed : step.into ≡ table_tag → e.tag ≡ table_tag → LooksUp first s (contents e) step.key.now done
   pub indexed : step.into ≡ array_tag → e.tag ≡ array_tag → LooksUpNth s (contents e) step.index done
   pub elsewhere : (Fits step e → ⊥) → done ≡ Ok None
   pub inside : IfOk done (λ o. IfSome o (IsInside (length s)))

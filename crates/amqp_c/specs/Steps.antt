@@ -1,17 +1,14 @@
 -- Stepping through the body of a container by a cursor.
-use Rattle.std.specs.Prelude.{ℕ, ◌≡◌, ◌+◌, ◌<◌, ◌≤◌, List, [], ◌∷◌, ◌++◌, length, take, drop, if◌then◌else◌, Option, Some, None, IfSome, Result, Ok, IfOk, IfErr, ◌⊎◌}
-use Rattle.std.specs.Option.{option_or}
+use Rattle.std.specs.Prelude.{ℕ, ◌≡◌, ◌+◌, ◌<◌, ◌≤◌, List, ◌++◌, length, Option, Some, None, Result, Ok, ◌⊎◌}
 use Rattle.amqp_value_core.specs.Values.{Tree, Trees, no_trees, tree, Entries, no_entries, entry}
 use Rattle.amqp_value_core.specs.Grammar.{short_field, ArrayBody, TableBody}
-use Rattle.amqp_value_core.specs.Maps.{same_bytes, value_at}
 use Rattle.amq_protocol_types.specs.parsing.Headers.{extent}
-use Rattle.amqp_in_place.specs.Bodies.{HasEntries}
 use Rattle.amqp_c.specs.declared.cursor.Cursor.{Cursor}
 use Rattle.amqp_c.specs.declared.entry.Entry.{Entry}
 use Rattle.amqp_c.specs.declared.fault.Fault.{Fault}
 use Rattle.amqp_c.specs.declared.fault.Fault.TheVariants.{Cut, Invalid}
 use Rattle.amqp_c.specs.declared.span.Span.{Span}
-use Rattle.amqp_c.specs.Spans.{part, rest_after, last, SpanIsIn}
+use Rattle.amqp_c.specs.Spans.{part, rest_after, SpanIsIn}
 use Rattle.amqp_c.specs.Entries.{IsEntry, IsTagged, IsTrueTo, EntryIsIn}
 
 -- the type tags of an array and of a table, `A` and `F`
@@ -29,10 +26,6 @@ contents e = record { left = e.content; tag = e.tag }
 abbrev pub IsOfContainer : ℕ → Cursor → Type 0
 IsOfContainer n c = SpanIsIn n c.left × ((c.tag ≡ array_tag) ⊎ (c.tag ≡ table_tag))
 
--- it is of a table
-abbrev pub IsOfTable : ℕ → Cursor → Type 0
-IsOfTable n c = SpanIsIn n c.left × (c.tag ≡ table_tag)
-
 -- a type tag is at the start, and as many bytes as it and the length after it count
 abbrev pub IsHeaded : List ℕ → Type 0
 IsHeaded s = (0 < extent s) × (extent s ≤ length s)
@@ -44,18 +37,6 @@ BeginsWithKey k s = (rest : List ℕ) × (s ≡ short_field k ++ rest)
 -- no pair is at the start, by the key's length, the type tag and the value's length
 abbrev pub HasNoPair : List ℕ → Type 0
 HasNoPair s = (k value : List ℕ) → s ≡ short_field k ++ value → IsHeaded value → ⊥
-
--- the bytes are pairs, one after another, by these lengths and type tags: each a key, and the bytes
--- of a value
-pub data ArePairEncodings : List ℕ → List (List ℕ × List ℕ) → Type 0 where
-  no_pairs : ArePairEncodings [] []
-  pair : (k value : List ℕ) → (ps : List (List ℕ × List ℕ)) → IsHeaded value → ArePairEncodings (drop (extent value) value) ps
-      → ArePairEncodings (short_field k ++ value) ((k, take (extent value) value) ∷ ps)
-
--- the bytes of the value of the last pair with the key, if a pair has it
-abbrev pub last_of : List ℕ → List (List ℕ × List ℕ) → Option (List ℕ)
-last_of k [] = None
-last_of k (p ∷ ps) = option_or (last_of k ps) (if same_bytes k p.0 then Some p.1 else None)
 
 -- at the start of the bytes that p spans is the entry of a value: it has no key, and as many
 -- bytes as its type tag and its length count
@@ -72,10 +53,6 @@ StandsKeyed s p e =
 -- the entry ends in the span, which it begins in or after its start
 abbrev pub EndsIn : Span → Entry → Type 0
 EndsIn p e = (p.offset ≤ e.value.offset) × (e.value.offset + e.value.length ≤ p.offset + p.length)
-
--- it is at the beginning of the last n bytes of p, and its value ends in them
-abbrev pub StandsIn : List ℕ → Span → Entry → Type 0
-StandsIn s p e = (n : ℕ) × (n ≤ p.length) × StandsKeyed s (last p n) e × EndsIn (last p n) e
 
 -- a step of the cursor c in s, whatever they hold: the entry is inside s and begins at the
 -- cursor, with the type of its type tag, and is that of the value if one is encoded there; the
@@ -133,37 +110,6 @@ GivesNextValue s c done = (vs : Trees) → SpanIsIn (length s) c.left → c.tag 
 abbrev pub GivesNextPair : List ℕ → Cursor → Result (Option (Entry × Cursor)) Fault → Type 0
 GivesNextPair s c done = (ps : Entries) → SpanIsIn (length s) c.left → c.tag ≡ table_tag → TableBody (part s c.left) ps → GivesPair s ps done
 
--- what is found is the entry of the value, if there is one
-abbrev pub GivesFound : List ℕ → Option Tree → Result (Option Entry) Fault → Type 0
-GivesFound s None (Ok None) = Unit {0}
-GivesFound s (Some v) (Ok (Some e)) = IsEntry s e v
-GivesFound s _ _ = ⊥
-
--- and it is determined by the place of the value's bytes
-abbrev pub GivesLast : List ℕ → Option (List ℕ) → Result (Option Entry) Fault → Type 0
-GivesLast s None (Ok None) = Unit {0}
-GivesLast s (Some w) (Ok (Some e)) = part s e.value ≡ w
-GivesLast s _ _ = ⊥
-
--- an entry found by its key, whatever is left: it has the key and the type of its type tag, is that of
--- the value if one is encoded there, and is in what the cursor c has left
-pub record IsFoundIn (s : List ℕ) (c : Cursor) (key : List ℕ) (e : Entry) : Type 0 where
-  pub keyed : part s e.key ≡ key
-  pub typed : IsTagged (part s e.value) e
-  pub faithful : IsTrueTo s e
-  pub stands : StandsIn s c.left e
-  pub inside : EntryIsIn (length s) e
-
--- a look-up, in what a table has left: if pairs are left, the value at the key is found, of equal
--- keys the last; what is left is cut exactly when it isn't pairs by their lengths and type
--- tags, and of such pairs the last with the key is found, whatever is in their values
-pub record LooksUp (s : List ℕ) (c : Cursor) (key : List ℕ) (done : Result (Option Entry) Fault) : Type 0 where
-  pub found : (es : Entries) → IsOfTable (length s) c → HasEntries (part s c.left) es → GivesFound s (value_at key es) done
-  pub last : (ps : List (List ℕ × List ℕ)) → IsOfTable (length s) c → ArePairEncodings (part s c.left) ps → GivesLast s (last_of key ps) done
-  pub entry : IfOk done (λ o. IfSome o (IsFoundIn s c key))
-  pub valid : IfOk done (λ _. IsOfTable (length s) c × (ps : List (List ℕ × List ℕ)) × ArePairEncodings (part s c.left) ps)
-  pub refused : IfErr done (RefusedBy (IsOfTable (length s) c) (IsOfTable (length s) c × ((ps : List (List ℕ × List ℕ)) → ArePairEncodings (part s c.left) ps → ⊥)))
-
 -- ---- on the way
 
 -- the entry of v with the key is given, and `rest` is after it in the span
@@ -180,11 +126,3 @@ IsValueIn s p _ _ = ⊥
 abbrev pub IsPairIn : List ℕ → Span → Entries → Option Entry → Type 0
 IsPairIn s p (entry k v ps) (Some e) = (part s e.key ≡ k) × IsEntry s e v × TableBody (part s (rest_after p e.value)) ps
 IsPairIn s p _ _ = ⊥
-
--- no key with a byte after it is at the start
-abbrev pub HasNoKey : List ℕ → Type 0
-HasNoKey s = (k rest : List ℕ) → s ≡ short_field k ++ rest → 0 < length rest → ⊥
-
--- the bytes are what is in s after some of its bytes
-abbrev pub IsRestOf : List ℕ → List ℕ → Type 0
-IsRestOf s rest = (n : ℕ) × (0 < n) × (n ≤ length s) × (rest ≡ drop n s)

@@ -1,13 +1,13 @@
 //! Looking values up: by a key, by an index, and by a path of these.
 
-ghost use Rattle.std.specs.Prelude.{◌≡◌, ◌<◌, ◌++◌, length, drop, MatchBool, MatchOption};
+ghost use Rattle.std.specs.Prelude.{◌≡◌, ◌<◌, ◌++◌, ℕ, List, [], length, drop, Option, None, MatchBool, MatchOption, MatchResult};
 ghost use Rattle.amqp_value_core.specs.Grammar.{short_field};
 ghost use Rattle.amq_protocol_types.specs.parsing.Headers.{extent};
+ghost use Rattle.amqp_c.specs.declared.fault.Fault.TheVariants.{Cut};
 ghost use Rattle.amqp_c.specs.Spans.{part};
-ghost use Rattle.amqp_c.specs.Steps.{IsOfTable, IsHeaded, HasNoKey, LooksUp};
-ghost use Rattle.amqp_c.specs.FirstPairs.{LooksUpFirst};
-ghost use Rattle.amqp_c.specs.NthValues.{IsOfArray, LooksUpNth};
-ghost use Rattle.amqp_c.specs.Paths.{IsInside, LooksUpBy, StepLeads, LooksUpOn};
+ghost use Rattle.amqp_c.specs.Steps.{IsHeaded};
+ghost use Rattle.amqp_c.specs.LookUps.{IsOf, HasPair, HasNth, IsPlaceOf, HasNoKey, LooksUp, LooksUpNth};
+ghost use Rattle.amqp_c.specs.Paths.{IsInside, StepLeads, LooksUpOn};
 
 use crate::Fault;
 use crate::cursor::{Cursor, first_pair, first_value};
@@ -53,7 +53,7 @@ impl Entry {
         if step.into != b'F' {
             return Ok(None);
         }
-        contents.find_by(bytes, step.key, first_key)
+        contents.find(bytes, step.key, first_key)
     }
 }
 
@@ -80,53 +80,14 @@ pub fn find(
 }
 
 impl Cursor {
-    /// The entry at a key: of equal keys the first, or else the last.
-    fn find_by(self, bytes: &[u8], key: &[u8], first_key: bool) -> Result<Option<Entry>, Fault>
-        ensures { LooksUpBy first_key bytes.now self key.now result }
+    /// The entry at the key: of equal keys the first, or else the last.
+    fn find(self, bytes: &[u8], key: &[u8], first_key: bool) -> Result<Option<Entry>, Fault>
+        ensures { LooksUp first_key bytes.now self key.now result }
     {
-        if first_key {
-            self.find_first(bytes, key)
-        } else {
-            self.find(bytes, key)
-        }
-    }
-
-    /// The pairs that are left, if the cursor is of a table and inside `bytes`.
-    fn table_body(self, bytes: &[u8]) -> Option<&[u8]>
-        ensures { MatchOption result
-            (IsOfTable (length bytes.now) self → ⊥)
-            (λ body. IsOfTable (length bytes.now) self
-            × (body.now ≡ part bytes.now self.left)) }
-    {
-        if self.tag != b'F' {
-            return None;
-        }
-        self.left.of(bytes)
-    }
-
-    /// The entry at the key: of equal keys the last. It traverses all entries that are left, and
-    /// returns one.
-    fn find(self, bytes: &[u8], key: &[u8]) -> Result<Option<Entry>, Fault>
-        ensures { LooksUp bytes.now self key.now result }
-    {
-        let Some(body) = self.table_body(bytes) else {
+        let Some(body) = self.body_of(b'F', bytes) else {
             return Err(Fault::Invalid);
         };
-        let mut at = None;
-        let mut left = body;
-        'pairs: while !left.is_empty() {
-            let Some((name, value)) = split_key(left) else {
-                return Err(Fault::Cut);
-            };
-            if key == name {
-                at = Some(left.len());
-            }
-            let Some(later) = after_value(value) else {
-                return Err(Fault::Cut);
-            };
-            left = later;
-        }
-        let Some(count) = at else {
+        let Some(count) = place_of_key(body, key, first_key)? else {
             return Ok(None);
         };
         match first_pair(bytes, self.left.last(count)) {
@@ -135,70 +96,85 @@ impl Cursor {
         }
     }
 
-    /// The entry at the key: of equal keys the first. It looks at no byte after the entry that it
-    /// returns.
-    fn find_first(self, bytes: &[u8], key: &[u8]) -> Result<Option<Entry>, Fault>
-        ensures { LooksUpFirst bytes.now self key.now result }
-    {
-        let Some(body) = self.table_body(bytes) else {
-            return Err(Fault::Invalid);
-        };
-        let mut left = body;
-        'pairs: while !left.is_empty() {
-            let Some((name, value)) = split_key(left) else {
-                return Err(Fault::Cut);
-            };
-            if key == name {
-                return match first_pair(bytes, self.left.last(left.len())) {
-                    Some(entry) => Ok(Some(entry)),
-                    None => Err(Fault::Cut),
-                };
-            }
-            let Some(later) = after_value(value) else {
-                return Err(Fault::Cut);
-            };
-            left = later;
-        }
-        Ok(None)
-    }
-
-    /// The entry of the value that `index` others are before. It looks at no byte after it.
+    /// The entry of the value that `index` others are before.
     fn nth(self, bytes: &[u8], index: usize) -> Result<Option<Entry>, Fault>
         ensures { LooksUpNth bytes.now self index result }
     {
-        let Some(body) = self.array_body(bytes) else {
+        let Some(body) = self.body_of(b'A', bytes) else {
             return Err(Fault::Invalid);
         };
-        let mut left = body;
-        let mut before = index;
-        'values: while !left.is_empty() && before > 0 {
-            let Some(later) = after_value(left) else {
-                return Err(Fault::Cut);
-            };
-            left = later;
-            before -= 1;
-        }
-        if left.is_empty() {
+        let Some(count) = place_of_index(body, index)? else {
             return Ok(None);
-        }
-        match first_value(bytes, self.left.last(left.len())) {
+        };
+        match first_value(bytes, self.left.last(count)) {
             Some(entry) => Ok(Some(entry)),
             None => Err(Fault::Cut),
         }
     }
 
-    /// The values that are left, if the cursor is of an array and inside `bytes`.
-    fn array_body(self, bytes: &[u8]) -> Option<&[u8]>
+    /// The bytes that are left, if the cursor is of a container with the type tag and inside `bytes`.
+    fn body_of(self, tag: u8, bytes: &[u8]) -> Option<&[u8]>
         ensures { MatchOption result
-            (IsOfArray (length bytes.now) self → ⊥)
-            (λ body. IsOfArray (length bytes.now) self
+            (IsOf tag (length bytes.now) self → ⊥)
+            (λ body. IsOf tag (length bytes.now) self
             × (body.now ≡ part bytes.now self.left)) }
     {
-        if self.tag != b'A' {
+        if self.tag != tag {
             return None;
         }
         self.left.of(bytes)
     }
+}
+
+/// How many bytes there are from the pair with the key on: of equal keys from the first, or else
+/// the last. It looks at no byte after the first pair's key, or else at all pairs.
+fn place_of_key(pairs: &[u8], key: &[u8], first_key: bool) -> Result<Option<usize>, Fault>
+    ensures { MatchResult result
+        (λ place. MatchOption place (HasPair first_key key.now pairs.now None)
+        (IsPlaceOf (HasPair first_key key.now pairs.now) (short_field key.now) pairs.now))
+        (λ f. (f ≡ Cut) × ((w : Option (List ℕ)) → HasPair first_key key.now pairs.now w → ⊥)) }
+{
+    let mut at = None;
+    let mut left = pairs;
+    'pairs: while !left.is_empty() {
+        let Some((name, value)) = split_key(left) else {
+            return Err(Fault::Cut);
+        };
+        if key == name {
+            at = Some(left.len());
+            if first_key {
+                return Ok(at);
+            }
+        }
+        let Some(later) = after_value(value) else {
+            return Err(Fault::Cut);
+        };
+        left = later;
+    }
+    Ok(at)
+}
+
+/// How many bytes there are from the value on that `index` others are before. It looks at no byte
+/// of that value.
+fn place_of_index(values: &[u8], index: usize) -> Result<Option<usize>, Fault>
+    ensures { MatchResult result
+        (λ place. MatchOption place (HasNth index values.now None)
+        (IsPlaceOf (HasNth index values.now) [] values.now))
+        (λ f. (f ≡ Cut) × ((w : Option (List ℕ)) → HasNth index values.now w → ⊥)) }
+{
+    let mut left = values;
+    let mut before = index;
+    'values: while !left.is_empty() && before > 0 {
+        let Some(later) = after_value(left) else {
+            return Err(Fault::Cut);
+        };
+        left = later;
+        before -= 1;
+    }
+    if left.is_empty() {
+        return Ok(None);
+    }
+    Ok(Some(left.len()))
 }
 
 /// The key of the pair at the start, and the bytes from its value on.

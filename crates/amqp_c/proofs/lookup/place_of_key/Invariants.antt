@@ -1,0 +1,13 @@
+use Rattle.std.proofs.Common.{length}
+use Rattle.amqp_c.proofs.LookUps.{IsEndOf, SearchedTo}
+use Rattle.amqp_c.proofs.lookup.place_of_key.Given as goal
+
+-- what was seen is determined by the pairs before those that are left
+abbrev pub invariant-pairs : goal.invariant-pairs
+invariant-pairs l = record {
+  ends : IsEndOf l.fn.pairs l.left;
+  so_far : SearchedTo l.first_key l.key l.fn.pairs l.left l.at;
+}
+
+abbrev pub decreases-pairs : goal.decreases-pairs
+decreases-pairs l = length l.left
