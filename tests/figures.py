@@ -9,6 +9,8 @@ from crates import TOP
 
 HEADER, SPEED, INTEROP, CONTRIBUTING = "include/amqp_values.h", "docs/SPEED.md", "docs/INTEROP.md", "CONTRIBUTING.md"
 VERIFICATION, ANSWERS = "docs/VERIFICATION.md", "crates/test_calls/data/rust.calls"
+# The page on what a new type touches.
+A_TYPE = "docs/ADDING-A-TYPE.md"
 # The page with the tables of bench/run that docs/SPEED.md doesn't have.
 RESULTS = "bench/RESULTS.md"
 # The default limits on bytes and on levels: where they are, and patterns of which each has groups for `bytes` or `depth`.
@@ -46,7 +48,7 @@ DEFAULTS = {
 }
 # What names no version of RabbitMQ that only docs/INTEROP.md may name.
 NAMING = ("*.md", "include", "bindings", "packaging", "crates")
-# The folders of crates whose files CONTRIBUTING.md counts.
+# The folders of crates whose files docs/ADDING-A-TYPE.md counts.
 PARTS = ("src", "specs", "proofs")
 # The crates whose lines docs/VERIFICATION.md counts.
 PROVED = "amqp_value_core amq_protocol_types amqp_in_place amqp_json amqp_c amqp_c_alloc amqp_wire amqp_show".split()
@@ -118,15 +120,14 @@ def versions_by_hand() -> Iterator[str]:
 
 
 def files_of_a_type() -> Iterator[str]:
-    """Yields how many files CONTRIBUTING.md names for a new type, if it states another number."""
-    text = read(CONTRIBUTING)
-    section = text.partition("**A type.**")[2].partition("\n**")[0]
-    rows = [it.partition("|")[::2] for it in re.findall(r"(?m)^\| (.*) \|$", section)]
+    """Yields how many files docs/ADDING-A-TYPE.md names, if it states another number."""
+    text = read(A_TYPE)
+    rows = [it.partition("|")[::2] for it in re.findall(r"(?m)^\| (.*) \|$", text)]
     paths = {(crate, it) for crate, cells in rows for it in re.findall(rf"`((?:{'|'.join(PARTS)})[\w/.+-]*)`", cells)}
     counts = [sum(it.startswith(f"{part}/") for _, it in paths) for part in PARTS]
     wanted = "{} files of `src`, {} of `specs` and {} of `proofs`".format(*counts)
-    if f"The table names {wanted}" not in " ".join(section.split()):
-        yield f"{place(CONTRIBUTING, text.find('**A type.**'))}: the table names {wanted}: write that below it"
+    if f"The table names {wanted}" not in " ".join(text.split()):
+        yield f"{A_TYPE}: the table names {wanted}: write that below it"
 
 
 def lines_of(*paths: Path) -> list[str]:
