@@ -33,7 +33,6 @@ DEFAULTS = {
     ],
     "packaging/amqp_show.1": [r"bytes; (?P<bytes>\d+) by default", r"(?P<depth>\d+) by default\.\n\.It Fl h"],
     "docs/SHOW.md": [r"`--max-bytes` \((?P<bytes>\d+) by default\)", r"`--depth` \((?P<depth>\d+);"],
-    "docs/WEB.md": [r"`--depth` \((?P<depth>\d+), at most", r"`--max-bytes` \((?P<bytes>\d+)\)"],
     "bindings/web/index.html": [r'id="frame"[^>]* value="(?P<bytes>\d+)"', r'id="depth"[^>]* value="(?P<depth>\d+)"'],
     "bindings/python/amqp_values/__init__.pyi": [r"max_bytes: int = (?P<bytes>\d+),", r"depth: int = (?P<depth>\d+)"],
     "bindings/python/src/module.c": [r"\bmax_bytes=(?P<bytes>\d+)", r"\bdepth=(?P<depth>\d+)"],

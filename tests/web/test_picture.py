@@ -1,4 +1,4 @@
-"""docs/page.png, which README.md and docs/WEB.md show: the page with headers of which a length is wrong.
+"""docs/page.png, which README.md and docs/SHOW.md show: the page with headers of which a length is wrong.
 
 Each run makes the picture, and compares the words on it with docs/page.txt; pixels depend on fonts. `tests/run web --write
 -k picture` puts both into docs/.
@@ -48,5 +48,5 @@ def test_picture(browser: Browser, is_writing: bool) -> None:
 
 
 def test_pages_show_it() -> None:
-    for page, path in (("README.md", "docs/page.png"), ("docs/WEB.md", "page.png")):
+    for page, path in (("README.md", "docs/page.png"), ("docs/SHOW.md", "page.png")):
         assert f"]({path})" in (TOP / page).read_text(), f"{page} doesn't show it"
