@@ -1,18 +1,27 @@
-"""What all tests share: how random they are, what they note, whether they write files, and the shared object for C."""
+"""What all tests share: which are skipped, how random they are, what they note, whether they write files, and the library for C.
 
+The last line that a run prints is 'N passed, M failed'. A test that is skipped has shown nothing: it counts as failed, unless
+WITHOUT names what it needs.
+"""
+
+import os
 import random
 import sys
-from collections.abc import Iterator
-from typing import Any
+from collections.abc import Callable, Generator, Iterator
+from typing import Any, TypeVar
 
 import pytest
 from building import shared_object
 from crates import Crates
 from hypothesis import settings
+from processes import end_descendants, end_on_signals
 
 from tests import calls_for_c
-from tests.left_out import LACKS
-from tests.notes import NOTES
+
+# What WITHOUT names, and lines that are printed at the end.
+WITHOUT = os.environ.get("WITHOUT", "").split()
+NOTES: list[str] = []
+Hook = TypeVar("Hook", bound=Callable[..., Any])
 
 # Of a property, the examples that are tried: the same in each run, or others in each.
 settings.register_profile("fixed", derandomize=True, deadline=None, database=None)
@@ -28,7 +37,14 @@ def pytest_addoption(parser: pytest.Parser) -> None:
     group.addoption("--built", action="store_true", help="build it over what `rt ci` has left")
 
 
+def interrupted() -> None:
+    """Has pytest end what it began."""
+    raise KeyboardInterrupt
+
+
 def pytest_configure(config: pytest.Config) -> None:
+    if not hasattr(config, "workerinput"):
+        end_on_signals(interrupted)
     is_random = config.getoption("--random")
     settings.load_profile("random" if is_random else "fixed")
     if config.option.seed is None:
@@ -43,13 +59,50 @@ def pytest_sessionstart(session: pytest.Session) -> None:
 
 
 def pytest_runtest_setup(item: pytest.Item) -> None:
-    if lacks := item.stash.get(LACKS, ""):
-        pytest.fail(lacks, pytrace=False)
+    """Skips a test that needs what WITHOUT names, and fails one that needs an option which isn't given."""
+    needs = [str(it) for mark in item.iter_markers("needs") for it in mark.args]
+    for it in (it for it in needs if it.lstrip("-") in WITHOUT):
+        pytest.skip(f"WITHOUT names {it.lstrip('-')}")
+    for it in (it for it in needs if it.startswith("--") and not item.config.getoption(it)):
+        pytest.fail(f"it needs {it}: give it, or leave such tests out by WITHOUT={it.lstrip('-')}", pytrace=False)
+
+
+def around(hook: Hook) -> Hook:
+    """Has pytest call a hook around all others of its name. (Its own decorator has no types.)"""
+    called: Hook = pytest.hookimpl(hookwrapper=True)(hook)
+    return called
+
+
+@around
+def pytest_runtest_makereport() -> Generator[None, Any, None]:
+    fail_if_skipped((yield).get_result())
+
+
+@around
+def pytest_make_collect_report() -> Generator[None, Any, None]:
+    fail_if_skipped((yield).get_result())
+
+
+def fail_if_skipped(report: pytest.TestReport | pytest.CollectReport) -> None:
+    """Makes a test or a module that is skipped fail, unless WITHOUT names why."""
+    why = str(report.longrepr[2] if isinstance(report.longrepr, tuple) else report.longrepr)
+    if report.skipped and why.removeprefix("Skipped: WITHOUT names ") not in WITHOUT:
+        report.outcome, report.longrepr = "failed", f"skipped, but WITHOUT doesn't name why: {why}"
+        report.__dict__.pop("wasxfail", None)
 
 
 def pytest_terminal_summary(terminalreporter: Any) -> None:
     for note in NOTES:
         terminalreporter.write_line(note)
+
+
+def pytest_unconfigure(config: pytest.Config) -> None:
+    """Ends what tests have started, and prints the counts; of processes that run side by side the first does."""
+    reporter = config.pluginmanager.get_plugin("terminalreporter")
+    if reporter and not hasattr(config, "workerinput"):
+        end_descendants()
+        passed, *failed = (len(reporter.stats.get(it, ())) for it in ("passed", "failed", "error"))
+        print(f"{passed} passed, {sum(failed)} failed", flush=True)
 
 
 @pytest.fixture(scope="session")

@@ -12,8 +12,6 @@ from building import AARCH64, CALLS_FOR_C, build_archive
 from crates import TOP
 
 from tests.c.compiling import C, CRATES, assert_well, run
-from tests.left_out import leave_out, needs_of, without
-from tests.notes import NOTES
 
 SANITIZERS = ["-fsanitize=address,undefined", "-fno-sanitize-recover=all"]
 
@@ -24,7 +22,6 @@ def pytest_addoption(parser: pytest.Parser) -> None:
 
 
 def pytest_configure(config: pytest.Config) -> None:
-    config.addinivalue_line("markers", "needs(name, ..): options, or what WITHOUT may name, which a test needs")
     lacks = [it for it in ("rt", "cc", "c++", "nm") if not shutil.which(it)]
     if lacks:
         raise pytest.UsageError(
@@ -33,15 +30,9 @@ def pytest_configure(config: pytest.Config) -> None:
 
 
 def pytest_collection_modifyitems(config: pytest.Config, items: list[pytest.Item]) -> None:
-    """Leaves out the tests for which --root isn't given, as before a release, and those that need what WITHOUT names."""
+    """Leaves out the tests for which --root isn't given, as before a release."""
     if not config.getoption("--root"):
-        items[:] = [it for it in items if "--root" not in needs_of(it)]
-    NOTES.extend(leave_out(config, items, lambda it: lacking(config, it), {}))
-
-
-def lacking(config: pytest.Config, item: pytest.Item) -> list[str]:
-    """What a test needs and isn't there: an option, or what WITHOUT names."""
-    return [it for it in needs_of(item) if it in without() or it.startswith("--") and not config.getoption(it)]
+        items[:] = [it for it in items if not any("--root" in mark.args for mark in it.iter_markers("needs"))]
 
 
 @pytest.fixture(scope="session")

@@ -5,10 +5,7 @@ from pathlib import Path
 
 import pytest
 
-from tests.left_out import without
 from tests.oracle.crate import Driver, build, named
-
-collect_ignore = ["test_vectors.py"] if "codecs" in without() else []
 
 
 def pytest_addoption(parser: pytest.Parser) -> None:

@@ -7,6 +7,8 @@ from tests.oracle.crate import build
 from tests.rabbitmq.broker import PYTHON
 from tests.vectors.scores import assert_scores, run
 
+pytestmark = pytest.mark.needs("codecs")
+
 
 def test_vectors(request: pytest.FixtureRequest, is_writing: bool) -> None:
     option = request.config.getoption

@@ -8,7 +8,6 @@ from tests.package import put_package
 
 
 def pytest_configure(config: pytest.Config) -> None:
-    config.addinivalue_line("markers", "whole: tried with --random only, as before a release")
     put_package(config)
 
 

@@ -10,7 +10,7 @@ from building import AARCH64, X86_64
 from crates import TOP, Crates
 from wheels import INCLUDE, PACKAGE, PROCESSORS, PYTHON, Words, make_wheel, put_library, ran, wrong_symbols
 
-from tests.left_out import without
+from tests.conftest import WITHOUT
 from tests.python.trying import python_in, pythons, try_packages, try_unpacked, try_wheel, try_wheel_of_aarch64
 from tests.rabbitmq.broker import DEBIAN_13, ROOTS
 
@@ -36,7 +36,7 @@ def test_wheel(request: pytest.FixtureRequest, tmp_path: Path, record_property: 
         said, wrong = try_wheel(wheel, python)
         assert not wrong, f"{python}: {wrong}"
         record_property(f"the wheel is installed for {python}", said)
-    if "broker" not in without():
+    if "broker" not in WITHOUT:
         said, wrong = try_unpacked(wheel, *python_in(ROOTS[DEBIAN_13]))
         assert not wrong and said.startswith("3.13."), f"{said} {wrong}"
         record_property("the wheel is tried by Debian 13's Python", said)

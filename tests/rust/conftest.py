@@ -1,4 +1,4 @@
-"""What the tests of the Rust side are given, and which of them are left out for want of something."""
+"""What the tests of the Rust side are given."""
 
 import shutil
 import time
@@ -7,17 +7,13 @@ from pathlib import Path
 import pytest
 from crates import TOP
 
-from tests.left_out import leave_out, needs_of
-from tests.notes import NOTES
 from tests.oracle.crate import named, packages_for
-from tests.rust.cargo import COPIES, CRATES, OF_DEBIAN, OLDEST, OUT, RUST, TRIPLE, Given
+from tests.rust.cargo import COPIES, CRATES, OUT, RUST, TRIPLE, Given
 from tests.rust.cargo import assert_well, copied, given, run
 
 # How long building what is proved may take: it is proved first, and may wait for another step that builds it.
 PROVING_SECONDS = 3_600
 ARCHIVE = "libamqp_values.a"
-# How WITHOUT names what is needed, if otherwise than the tests.
-NAMES = {"--crate": "crate", OLDEST: "rustc"}
 
 
 def pytest_addoption(parser: pytest.Parser) -> None:
@@ -29,27 +25,10 @@ def pytest_addoption(parser: pytest.Parser) -> None:
 
 def pytest_configure(config: pytest.Config) -> None:
     """What is random is another in each run. (pytest calls this before that of tests/conftest.py, which it has read earlier.)"""
-    config.addinivalue_line("markers", "needs(name, ..): options or programs that a test needs")
     if config.option.crate and not config.option.packages:
         config.option.packages = packages_for(config.option.crate)
     if config.option.seed is None:
         config.option.seed = int(time.time())
-
-
-def pytest_collection_modifyitems(config: pytest.Config, items: list[pytest.Item]) -> None:
-    """Leaves out the tests that lack what WITHOUT names."""
-    lacking = lambda test: [it for it in needs_of(test) if not is_there(config, it)]
-    NOTES.extend(leave_out(config, items, lacking, NAMES))
-
-
-def is_there(config: pytest.Config, need: str) -> bool:
-    """Whether a program is there, or what an option names."""
-    if need == "--library":
-        return bool(config.getoption(need) or config.getoption("--built") or installed())
-    if need == OLDEST:
-        compiler = OF_DEBIAN / "rustc"
-        return compiler.is_file() and f"{OLDEST}." in run([compiler, "--version"]).stdout
-    return bool(config.getoption(need)) if need.startswith("--") else shutil.which(need) is not None
 
 
 @pytest.fixture(scope="session")
@@ -75,7 +54,7 @@ def archive(request: pytest.FixtureRequest) -> Path:
         assert_well(run(["make", "-C", TOP, "all", "BUILT=--built"], seconds=PROVING_SECONDS))
         return TOP / "out/build" / ARCHIVE
     found = installed()
-    assert found
+    assert found, "it needs --library PATH, --built, or a library that is installed"
     return found.resolve()
 
 

@@ -19,7 +19,7 @@ from tests.transcripts import Case, cases
 # Of random inputs, one in so many is tried under valgrind, and under the address sanitizer.
 UNDER_VALGRIND, SANITIZED = 25, 5
 
-pytestmark = pytest.mark.needs("--library", "cargo")
+pytestmark = pytest.mark.needs("cargo")
 
 
 def test_archive(archive: Path) -> None:
@@ -31,10 +31,11 @@ def test_archive(archive: Path) -> None:
 
 
 @pytest.mark.parametrize(
-    "tools", (None, pytest.param(OF_DEBIAN, marks=pytest.mark.needs(OLDEST))), ids=("rustc", OLDEST)
+    "tools", (None, pytest.param(OF_DEBIAN, marks=pytest.mark.needs("rustc"))), ids=("rustc", OLDEST)
 )
 @pytest.mark.parametrize("name", CRATES)
 def test_own_tests(copies: Path, name: str, tools: Path | None) -> None:
+    assert not tools or f"{OLDEST}." in run([tools / "rustc", "--version"]).stdout
     done = cargo(copies / name, "test", tools=tools)
     assert_well(done)
     assert count_of_tests(done) >= sum(it.read_text().count("#[test]") for it in (copies / name).glob("**/*.rs"))

@@ -37,7 +37,7 @@ UNKNOWN = (
     ("src/lib.rs", "pub mod parsing;", "pub mod parsers;", ""),
 )
 
-pytestmark = pytest.mark.needs("--crate", "--packages", "--library", "cargo")
+pytestmark = pytest.mark.needs("--crate", "--packages", "cargo")
 
 
 @pytest.mark.parametrize(("name", "old", "new", "what"), UNKNOWN, ids=[it[2] for it in UNKNOWN])

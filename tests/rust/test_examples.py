@@ -17,7 +17,7 @@ from wheels import PYTHON, compile_package
 from tests.model.printed import captured, field, nested
 from tests.rust.cargo import TARGET, assert_well, cargo, package, run
 
-pytestmark = pytest.mark.needs("--library", "cargo")
+pytestmark = pytest.mark.needs("cargo")
 
 # What stands for no count.
 NONE = -1

@@ -13,7 +13,7 @@ from tests.model.tables import number
 from tests.rust.cargo import CRATES, TARGET, assert_well, cargo, package
 from tests.vectors.cases import CASES, Case, none_of
 
-pytestmark = [pytest.mark.needs("--library", "cargo"), pytest.mark.usefixtures("deep")]
+pytestmark = [pytest.mark.needs("cargo"), pytest.mark.usefixtures("deep")]
 # How the crate calls each error of the vectors.
 KINDS = {"unknown tag": "UnknownTag({})", "value cut": "Cut", "key cut": "KeyCut", "key not UTF-8": "KeyNotUtf8"}
 

@@ -1,3 +1,0 @@
-"""Lines that tests note, which are printed at the end."""
-
-NOTES: list[str] = []
