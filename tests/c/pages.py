@@ -69,6 +69,7 @@ PRINTED = """\
 63, then 0 bytes
 x-death: FieldArray
 key: Void
+42 bytes from 26
 {"key":null,"x-death":[{"count":3}]}
 """
 
