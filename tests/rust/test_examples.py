@@ -6,12 +6,14 @@ that nest as deep as the limits allow. An example is taken from its page as it i
 """
 
 import re
+import shutil
 from collections.abc import Callable
 from pathlib import Path
 from typing import NamedTuple
 
 import pytest
-from crates import TOP
+from building import SOURCES
+from crates import TOP, Crates
 from wheels import PYTHON, compile_package
 
 from tests.model.printed import captured, field, nested
@@ -96,10 +98,13 @@ fn main(rt: HostRuntime) -> anyhow::Result<()> {{
 
 
 def printed_by_rattle(code: str, made: Made) -> list[str]:
-    """As a program of another repository, to which packaging/vendor copies the crates; nothing is proved."""
-    assert_well(run([TOP / "packaging/vendor", made.folder, "amqp_in_place"]))
-    with open(made.folder / "crates.txt", "a") as lines:
-        lines.write("deaths: amq_protocol_types amqp_in_place anyhow\n")
+    """As a program of another repository, to which the crates are copied; nothing is proved."""
+    crates = Crates()
+    needed = crates.needed("amqp_in_place")
+    for it in (crates.folder(name) / part for name in needed for part in SOURCES):
+        shutil.copytree(it, made.folder / it.relative_to(TOP))
+    lines = [*map(crates.lines.__getitem__, needed), "deaths: amq_protocol_types amqp_in_place anyhow"]
+    (made.folder / "crates.txt").write_text("".join(f"{it}\n" for it in lines))
     source = made.folder / "crates/deaths/src/main.rt"
     source.parent.mkdir(parents=True)
     source.write_text(IN_RATTLE.format(code=code, given=", ".join(map(literal, GIVEN))))
