@@ -20,7 +20,6 @@ LEFT_OUT = ("test_",)
 LISTED = {
     # the value was read from bytes, so it has an encoding, and only memory for that or for the text can be short
     ("amqp_json/src/decode.rt", "Err(_) => Err(DecodeError::OutOfMemory),"),
-    ("amqp_json/src/decode.rt", "Err(_) => Err(AllocError),"),
     # a vector is too short for what is written only for want of memory
     ("amqp_json/src/decode.rt", "Err(_) => Err(EncodeError::OutOfMemory),"),
     # the bytes are the encoding of a value, so reading them fails only for want of memory
@@ -42,6 +41,7 @@ BY_NUMBER = {
     "self.resize(at + n, 0)?;": "the same",
     "let mut bytes = Vec::with_capacity(alloc, chunk.len())?;": "bytes that are there",
     "let mut out = Vec::with_capacity(alloc, text.len())?;": "a text that is there",
+    "let mut first = vec![in alloc; 0u8; len_inside(value).saturating_mul(4)]?;": "four bytes for each of a value that was read",
     "let mut text = vec![in alloc; 0u8; end.count]?;": "a text that was measured",
     "bytes.reserve(input.input_len())?;": "bytes that are there",
     "let mut bytes = vec![in alloc; 0; capacity]?;": "the bytes that a value was read from",

@@ -13,6 +13,8 @@ pub mod Bytes
 pub mod Printed
 pub mod PrintedContainers
 pub mod Rising
+pub mod Sorting
+pub mod PrintedEntries
 pub mod Ascents
 pub mod Again
 pub mod Decoded

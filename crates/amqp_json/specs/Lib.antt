@@ -9,3 +9,4 @@ pub mod Conversions
 pub mod Puts
 pub mod Printing
 pub mod Views
+pub mod Sorting

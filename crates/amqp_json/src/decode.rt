@@ -15,7 +15,7 @@ ghost use Rattle.amqp_json.specs.Views.{HasText, IsReadBack, IsViewOfRead, Write
 ghost use Rattle.amqp_json.specs.Written.{json_text, MeansIfShallow};
 
 use crate::error::{DecodeError, EncodeError, WriteError};
-use crate::printing::{Place, put_value};
+use crate::printing::{Place, put_any_value, put_value};
 use amq_protocol_types::generation::{GenError, WriteContext, gen_value};
 use amqp_in_place::{Limits, ValueRef, read_in_place, read_in_place_unlimited};
 use amqp_value_core::value::AMQPValue;
@@ -37,8 +37,8 @@ pub fn to_json(alloc: Global, value: &AMQPValue) -> Result<String, EncodeError>
 /// Converts the encoding at the start of the bytes to JSON text, and returns the remaining bytes
 /// too. The value is read as `read_in_place` does.
 ///
-/// It allocates the text. If the keys of a table don't ascend, it also allocates the value and its
-/// canonical encoding. It uses stack for at most `limits.depth` levels.
+/// It allocates the text. If the keys of a table don't ascend, it also allocates references to the pairs
+/// of each table while it sorts and writes them. It uses stack for at most `limits.depth` levels.
 #[tactic(auto, using(amq_protocol_types::proofs::ParsingLaws::found_all))]
 pub fn json_of_encoding<'a>(
     alloc: Global,
@@ -64,10 +64,7 @@ pub fn json_of_view(alloc: Global, value: ValueRef<'_>) -> Result<String, AllocE
     ensures json { IfOk result (λ text. (l : Limits) (s rest : List ℕ) → IsViewOfRead l s value.entry rest
         → IsJsonOf l s (string_bytes text) rest) }
 {
-    match text_of(alloc, value) {
-        Ok(text) => Ok(text),
-        Err(_) => Err(AllocError),
-    }
+    text_of(alloc, value)
 }
 
 /// Writes the JSON text of the encoding at the start of the bytes to the start of the buffer, and
@@ -114,15 +111,41 @@ pub fn write_json_of_view(value: ValueRef<'_>, buffer: &mut [u8]) -> Option<usiz
 }
 
 // The text of a value that was read.
-fn text_of(alloc: Global, value: ValueRef<'_>) -> Result<String, EncodeError>
+fn text_of(alloc: Global, value: ValueRef<'_>) -> Result<String, AllocError>
     requires json { HasText value }
     ensures text { IfOk result (λ s. (v : Tree) → Denotes value.entry v → string_bytes s ≡ json_text v) }
 {
-    if let Some(text) = ordered_text(alloc, value)? {
-        return Ok(text);
+    match ordered_text(alloc, value)? {
+        Some(text) => Ok(text),
+        None => sorted_text(alloc, value),
     }
-    let owned = value.to_owned(alloc)?;
-    to_json(alloc, &owned)
+}
+
+// The text of a value whose tables may have their keys in any order. Four bytes for each of the encoding are
+// mostly enough for it. A longer text is then written again, to a string of its length.
+fn sorted_text(alloc: Global, value: ValueRef<'_>) -> Result<String, AllocError>
+    requires json { HasText value }
+    ensures text { IfOk result (λ s. (v : Tree) → Denotes value.entry v → string_bytes s ≡ json_text v) }
+{
+    let mut first = vec![in alloc; 0u8; len_inside(value).saturating_mul(4)]?;
+    let room = first.as_mut_slice();
+    let end = put_any_value(alloc, room, Place::START, value)?;
+    if end.count <= room.len() {
+        let text = Vec::from_slice(alloc, &room[..end.count])?;
+        return Ok(unsafe { String::from_utf8_unchecked(text) });
+    }
+    let mut text = vec![in alloc; 0u8; end.count]?;
+    put_any_value(alloc, text.as_mut_slice(), Place::START, value)?;
+    Ok(unsafe { String::from_utf8_unchecked(text) })
+}
+
+// How many bytes are in a container. It only says how much memory is tried first, so no clause is about it.
+fn len_inside(value: ValueRef<'_>) -> usize {
+    match value {
+        ValueRef::FieldArray(array) => array.iter().as_bytes().len(),
+        ValueRef::FieldTable(table) => table.iter().as_bytes().len(),
+        _ => 0,
+    }
 }
 
 // The text of a value in whose tables the keys ascend. It is written to a small buffer first, which also
