@@ -279,17 +279,19 @@ static inline void amqpv_add_table(amqpv_writer *w, const char *key) {
 }
 
 static inline void amqpv_end(amqpv_writer *w) {
-    if ((w->result == AMQPV_OK || w->result == AMQPV_NO_ROOM) && w->level == 0) {
-        w->result = AMQPV_INVALID;
+    int is_right = w->result == AMQPV_OK || w->result == AMQPV_NO_ROOM;
+    if (w->level == 0) {
+        w->result = is_right ? AMQPV_INVALID : w->result;
+        return;
     }
-    if (w->result == AMQPV_OK) {
+    if (is_right) {
+        int is_large = w->needed - w->open[w->level].written.offset > UINT32_MAX;
         w->level--;
-        w->result = amqpv_close(w->buffer, w->capacity, &w->open[w->level], &w->open[w->level + 1]);
-    } else if (w->result == AMQPV_NO_ROOM) {
-        if (w->needed - w->open[w->level].written.offset > UINT32_MAX) {
+        if (w->result == AMQPV_OK) {
+            w->result = amqpv_close(w->buffer, w->capacity, &w->open[w->level], &w->open[w->level + 1]);
+        } else if (is_large) {
             w->result = AMQPV_TOO_LARGE;
         }
-        w->level--;
     }
 }
 #undef AMQPV_INTO_
