@@ -9,6 +9,8 @@ from crates import TOP
 
 HEADER, SPEED, INTEROP, CONTRIBUTING = "include/amqp_values.h", "docs/SPEED.md", "docs/INTEROP.md", "CONTRIBUTING.md"
 VERIFICATION, ANSWERS = "docs/VERIFICATION.md", "crates/test_calls/data/rust.calls"
+# The steps of the gate, which ask for a kit of one logic.
+STEPS = ".ci/steps.mk"
 # The page on what a new type touches.
 A_TYPE = "docs/ADDING-A-TYPE.md"
 # The page with the tables of bench/run that docs/SPEED.md doesn't have.
@@ -118,6 +120,15 @@ def versions_by_hand() -> Iterator[str]:
                 yield f"{place(name, it.start())}: no test runs RabbitMQ {by_hand}: name it in {INTEROP} only"
 
 
+def other_logics() -> Iterator[str]:
+    """Yields the pages that ask for a kit of another logic than the gate does."""
+    (wanted,) = re.findall(r"(?m)^LOGIC = (logic [0-9a-f]+)$", read(STEPS))
+    for name in ("README.md", CONTRIBUTING):
+        found = re.findall(r"logic [0-9a-f]{16}", read(name))
+        if {*found} != {wanted}:
+            yield f"{name}: it names {' and '.join(found) or 'no logic'}, and {STEPS} {wanted}: write that"
+
+
 def files_of_a_type() -> Iterator[str]:
     """Yields how many files docs/ADDING-A-TYPE.md names, if it states another number."""
     text = read(A_TYPE)
@@ -190,5 +201,6 @@ def other_lengths() -> Iterator[str]:
 
 def faults() -> Iterator[str]:
     """Yields what is repeated otherwise than it is made."""
-    for check in (other_defaults, other_ratios, tables_of_no_run, versions_by_hand, files_of_a_type, other_lengths):
+    checks = (other_defaults, other_ratios, other_logics, tables_of_no_run, versions_by_hand, files_of_a_type, other_lengths)
+    for check in checks:
         yield from check()
