@@ -29,7 +29,7 @@ pub fn to_json(bytes: &[u8], limits: Limits) -> Result<String, Error> {
 ///
 /// let text = r#"{"x-max-length": {"$LongInt": 10000}, "x-queue-type": "quorum"}"#;
 /// let arguments = table_from_json(text, Limits::DEFAULT)?;
-/// assert_eq!(arguments[..23], *b"\0\0\0\x2d\x0cx-max-lengthI\0\0\x27\x10\x0c");
+/// assert_eq!(arguments[..23], *b"\0\0\0\x2a\x0cx-max-lengthI\0\0\x27\x10\x0c");
 /// let json = table_to_json(&arguments, Limits::DEFAULT)?;
 /// assert_eq!(json, r#"{"x-max-length":{"$LongInt":10000},"x-queue-type":"quorum"}"#);
 /// # Ok::<(), amqp_values::Error>(())

@@ -69,7 +69,7 @@ fn of_equal_keys_the_last_counts_and_keys_ascend() {
     let bytes = b"F\0\0\0\x0e\x01bV\x01at\x01\x01bA\0\0\0\0";
     assert_eq!(to_json(bytes, LIMITS).as_deref(), Ok(r#"{"a":true,"b":[]}"#));
     let canonical = from_json(r#"{"b":null,"a":true,"b":[]}"#, LIMITS);
-    assert_eq!(canonical.as_deref(), Ok(&b"F\0\0\0\x0c\x01at\x01\x01bA\0\0\0\0"[..]));
+    assert_eq!(canonical.as_deref(), Ok(&b"F\0\0\0\x0b\x01at\x01\x01bA\0\0\0\0"[..]));
 }
 
 #[test]
