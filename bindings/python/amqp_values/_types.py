@@ -81,10 +81,10 @@ class _Integer(int):
             raise Error("out of range", 0, f"a number from {cls.least} to {cls.most}, not {_shown(number)}")
         return int.__new__(cls, number)
 
-    def __iadd__(self, other: Any) -> Any:
+    def __iadd__(self, other: Any) -> Any:  # type: ignore[misc]
         return self._of_type(int.__add__(self, other))
 
-    def __isub__(self, other: Any) -> Any:
+    def __isub__(self, other: Any) -> Any:  # type: ignore[misc]
         return self._of_type(int.__sub__(self, other))
 
     def _of_type(self, number: Any) -> Any:
