@@ -1,14 +1,11 @@
 -- What each call from C returns, and leaves in the buffer and at its pointers.
-use Rattle.std.specs.Prelude.{ℕ, ◌≡◌, ℤ, List, Option, Some, None, Result, Ok, Err, IfErr, MatchResult}
-use Rattle.amqp_in_place.specs.declared.problems.Rules.{Rules}
+use Rattle.std.specs.Prelude.{ℕ, ◌≡◌, ℤ, List, Result, Ok, Err, IfErr, MatchResult}
 use Rattle.amqp_c.specs.declared.fault.Fault.{Fault}
-use Rattle.amqp_c.specs.declared.fault.Fault.TheVariants.{Invalid, NoRoom}
-use Rattle.amqp_c.specs.declared.input.Input.{Input}
-use Rattle.amqp_c.specs.Inputs.{rules}
-use Rattle.amqp_c.specs.ReturnCodes.{return_code_of, code_of}
+use Rattle.amqp_c.specs.declared.fault.Fault.TheVariants.{NoRoom}
+use Rattle.amqp_c.specs.ReturnCodes.{return_code_of}
 use Rattle.amqp_c.specs.declared.container.Container.{Container}
 use Rattle.amqp_c.specs.CallResults.{ok_or_old}
-use Rattle.amqp_c.specs.Items.{Item, fixed_width, byte_string, encoded}
+use Rattle.amqp_c.specs.Items.{Item}
 use Rattle.amqp_c.specs.Faults.{IsPutFault, RefusesToOpen, RefusesToClose}
 use Rattle.amqp_c.specs.Growth.{IsEntryPut, IsOpened, IsClosed}
 
@@ -40,22 +37,6 @@ pub record PutsEntry (item : Item) (old : List ℕ) (into : Container) (k : List
   pub container : grown ≡ grown_or_needing into done
   pub put : MatchResult done (IsEntryPut item old into k new) (IsPutFault item old into k)
   pub stays : IfErr done (λ _. new ≡ old)
-
--- a value of fixed width is put, by its type tag, its bits and its scale
-abbrev pub PutsScalar : ℕ → ℕ → ℕ → List ℕ → Container → List ℕ → ℤ → List ℕ → Container → Type 0
-PutsScalar tag bits scale = PutsEntry (fixed_width tag bits scale)
-
--- a long string or a byte array is put
-abbrev pub PutsBytes : ℕ → List ℕ → List ℕ → Container → List ℕ → ℤ → List ℕ → Container → Type 0
-PutsBytes tag b = PutsEntry (byte_string tag b)
-
--- the value at the start of the input is put, unchanged, by the rules of its flags; if one is unknown, nothing changes
-abbrev pub PutsByRules : Option Rules → Input → List ℕ → Container → List ℕ → ℤ → List ℕ → Container → Type 0
-PutsByRules (Some rules) input old into k code new grown = PutsEntry (encoded rules input) old into k code new grown
-PutsByRules None input old into k code new grown = (code ≡ code_of Invalid) × (new ≡ old) × (grown ≡ into)
-
-abbrev pub PutsValue : Input → List ℕ → Container → List ℕ → ℤ → List ℕ → Container → Type 0
-PutsValue input = PutsByRules (rules input) input
 
 -- an entry is opened or rejected whose value is a container; after an error the buffer and the body
 -- are as they were, and so is the container, except for the capacity that is needed

@@ -14,11 +14,12 @@ ghost use Rattle.amqp_c.specs.declared.fault.Fault.TheVariants.{Invalid};
 ghost use Rattle.amqp_c.specs.Inputs.{rules, is_first_key, has_known_flags, encoding};
 ghost use Rattle.amqp_c.specs.ReadErrors.{read_error};
 ghost use Rattle.amqp_c.specs.ReturnCodes.{code_of};
-ghost use Rattle.amqp_c.specs.BuildCalls.{PutsScalar, PutsBytes, PutsValue, OpensContainer, ClosesContainer};
+ghost use Rattle.amqp_c.specs.BuildCalls.{PutsEntry, OpensContainer, ClosesContainer};
 ghost use Rattle.amqp_c.specs.CallResults.{HeaderFaults, Gives};
 ghost use Rattle.amqp_c.specs.Calls.{StepsToNext, FindsPath};
 ghost use Rattle.amqp_c.specs.Canonical.{TellsCanonical};
 ghost use Rattle.amqp_c.specs.Getters.{IsInteger, RefusesInt, RefusesUint};
+ghost use Rattle.amqp_c.specs.Items.{fixed_width, byte_string, encoded};
 ghost use Rattle.amqp_c.specs.JsonTexts.{WritesOrderedJson};
 ghost use Rattle.amqp_c.specs.Measures.{IsMeasured};
 ghost use Rattle.amqp_c.specs.Reads.{IsEntryOf, IsReadEntry, FailsByGrammar, HasProblemInside, ReadsAs};
@@ -187,7 +188,8 @@ pub extern "C" fn amqpv_put(
     bits: u64,
     scale: u8,
 ) -> i32
-    ensures { PutsScalar tag bits scale buffer.old into.old key.now result buffer.new into.new }
+    ensures { PutsEntry (fixed_width tag bits scale)
+        buffer.old into.old key.now result buffer.new into.new }
 {
     store_grown(put_scalar(buffer, *into, key, tag, bits, scale), into)
 }
@@ -201,7 +203,8 @@ pub extern "C" fn amqpv_put_bytes(
     tag: u8,
     bytes: &[u8],
 ) -> i32
-    ensures { PutsBytes tag bytes.now buffer.old into.old key.now result buffer.new into.new }
+    ensures { PutsEntry (byte_string tag bytes.now)
+        buffer.old into.old key.now result buffer.new into.new }
 {
     store_grown(put_bytes(buffer, *into, key, tag, bytes), into)
 }
@@ -215,7 +218,10 @@ pub extern "C" fn amqpv_put_value(
     key: &[u8],
     input: &Input<'_>,
 ) -> i32
-    ensures { PutsValue input.now buffer.old into.old key.now result buffer.new into.new }
+    ensures unknown_flag { rules input.now ≡ None → (result ≡ code_of Invalid)
+        × (buffer.new ≡ buffer.old) × (into.new ≡ into.old) }
+    ensures puts { (by : Rules) → rules input.now ≡ Some by → PutsEntry (encoded by input.now)
+        buffer.old into.old key.now result buffer.new into.new }
 {
     match input.rules() {
         Some(rules) => store_grown(put_value(buffer, *into, key, input, rules), into),
