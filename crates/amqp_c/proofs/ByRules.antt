@@ -1,5 +1,5 @@
 -- Bodies by rules: entries without a problem, and one more after them.
-use Rattle.std.proofs.Common.{◌≡◌, ◌<◌, ◌≤◌, ◌+◌, ◌-◌, ◌^◌, ℕ, zero, suc, Bool, true, false, Option, Some, None, List, [], ◌∷◌, ◌++◌, length, take, drop, refl, sym, ap, ◌∙◌, subst, arith, inl, inr, length-append, length-drop, if◌then◌else◌, ◌==◌}
+use Rattle.std.proofs.Common.{◌≡◌, ◌<◌, ◌≤◌, ◌-◌, ◌^◌, ℕ, zero, suc, Bool, true, false, Option, Some, None, List, [], ◌∷◌, ◌++◌, length, take, drop, refl, sym, ap, ◌∙◌, subst, arith, inl, inr, length-append, length-drop, if◌then◌else◌, ◌==◌}
 use Rattle.std.specs.Prelude.{option_map}
 use Rattle.std.specs.Int.{Width, w32, byte_len}
 use Rattle.std.proofs.lemmas.Bool.{cases_lt, lt-ltb, le-ltb}
@@ -14,7 +14,7 @@ use Rattle.amqp_value_core.specs.Grammar.{short_field, long_field}
 use Rattle.amq_protocol_types.specs.parsing.Headers.{extent, extent_at, extent_of, raw_extent}
 use Rattle.amqp_in_place.specs.declared.problems.Rules.{Rules}
 use Rattle.amqp_in_place.specs.declared.problems.Rules.TheVariants as by_rules
-use Rattle.amqp_in_place.specs.Problems.{Search, known, allow_key, here, further, in_entries, in_payload, in_value, in_pair, pair_len, inside, value_problem, pair_problem}
+use Rattle.amqp_in_place.specs.Problems.{Search, known, allow_key, further, in_entries, in_payload, in_value, in_pair, pair_len, inside, value_problem, pair_problem}
 use Rattle.amqp_in_place.proofs.AnyKeys.{no_further, neither, payload_there, payload_right, value_there, value_right, pair_there, pair_right}
 use Rattle.amqp_c.specs.ByRules.{IsEncodingBy, AreValuesBy, ArePairsBy, IsBodyBy}
 
