@@ -1,9 +1,13 @@
-"""What tests without pytest share: checks that are counted, what a file has, and programs with little of a resource."""
+"""What tests share that need no pytest: checks that are counted, what a file has, commands, and programs with little of a resource."""
 
 import resource
 import subprocess
-from collections.abc import Sequence
+from collections.abc import Mapping, Sequence
 from pathlib import Path
+from typing import Any
+
+Words = Sequence[str | Path]
+Done = subprocess.CompletedProcess[str]
 
 
 class Checks:
@@ -29,7 +33,29 @@ def content(path: Path) -> bytes:
     return path.read_bytes() if path.exists() else b""
 
 
-def within(kind: int, most: int, words: Sequence[str | Path], given: bytes) -> subprocess.CompletedProcess[bytes]:
+def run(
+    words: Words,
+    cwd: Path | None = None,
+    env: Mapping[str, str] | None = None,
+    text: bool = True,
+    timeout: int = 3600,
+    **others: Any,
+) -> Done:
+    """Runs a command, and fails if it takes longer."""
+    how: dict[str, Any] = {"text": True, "errors": "replace"} if text else {}
+    typed = [str(it) for it in words]
+    try:
+        return subprocess.run(typed, cwd=cwd, env=env, capture_output=True, timeout=timeout, **how, **others)
+    except FileNotFoundError:
+        return Done(typed, 127, "", f"{typed[0]} is missing (make setup installs it)")
+
+
+def assert_well(done: Done) -> None:
+    """A command ended well."""
+    assert done.returncode == 0, (done.stdout + done.stderr)[-1500:]
+
+
+def within(kind: int, most: int, words: Words, given: bytes) -> subprocess.CompletedProcess[bytes]:
     """Runs a program that may have at most n of a resource, such as resource.RLIMIT_STACK."""
     limit = lambda: resource.setrlimit(kind, (most, most))
     env: dict[str, str] = {}

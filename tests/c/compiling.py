@@ -1,13 +1,16 @@
 """How C is compiled over the libraries of the calls for C, and run."""
 
 import re
-import subprocess
-from collections.abc import Sequence
 from pathlib import Path
 from typing import Any
 
 from building import CALLS_FOR_C, MALLOC, archive
 from crates import TOP, Crates
+
+from tests.checks import Done as Done
+from tests.checks import Words as Words
+from tests.checks import assert_well as assert_well
+from tests.checks import run as run
 
 HERE = Path(__file__).resolve().parent
 HEADER, EXAMPLES = TOP / "include/amqp_values.h", TOP / "examples/c"
@@ -21,23 +24,6 @@ LINKED = (*LIBRARIES.values(), MALLOC)
 WRAPPED = [f"-Wl,--wrap={it}" for it in ("malloc", "realloc", "free")]
 # The processor by which what is compiled for aarch64 is run, which has what each has.
 OF_AARCH64 = ["qemu-aarch64", "-L", "/usr/aarch64-linux-gnu", "-cpu", "cortex-a53"]
-
-Words = Sequence[str | Path]
-Done = subprocess.CompletedProcess[str]
-
-
-def run(words: Words, text: bool = True, **others: Any) -> Done:
-    """Runs a command."""
-    texts = [str(it) for it in words]
-    try:
-        return subprocess.run(texts, capture_output=True, text=text, **others)
-    except FileNotFoundError:
-        return Done(texts, 127, "", f"{texts[0]} is missing (make setup installs it)")
-
-
-def assert_well(done: Done) -> None:
-    """A command ended well."""
-    assert done.returncode == 0, (done.stderr or done.stdout)[-1000:]
 
 
 def printed(words: Words, **others: Any) -> str:

@@ -4,12 +4,15 @@ import json
 import os
 import re
 import shutil
-import subprocess
-from collections.abc import Mapping, Sequence
+from collections.abc import Sequence
 from pathlib import Path
 from typing import NamedTuple
 
 from crates import TOP
+
+from tests.checks import Done
+from tests.checks import assert_well as assert_well
+from tests.checks import run as run
 
 HERE, OUT = TOP / "tests/rust", TOP / "out/rust"
 # What is ours: the crates over the calls for C, and what is added to the Rust crate.
@@ -26,21 +29,6 @@ PROFILES: dict[str, list[str]] = {"debug": [], "release": ["--release"]}
 PACKAGES = ('cookie-factory = "0.3"', 'nom = "8"', 'serde_json = "1"')
 # The oldest compiler that the crates over the calls for C are for, and where Debian has it.
 OLDEST, OF_DEBIAN = "rustc 1.63", Path("/usr/bin")
-
-Done = subprocess.CompletedProcess[str]
-
-
-def run(
-    words: Sequence[str | Path], cwd: Path | None = None, env: Mapping[str, str] | None = None, seconds: int = 600
-) -> Done:
-    """Runs a command, and fails if it takes longer."""
-    typed = [str(it) for it in words]
-    return subprocess.run(typed, cwd=cwd, env=env, capture_output=True, text=True, errors="replace", timeout=seconds)
-
-
-def assert_well(done: Done) -> None:
-    """A command ended well."""
-    assert done.returncode == 0, (done.stdout + done.stderr)[-1500:]
 
 
 def last_line(done: Done) -> str:
@@ -82,7 +70,7 @@ def cargo(folder: Path, *words: str, tools: Path | None = None, seconds: int = 6
     outside = {name: value for name, value in os.environ.items() if name != NAMED_BY}
     environment = {**outside, "CARGO_TARGET_DIR": str(target), "RUST_BACKTRACE": "0", **of_folder, **more}
     program = f"{tools}/cargo" if tools else "cargo"
-    return run([program, *words[:1], "--offline", *words[1:]], folder, environment, seconds)
+    return run([program, *words[:1], "--offline", *words[1:]], folder, environment, timeout=seconds)
 
 
 class Given(NamedTuple):

@@ -51,7 +51,7 @@ def archive(request: pytest.FixtureRequest) -> Path:
     if path:
         return Path(path).resolve()
     if request.config.getoption("--built"):
-        assert_well(run(["make", "-C", TOP, "all", "BUILT=--built"], seconds=PROVING_SECONDS))
+        assert_well(run(["make", "-C", TOP, "all", "BUILT=--built"], timeout=PROVING_SECONDS))
         return TOP / "out/build" / ARCHIVE
     found = installed()
     assert found, "it needs --library PATH, --built, or a library that is installed"
