@@ -81,13 +81,13 @@ class _Integer(int):
             raise Error("out of range", 0, f"a number from {cls.least} to {cls.most}, not {_shown(number)}")
         return int.__new__(cls, number)
 
-    def __iadd__(self, other: Any) -> Any:  # type: ignore[misc]
+    def __iadd__(self, other: int, /) -> int:
         return self._of_type(int.__add__(self, other))
 
-    def __isub__(self, other: Any) -> Any:  # type: ignore[misc]
+    def __isub__(self, other: int, /) -> int:
         return self._of_type(int.__sub__(self, other))
 
-    def _of_type(self, number: Any) -> Any:
+    def _of_type(self, number: int) -> int:
         # (NotImplemented stays, so that Python asks the other object)
         return int.__new__(type(self), number) if type(number) is int and self.least <= number <= self.most else number
 
