@@ -143,54 +143,61 @@ static inline amqpv_result amqpv_as_double(const amqpv_entry *entry, double *num
 
 /* ---- Writing ---- */
 
+/*
+ * (After an entry that has no room, its container is counted as empty, in a buffer of no bytes. So the next has no room either,
+ * and needs as much as it has.)
+ */
+static inline void amqpv_count_(amqpv_writer *w) {
+    amqpv_container *into = &w->open[w->level];
+    w->capacity = 0;
+    into->written.offset = 0;
+    into->written.length = 0;
+    into->inner = 0;
+}
+
 static inline void amqpv_begin(amqpv_writer *w, uint8_t *buffer, size_t capacity) {
     static const amqpv_container table = {{4, 0}, AMQPV_TABLE, 0, 0, 0};
     w->buffer = buffer;
     w->capacity = capacity;
     w->open[0] = table;
     w->level = 0;
-    w->result = capacity < 4 ? AMQPV_NO_ROOM : AMQPV_OK;
+    w->result = AMQPV_OK;
     w->needed = 4;
-}
-
-/*
- * (An entry is put into the innermost container, in the buffer. From the first on that has no room, each is put into an empty
- * container and no buffer instead: that has no room either, and needs as much as the entry has.)
- */
-static inline amqpv_container *amqpv_into_(amqpv_writer *w, amqpv_container *empty) {
-    if (w->result == AMQPV_OK) {
-        return &w->open[w->level];
+    if (capacity < 4) {
+        w->result = AMQPV_NO_ROOM;
+        amqpv_count_(w);
     }
-    *empty = w->open[w->level];
-    empty->written.offset = 0;
-    empty->written.length = 0;
-    empty->inner = 0;
-    return empty;
 }
 
 /* (whether an entry may be added) */
 static inline int amqpv_may_add_(amqpv_writer *w, const char *key) {
-    if ((w->result == AMQPV_OK || w->result == AMQPV_NO_ROOM) && key == NULL && w->open[w->level].tag == AMQPV_TABLE) {
-        w->result = AMQPV_BAD_KEY;
+    if (w->result != AMQPV_OK && w->result != AMQPV_NO_ROOM) {
+        return 0;
     }
-    return w->result == AMQPV_OK || w->result == AMQPV_NO_ROOM;
+    if (key == NULL && w->open[w->level].tag == AMQPV_TABLE) {
+        w->result = AMQPV_BAD_KEY;
+        return 0;
+    }
+    return 1;
 }
 
-/* (after an entry was put into a container that amqpv_into_() has returned) */
-static inline void amqpv_added_(amqpv_writer *w, amqpv_result result, const amqpv_container *into) {
+/* (what an entry that was put adds to the count, and its error) */
+static inline void amqpv_added_(amqpv_writer *w, amqpv_result result) {
+    if (result == AMQPV_OK) {
+        return;
+    }
     if (result == AMQPV_NO_ROOM) {
-        w->needed = w->result == AMQPV_OK ? into->needed : w->needed + into->needed;
+        w->needed = w->open[w->level].needed + (w->result == AMQPV_OK ? 0 : w->needed);
+        amqpv_count_(w);
     }
     w->result = result;
 }
 
-/* (what these functions pass on; without room a buffer of no bytes) */
-#define AMQPV_INTO_                                                                                     \
-    w->buffer, w->result == AMQPV_OK ? w->capacity : 0, into, key != NULL ? key : "", key != NULL ? strlen(key) : 0
+/* (what these functions pass on) */
+#define AMQPV_INTO_ w->buffer, w->capacity, &w->open[w->level], key != NULL ? key : "", key != NULL ? strlen(key) : 0
 static inline void amqpv_add_bits_(amqpv_writer *w, const char *key, uint8_t tag, uint64_t bits, uint8_t scale) {
     if (amqpv_may_add_(w, key)) {
-        amqpv_container empty, *into = amqpv_into_(w, &empty);
-        amqpv_added_(w, amqpv_put(AMQPV_INTO_, tag, bits, scale), into);
+        amqpv_added_(w, amqpv_put(AMQPV_INTO_, tag, bits, scale));
     }
 }
 
@@ -235,38 +242,34 @@ static inline void amqpv_add_double(amqpv_writer *w, const char *key, double num
 
 static inline void amqpv_add_string(amqpv_writer *w, const char *key, const char *text, size_t length) {
     if (amqpv_may_add_(w, key)) {
-        amqpv_container empty, *into = amqpv_into_(w, &empty);
-        amqpv_added_(w, amqpv_put_bytes(AMQPV_INTO_, AMQPV_LONG_STRING, text, length), into);
+        amqpv_added_(w, amqpv_put_bytes(AMQPV_INTO_, AMQPV_LONG_STRING, text, length));
     }
 }
 
 static inline void amqpv_add_bytes(amqpv_writer *w, const char *key, const void *bytes, size_t length) {
     if (amqpv_may_add_(w, key)) {
-        amqpv_container empty, *into = amqpv_into_(w, &empty);
-        amqpv_added_(w, amqpv_put_bytes(AMQPV_INTO_, AMQPV_BYTE_ARRAY, bytes, length), into);
+        amqpv_added_(w, amqpv_put_bytes(AMQPV_INTO_, AMQPV_BYTE_ARRAY, bytes, length));
     }
 }
 
 static inline void amqpv_add_value(amqpv_writer *w, const char *key, const amqpv_input *in) {
     if (amqpv_may_add_(w, key)) {
-        amqpv_container empty, *into = amqpv_into_(w, &empty);
-        amqpv_added_(w, amqpv_put_value(AMQPV_INTO_, in), into);
+        amqpv_added_(w, amqpv_put_value(AMQPV_INTO_, in));
     }
 }
 
 static inline void amqpv_add_container_(amqpv_writer *w, const char *key, uint8_t tag) {
-    if ((w->result == AMQPV_OK || w->result == AMQPV_NO_ROOM) && w->level + 1 == AMQPV_WRITER_LEVELS) {
+    if (w->level + 1 == AMQPV_WRITER_LEVELS && (w->result == AMQPV_OK || w->result == AMQPV_NO_ROOM)) {
         w->result = AMQPV_TOO_DEEP;
     }
     if (amqpv_may_add_(w, key)) {
-        amqpv_container empty, *into = amqpv_into_(w, &empty), *body = &w->open[w->level + 1];
-        amqpv_added_(w, amqpv_open(AMQPV_INTO_, tag, body), into);
-        if (w->result == AMQPV_NO_ROOM) {
-            *body = w->open[w->level];
-            body->tag = tag;
-            body->written.offset = w->needed;
+        amqpv_result result = amqpv_open(AMQPV_INTO_, tag, &w->open[w->level + 1]);
+        amqpv_added_(w, result);
+        if (result == AMQPV_NO_ROOM) {
+            w->open[w->level + 1] = w->open[w->level];
+            w->open[w->level + 1].tag = tag;
         }
-        w->level += w->result == AMQPV_OK || w->result == AMQPV_NO_ROOM;
+        w->level += result == AMQPV_OK || result == AMQPV_NO_ROOM ? 1U : 0U;
     }
 }
 
@@ -279,19 +282,17 @@ static inline void amqpv_add_table(amqpv_writer *w, const char *key) {
 }
 
 static inline void amqpv_end(amqpv_writer *w) {
-    int is_right = w->result == AMQPV_OK || w->result == AMQPV_NO_ROOM;
     if (w->level == 0) {
-        w->result = is_right ? AMQPV_INVALID : w->result;
-        return;
-    }
-    if (is_right) {
-        int is_large = w->needed - w->open[w->level].written.offset > UINT32_MAX;
-        w->level--;
-        if (w->result == AMQPV_OK) {
-            w->result = amqpv_close(w->buffer, w->capacity, &w->open[w->level], &w->open[w->level + 1]);
-        } else if (is_large) {
-            w->result = AMQPV_TOO_LARGE;
+        if (w->result == AMQPV_OK || w->result == AMQPV_NO_ROOM) {
+            w->result = AMQPV_INVALID;
         }
+    } else if (w->result == AMQPV_OK) {
+        w->level--;
+        w->result = amqpv_close(w->buffer, w->capacity, &w->open[w->level], &w->open[w->level + 1]);
+    } else if (w->result == AMQPV_NO_ROOM) {
+        /* (that it has less than 2^32 bytes follows from that of the table) */
+        w->level--;
+        amqpv_count_(w);
     }
 }
 #undef AMQPV_INTO_
@@ -299,13 +300,15 @@ static inline void amqpv_end(amqpv_writer *w) {
 static inline amqpv_result amqpv_finish(amqpv_writer *w, size_t *length) {
     uint8_t *buffer = w->buffer;
     size_t body = w->result == AMQPV_OK ? w->open[0].written.length : w->needed - 4;
-    if ((w->result == AMQPV_OK || w->result == AMQPV_NO_ROOM) && w->level != 0) {
-        w->result = AMQPV_INVALID;
+    *length = 0;
+    if (w->result != AMQPV_OK && w->result != AMQPV_NO_ROOM) {
+        return w->result;
     }
-    if ((w->result == AMQPV_OK || w->result == AMQPV_NO_ROOM) && body > UINT32_MAX) {
-        w->result = AMQPV_TOO_LARGE;
+    if (w->level != 0 || body > UINT32_MAX) {
+        w->result = w->level != 0 ? AMQPV_INVALID : AMQPV_TOO_LARGE;
+        return w->result;
     }
-    *length = w->result == AMQPV_OK || w->result == AMQPV_NO_ROOM ? 4 + body : 0;
+    *length = 4 + body;
     if (w->result == AMQPV_OK) {
         buffer[0] = AMQPV_CAST_(uint8_t, body >> 24 & 255);
         buffer[1] = AMQPV_CAST_(uint8_t, body >> 16 & 255);
