@@ -18,13 +18,9 @@ static void *counted(void *block, size_t instead) {
     return block;
 }
 
-void *malloc(size_t size) {
-    return counted(__libc_malloc(size), 0);
-}
+void *malloc(size_t size) { return counted(__libc_malloc(size), 0); }
 
-void *calloc(size_t count, size_t size) {
-    return counted(__libc_calloc(count, size), 0);
-}
+void *calloc(size_t count, size_t size) { return counted(__libc_calloc(count, size), 0); }
 
 void *realloc(void *block, size_t size) {
     size_t instead = malloc_usable_size(block);

@@ -71,7 +71,8 @@ int64_t rabbitmq_deaths(const uint8_t *bytes, size_t length, uint8_t *out, size_
     }
     if (amqp_decode_table(from, &pool, &headers, &offset) == AMQP_STATUS_OK) {
         const amqp_field_value_t *deaths = found(&headers, AMQPV_STR("x-death"), AMQP_FIELD_KIND_ARRAY);
-        const amqp_field_value_t *first = deaths && deaths->value.array.num_entries > 0 ? deaths->value.array.entries : NULL;
+        const amqp_field_value_t *first =
+            deaths && deaths->value.array.num_entries > 0 ? deaths->value.array.entries : NULL;
         if (first && first->kind == AMQP_FIELD_KIND_TABLE) {
             const amqp_field_value_t *count = found(&first->value.table, AMQPV_STR("count"), AMQP_FIELD_KIND_I64);
             number = count ? count->value.i64 : -1;

@@ -202,8 +202,8 @@ static inline void amqpv_add_bits_(amqpv_writer *w, const char *key, uint8_t tag
 }
 
 static inline void amqpv_add_int(amqpv_writer *w, const char *key, uint8_t tag, int64_t number) {
-    int is_int = tag == AMQPV_SHORT_SHORT_INT || tag == AMQPV_SHORT_INT || tag == AMQPV_LONG_INT
-                 || tag == AMQPV_LONG_LONG_INT;
+    int is_int =
+        tag == AMQPV_SHORT_SHORT_INT || tag == AMQPV_SHORT_INT || tag == AMQPV_LONG_INT || tag == AMQPV_LONG_LONG_INT;
     amqpv_add_bits_(w, key, is_int ? tag : 0, AMQPV_CAST_(uint64_t, number), 0);
 }
 
@@ -224,9 +224,7 @@ static inline void amqpv_add_decimal(amqpv_writer *w, const char *key, uint32_t 
     amqpv_add_bits_(w, key, AMQPV_DECIMAL, number, scale);
 }
 
-static inline void amqpv_add_void(amqpv_writer *w, const char *key) {
-    amqpv_add_bits_(w, key, AMQPV_VOID, 0, 0);
-}
+static inline void amqpv_add_void(amqpv_writer *w, const char *key) { amqpv_add_bits_(w, key, AMQPV_VOID, 0, 0); }
 
 static inline void amqpv_add_float(amqpv_writer *w, const char *key, float number) {
     uint32_t bits;
@@ -273,13 +271,9 @@ static inline void amqpv_add_container_(amqpv_writer *w, const char *key, uint8_
     }
 }
 
-static inline void amqpv_add_array(amqpv_writer *w, const char *key) {
-    amqpv_add_container_(w, key, AMQPV_ARRAY);
-}
+static inline void amqpv_add_array(amqpv_writer *w, const char *key) { amqpv_add_container_(w, key, AMQPV_ARRAY); }
 
-static inline void amqpv_add_table(amqpv_writer *w, const char *key) {
-    amqpv_add_container_(w, key, AMQPV_TABLE);
-}
+static inline void amqpv_add_table(amqpv_writer *w, const char *key) { amqpv_add_container_(w, key, AMQPV_TABLE); }
 
 static inline void amqpv_end(amqpv_writer *w) {
     if (w->level == 0) {

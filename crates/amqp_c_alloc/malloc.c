@@ -20,15 +20,11 @@ static tried tell(void *block) {
     return said;
 }
 
-tried rattle_alloc(size_t size, size_t align) {
-    return tell(malloc(size > 0 ? size : align));
-}
+tried rattle_alloc(size_t size, size_t align) { return tell(malloc(size > 0 ? size : align)); }
 
 tried rattle_realloc(void *block, size_t kept, size_t size, size_t align) {
     (void)kept;
     return tell(realloc(block, size > 0 ? size : align));
 }
 
-void rattle_dealloc(void *block) {
-    free(block);
-}
+void rattle_dealloc(void *block) { free(block); }

@@ -11,12 +11,12 @@
 #include <sys/mman.h>
 #include <unistd.h>
 
-#define CHECK(condition)                                                                      \
-    do {                                                                                      \
-        if (!(condition)) {                                                                   \
-            fprintf(stderr, "%s, line %d: not so: %s\n", __FILE__, __LINE__, #condition);     \
-            abort();                                                                          \
-        }                                                                                     \
+#define CHECK(condition) \
+    do { \
+        if (!(condition)) { \
+            fprintf(stderr, "%s, line %d: not so: %s\n", __FILE__, __LINE__, #condition); \
+            abort(); \
+        } \
     } while (0)
 
 /* n bytes that end where a page begins that can't be accessed, and begin after such a page or in the middle of one. */

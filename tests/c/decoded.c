@@ -75,7 +75,8 @@ static void show_table(const amqp_table_t *table) {
 /* Decodes the table after the first two bytes, which are for the flags of properties. */
 static int decode(amqp_pool_t *pool, uint8_t *bytes, size_t length, amqp_table_t *table, size_t *count) {
 #ifdef BY_PLUGIN
-    void *library = dlopen(BY_PLUGIN, RTLD_NOW | RTLD_LOCAL), *found = dlsym(library, "amqp_decode_properties"), *decoded = NULL;
+    void *library = dlopen(BY_PLUGIN, RTLD_NOW | RTLD_LOCAL), *found = dlsym(library, "amqp_decode_properties"),
+         *decoded = NULL;
     of_properties *properties;
     memcpy(&properties, &found, sizeof properties);
     bytes[0] = AMQP_BASIC_HEADERS_FLAG >> 8, bytes[1] = AMQP_BASIC_HEADERS_FLAG & 255;

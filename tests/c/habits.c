@@ -7,9 +7,9 @@
 static unsigned calls;
 
 /* Makes a call, and checks its result. */
-#define TRY(wanted, call)          \
-    do {                           \
-        calls++;                   \
+#define TRY(wanted, call) \
+    do { \
+        calls++; \
         CHECK((call) == (wanted)); \
     } while (0)
 

@@ -4,7 +4,10 @@
  */
 #include "amqp_values.h"
 
-static const amqpv_step path[] = {AMQPV_KEY("x-death"), AMQPV_INDEX(0), AMQPV_KEY("a" "b"), AMQPV_KEY("")};
+static const amqpv_step path[] = {AMQPV_KEY("x-death"), AMQPV_INDEX(0),
+                                  AMQPV_KEY("a"
+                                            "b"),
+                                  AMQPV_KEY("")};
 
 static amqpv_result look_up(const amqpv_input *in, size_t index, amqpv_entry *entry) {
     const amqpv_step last = AMQPV_INDEX(index);
@@ -66,5 +69,7 @@ const char *use(const char *given, size_t length, uint8_t *buffer, amqpv_entry *
     if (result != AMQPV_OK || look_up(&other, length, entry) != AMQPV_OK) {
         return amqpv_strerror(result);
     }
-    return convert(&in, entry, number) ? amqpv_tag_name(entry->tag) : amqpv_key(&in, entry) != NULL ? amqpv_text(&in, entry) : "";
+    return convert(&in, entry, number)     ? amqpv_tag_name(entry->tag)
+           : amqpv_key(&in, entry) != NULL ? amqpv_text(&in, entry)
+                                           : "";
 }

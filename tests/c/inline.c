@@ -15,9 +15,7 @@ static char *word(void) {
     return found != NULL ? found : (char *)"-";
 }
 
-static uint64_t number(void) {
-    return strtoull(word(), NULL, 0);
-}
+static uint64_t number(void) { return strtoull(word(), NULL, 0); }
 
 /* The bytes of the next word, with a NUL after them if they are a key; NULL for `-`. */
 static uint8_t *bytes(size_t *length, size_t after) {
@@ -106,8 +104,8 @@ static void convert(void) {
     amqpv_result results[] = {amqpv_as_bool(&entry, &truth), amqpv_as_timestamp(&entry, &seconds),
                               amqpv_as_decimal(&entry, &digits, &scale), amqpv_as_double(&entry, &real)};
     memcpy(&bits, &real, sizeof bits);
-    printf("%d %d %d %" PRIu64 " %d %" PRIu32 " %d %d %" PRIu64 "\n", results[0], truth, results[1], seconds, results[2],
-           digits, scale, results[3], bits);
+    printf("%d %d %d %" PRIu64 " %d %" PRIu32 " %d %d %" PRIu64 "\n", results[0], truth, results[1], seconds,
+           results[2], digits, scale, results[3], bits);
 }
 
 /* The places of an entry's key, content and value, of which any numbers are given, in so many bytes. */
@@ -120,7 +118,8 @@ static void place(void) {
     entry.key.length = entry.content.offset = number();
     entry.tag = (uint8_t)number();
     entry.value = entry.content;
-    const char *key = amqpv_key(&in, &entry), *text = amqpv_text(&in, &entry), *start = (const char *)in.bytes, *found = start;
+    const char *key = amqpv_key(&in, &entry), *text = amqpv_text(&in, &entry), *start = (const char *)in.bytes,
+               *found = start;
     amqpv_result result = amqpv_as_string(&in, &entry, &found, &length);
     in.flags = (uint32_t)number();
     amqpv_input value = amqpv_of(&in, &entry);

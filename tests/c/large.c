@@ -95,13 +95,15 @@ static void try_levels(void) {
 /* Strings of 2^32 bytes and of one less, and a body of 2^32 bytes. The pages of zeros take no memory until they are written. */
 static void try_two_to_32(void) {
     const size_t large = ((size_t)1 << 32) + 4096;
-    uint8_t *bytes = (uint8_t *)mmap(NULL, large, PROT_READ | PROT_WRITE, MAP_PRIVATE | MAP_ANONYMOUS | MAP_NORESERVE, -1, 0);
+    uint8_t *bytes =
+        (uint8_t *)mmap(NULL, large, PROT_READ | PROT_WRITE, MAP_PRIVATE | MAP_ANONYMOUS | MAP_NORESERVE, -1, 0);
     CHECK(bytes != MAP_FAILED);
     for (size_t less = 0; less < 2; less++) {
         const size_t length = ((size_t)1 << 32) - less;
         uint8_t small[16];
         amqpv_container top = {{0, 0}, AMQPV_ARRAY, 0, 0, 77}, body;
-        CHECK(amqpv_put_bytes(small, sizeof small, &top, "", 0, AMQPV_LONG_STRING, bytes, length) == (less ? AMQPV_NO_ROOM : AMQPV_TOO_LARGE));
+        CHECK(amqpv_put_bytes(small, sizeof small, &top, "", 0, AMQPV_LONG_STRING, bytes, length)
+              == (less ? AMQPV_NO_ROOM : AMQPV_TOO_LARGE));
         CHECK(top.needed == (less ? length + 5 : 77) && top.written.length == 0);
         CHECK(amqpv_open(bytes, large, &top, "", 0, AMQPV_ARRAY, &body) == AMQPV_OK);
         body.written.length = length;

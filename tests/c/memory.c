@@ -47,14 +47,10 @@ static size_t of_digits(const char *digits, uint8_t *bytes) {
     return n;
 }
 
-static int is_call(const char *name) {
-    return strcmp(call, name) == 0;
-}
+static int is_call(const char *name) { return strcmp(call, name) == 0; }
 
 /* How many bytes more than the output a buffer needs: JSON ends with a NUL. */
-static size_t after(void) {
-    return is_call("to_json") || is_call("write_json");
-}
+static size_t after(void) { return is_call("to_json") || is_call("write_json"); }
 
 /* Makes the call with a buffer of n bytes; nothing after or before what it writes may change, and no block may be left. */
 static amqpv_result make_call(size_t n, size_t *length) {
@@ -99,7 +95,8 @@ int main(void) {
     while (fgets(line, sizeof line, stdin) != NULL) {
         size_t length;
         unsigned of_line;
-        CHECK(sscanf(line, "%31s %u .%s .%s", call, &of_line, given, out) >= 3 || sscanf(line, "%31s %u . .%s", call, &of_line, out) == 3);
+        CHECK(sscanf(line, "%31s %u .%s .%s", call, &of_line, given, out) >= 3
+              || sscanf(line, "%31s %u . .%s", call, &of_line, out) == 3);
         flags = of_line;
         given_length = of_digits(given, bytes);
         memcpy(given_end - given_length, bytes, given_length);
@@ -110,7 +107,8 @@ int main(void) {
         CHECK(result == without && length == wanted_length && (requests == before || !is_call("write_json")));
         int is_small = wanted_length < 300;
         for (size_t n = is_small || wanted_length == 0 ? 0 : wanted_length - 3; n <= needed + 1; n++) {
-            CHECK(make_call(n, &length) == (n < needed ? AMQPV_NO_ROOM : without) && length == (n < needed ? needed : wanted_length));
+            CHECK(make_call(n, &length) == (n < needed ? AMQPV_NO_ROOM : without)
+                  && length == (n < needed ? needed : wanted_length));
         }
         for (uint64_t nth = 1;; nth += is_small ? 1 : 17) {
             before = requests;

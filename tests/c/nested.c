@@ -13,9 +13,7 @@ static const char *name;
 static amqpv_input in;
 static amqpv_result result = AMQPV_INVALID;
 
-static int is_call(const char *other) {
-    return strcmp(name, other) == 0;
-}
+static int is_call(const char *other) { return strcmp(name, other) == 0; }
 
 static void *make_call(void *unused) {
     amqpv_container top = {{0, 0}, AMQPV_ARRAY, 0, 0, 0};
@@ -39,7 +37,8 @@ static void *make_call(void *unused) {
     } else if (is_call("amqpv_write_json")) {
         result = amqpv_write_json(&in, (char *)buffer, sizeof buffer, &length);
     } else if (is_call("amqpv_from_json")) {
-        result = amqpv_from_json((const char *)given, in.length, in.max_depth, buffer, sizeof buffer, &length, &problem);
+        result =
+            amqpv_from_json((const char *)given, in.length, in.max_depth, buffer, sizeof buffer, &length, &problem);
     } else if (is_call("amqpv_warn")) {
         result = amqpv_warn(&in, 0, UINT32_MAX, &warnings);
         result = result == AMQPV_OK && warnings.too_deep < in.length ? AMQPV_TOO_DEEP : result;

@@ -22,27 +22,28 @@ typedef struct left {
 
 /* The table of the empty key with Void. */
 static const uint8_t table[] = {'F', 0, 0, 0, 2, 0, 'V'};
-static const amqpv_entry of_table = {{0, 0}, {0, 7}, {5, 2}, 0, AMQPV_TABLE, 0}, empty = {{0, 0}, {0, 0}, {0, 0}, 0, AMQPV_TABLE, 0};
+static const amqpv_entry of_table = {{0, 0}, {0, 7}, {5, 2}, 0, AMQPV_TABLE, 0},
+                         empty = {{0, 0}, {0, 0}, {0, 0}, 0, AMQPV_TABLE, 0};
 
 /* Makes a call twice, `at` being NULL and a pointer to no bytes, and compares what is returned and left. */
-#define TRY(wanted, call)                                                                   \
-    do {                                                                                    \
-        static uint8_t none[1];                                                             \
-        left both[2];                                                                       \
-        memset(both, 0x5a, sizeof both);                                                    \
-        for (int is_null = 0; is_null < 2; is_null++) {                                     \
-            left *all = &both[is_null];                                                     \
-            uint8_t *at = is_null ? NULL : none + 1;                                        \
-            const char *text = (const char *)at;                                            \
+#define TRY(wanted, call) \
+    do { \
+        static uint8_t none[1]; \
+        left both[2]; \
+        memset(both, 0x5a, sizeof both); \
+        for (int is_null = 0; is_null < 2; is_null++) { \
+            left *all = &both[is_null]; \
+            uint8_t *at = is_null ? NULL : none + 1; \
+            const char *text = (const char *)at; \
             amqpv_input in = amqpv_value(at, 0), tables = amqpv_table(at, 0), full = amqpv_value(table, 7); \
-            amqpv_step step = {text, 0, 0, AMQPV_TABLE};                                    \
-            all->into.written.offset = all->into.written.length = 0;                        \
-            all->into.tag = AMQPV_TABLE, all->into.inner = 0;                               \
-            all->cursor.left = all->into.written, all->cursor.tag = AMQPV_TABLE;            \
-            (void)text, (void)in, (void)tables, (void)full, (void)step;                     \
-            all->result = call;                                                             \
-            calls++;                                                                        \
-        }                                                                                   \
+            amqpv_step step = {text, 0, 0, AMQPV_TABLE}; \
+            all->into.written.offset = all->into.written.length = 0; \
+            all->into.tag = AMQPV_TABLE, all->into.inner = 0; \
+            all->cursor.left = all->into.written, all->cursor.tag = AMQPV_TABLE; \
+            (void)text, (void)in, (void)tables, (void)full, (void)step; \
+            all->result = call; \
+            calls++; \
+        } \
         CHECK(both[0].result == (wanted) && memcmp(&both[0], &both[1], sizeof both[0]) == 0); \
     } while (0)
 

@@ -60,7 +60,8 @@ static void make_calls(made *all) {
     CHECK(amqpv_finish(&w, &all->lengths[0]) == AMQPV_OK && memcmp(all->copy, shared, in.length) == 0);
     CHECK(amqpv_canonical(&in, all->canonical, CAPACITY, &all->lengths[1]) == AMQPV_OK);
     CHECK(amqpv_to_json(&in, (char *)all->json, sizeof all->json, &all->lengths[2]) == AMQPV_OK);
-    CHECK(amqpv_from_json((const char *)all->json, all->lengths[2], 16, all->back, CAPACITY, &all->lengths[3], &problem) == AMQPV_OK);
+    CHECK(amqpv_from_json((const char *)all->json, all->lengths[2], 16, all->back, CAPACITY, &all->lengths[3], &problem)
+          == AMQPV_OK);
     CHECK(all->lengths[3] == all->lengths[1] + 1 && memcmp(all->back + 1, all->canonical, all->lengths[1]) == 0);
     CHECK(amqpv_warn(&in, 0, 1, &all->warnings) == AMQPV_OK);
     all->calls += CALLS + 2 * all->count;
@@ -80,7 +81,8 @@ int main(void) {
     size_t calls = 0;
     build();
     make_calls(&alone);
-    CHECK(alone.found.bits == 7 && alone.count == KEYS + 1 && alone.size.levels == 3 && alone.warnings.too_deep < SIZE_MAX);
+    CHECK(alone.found.bits == 7 && alone.count == KEYS + 1 && alone.size.levels == 3
+          && alone.warnings.too_deep < SIZE_MAX);
     for (int i = 0; i < THREADS; i++) {
         CHECK(pthread_create(&threads[i], NULL, run_thread, &by_thread[i]) == 0);
     }

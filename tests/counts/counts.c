@@ -29,9 +29,7 @@ void *__real_memset(void *to, int byte, size_t size);
 /* Before each block is its size. */
 enum { BEFORE = 16 };
 
-static size_t size_of(const void *block) {
-    return block == NULL ? 0 : *(const size_t *)((const char *)block - BEFORE);
-}
+static size_t size_of(const void *block) { return block == NULL ? 0 : *(const size_t *)((const char *)block - BEFORE); }
 
 /* While realloc moves a block it has the old one and the new one. */
 void *__wrap_realloc(void *block, size_t size) {
@@ -91,7 +89,9 @@ static amqpv_result canonical_table(void) { return amqpv_canonical(&untagged, bu
 static amqpv_result to_json(void) { return amqpv_to_json(&encoding, json, MOST, &count); }
 static amqpv_result to_json_of_table(void) { return amqpv_to_json(&untagged, json, MOST, &count); }
 static amqpv_result write_json(void) { return amqpv_write_json(&encoding, json, MOST, &count); }
-static amqpv_result from_json(void) { return amqpv_from_json(text, text_length, AMQPV_JSON_NESTING, buffer, MOST, &count, &problem); }
+static amqpv_result from_json(void) {
+    return amqpv_from_json(text, text_length, AMQPV_JSON_NESTING, buffer, MOST, &count, &problem);
+}
 static amqpv_result find_key(void) { return amqpv_find(&encoding, &value, path, 1, &entry); }
 static amqpv_result find_index(void) { return amqpv_find(&encoding, &value, path, 2, &entry); }
 static amqpv_result find_no_key(void) { return amqpv_get(&encoding, &value, AMQPV_STR("no such key"), &entry); }
@@ -128,8 +128,10 @@ static amqpv_result put(amqpv_container *into, const amqpv_entry *it) {
     amqpv_input of_value = amqpv_value(bytes + it->value.offset, it->value.length);
     of_value.max_bytes = FRAME, of_value.max_depth = DEPTH;
     switch (it->tag) {
-    case 'S': case 'x': return amqpv_put_bytes(INTO, it->tag, bytes + it->content.offset, it->content.length);
-    case 'A': case 'F': return amqpv_put_value(INTO, &of_value);
+    case 'S':
+    case 'x': return amqpv_put_bytes(INTO, it->tag, bytes + it->content.offset, it->content.length);
+    case 'A':
+    case 'F': return amqpv_put_value(INTO, &of_value);
     default: return amqpv_put(INTO, it->tag, it->bits, it->scale);
     }
 }

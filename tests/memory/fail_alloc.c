@@ -72,9 +72,18 @@ static int io_fails(int is_the_one) {
     if (!real) real = (__typeof__(name) *)dlsym(RTLD_NEXT, #name); \
     return real(__VA_ARGS__)
 
-void *malloc(size_t n) { if (alloc_fails(n)) return NULL; REAL(malloc, n); }
-void *realloc(void *p, size_t n) { if (alloc_fails(n)) return NULL; REAL(realloc, p, n); }
-void *aligned_alloc(size_t a, size_t n) { if (alloc_fails(n)) return NULL; REAL(aligned_alloc, a, n); }
+void *malloc(size_t n) {
+    if (alloc_fails(n)) return NULL;
+    REAL(malloc, n);
+}
+void *realloc(void *p, size_t n) {
+    if (alloc_fails(n)) return NULL;
+    REAL(realloc, p, n);
+}
+void *aligned_alloc(size_t a, size_t n) {
+    if (alloc_fails(n)) return NULL;
+    REAL(aligned_alloc, a, n);
+}
 
 ssize_t write(int fd, const void *bytes, size_t n) {
     if (fd == 2 && n == 6 && !memcmp(bytes, "begin\n", n)) inside = 1;

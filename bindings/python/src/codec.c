@@ -164,12 +164,11 @@ PyObject *codec_type(PyObject *module) {
          "read($self, data, offset, /)\n--\n\nThe table without its type tag at an offset, and the offset of its end."},
         {"write", write_table, METH_O, "write($self, table, /)\n--\n\nThe bytes of a table without its type tag."},
         {NULL, NULL, 0, NULL}};
-    static PyType_Slot slots[] = {{Py_tp_new, (void *)(uintptr_t)new_codec},
-                                  {Py_tp_methods, methods},
-                                  {Py_tp_traverse, (void *)(uintptr_t)visit_codec},
-                                  {Py_tp_clear, (void *)(uintptr_t)clear_codec},
-                                  {Py_tp_dealloc, (void *)(uintptr_t)free_codec},
-                                  {0, NULL}};
-    static PyType_Spec spec = {"amqp_values._native.Codec", sizeof(Codec), 0, Py_TPFLAGS_DEFAULT | Py_TPFLAGS_HAVE_GC, slots};
+    static PyType_Slot slots[] = {
+        {Py_tp_new, (void *)(uintptr_t)new_codec},        {Py_tp_methods, methods},
+        {Py_tp_traverse, (void *)(uintptr_t)visit_codec}, {Py_tp_clear, (void *)(uintptr_t)clear_codec},
+        {Py_tp_dealloc, (void *)(uintptr_t)free_codec},   {0, NULL}};
+    static PyType_Spec spec = {"amqp_values._native.Codec", sizeof(Codec), 0, Py_TPFLAGS_DEFAULT | Py_TPFLAGS_HAVE_GC,
+                               slots};
     return PyType_FromModuleAndSpec(module, &spec, NULL);
 }

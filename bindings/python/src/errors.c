@@ -60,7 +60,9 @@ void add_step(const State *state, PyObject *step) {
     PyErr_Fetch(&type, &error, &trace);
     PyErr_NormalizeException(&type, &error, &trace);
     /* (plain, since a subclass of str may have methods of its own) */
-    PyObject *plain = PyUnicode_Check(step) ? PyUnicode_FromObject(step) : PyBytes_Check(step) ? PyBytes_FromObject(step) : NULL;
+    PyObject *plain = PyUnicode_Check(step) ? PyUnicode_FromObject(step)
+                      : PyBytes_Check(step) ? PyBytes_FromObject(step)
+                                            : NULL;
     if (plain == NULL && !PyUnicode_Check(step) && !PyBytes_Check(step)) {
         Py_INCREF(step);
         plain = step;
@@ -89,15 +91,17 @@ void raise_type(const State *state, const char *what, PyObject *object) {
     Py_XDECREF(name);
 }
 
-void raise_problem(const State *state, const amqpv_input *in, size_t base, amqpv_result result, const amqpv_problem *problem,
-                   const char *without_tag) {
+void raise_problem(const State *state, const amqpv_input *in, size_t base, amqpv_result result,
+                   const amqpv_problem *problem, const char *without_tag) {
     size_t offset = base + problem->offset, missing = problem->missing;
     int is_length = problem->tag == 0 && problem->offset == 0;
     switch (result) {
-    case AMQPV_MORE: raise_error(state, "cut", offset, missing, "%zu more byte%s", missing, missing == 1 ? "" : "s"); break;
+    case AMQPV_MORE:
+        raise_error(state, "cut", offset, missing, "%zu more byte%s", missing, missing == 1 ? "" : "s");
+        break;
     case AMQPV_UNKNOWN_TAG:
-        raise_error(state, "unknown tag", offset, 0, "one of the type tags tbBsUuIilLfdDSxAFTV, not byte %d%s%s", problem->tag,
-                    is_length ? ": a table without its type tag? " : "", is_length ? without_tag : "");
+        raise_error(state, "unknown tag", offset, 0, "one of the type tags tbBsUuIilLfdDSxAFTV, not byte %d%s%s",
+                    problem->tag, is_length ? ": a table without its type tag? " : "", is_length ? without_tag : "");
         break;
     case AMQPV_KEY_CUT: raise_error(state, "key cut", offset, 0, "a whole key inside its table"); break;
     case AMQPV_KEY_NOT_UTF8: raise_error(state, "key not UTF-8", offset, 0, "bytes in UTF-8"); break;

@@ -28,7 +28,8 @@ PyObject *json_of(const Reader *reader, const amqpv_entry *entry) {
         result = amqpv_to_json(&reader->in, buffer.bytes, buffer.capacity, &buffer.length);
     }
     /* (the value was read, so that only memory may be missing) */
-    PyObject *text = result == AMQPV_OK ? PyUnicode_DecodeUTF8(buffer.bytes, (Py_ssize_t)buffer.length, "strict") : PyErr_NoMemory();
+    PyObject *text =
+        result == AMQPV_OK ? PyUnicode_DecodeUTF8(buffer.bytes, (Py_ssize_t)buffer.length, "strict") : PyErr_NoMemory();
     PyMem_Free(buffer.bytes);
     return text;
 }
@@ -93,7 +94,8 @@ static void raise_wrong_text(const State *state, const Options *how, amqpv_resul
                     is_end ? "more text, since the JSON isn't complete" : "a character with which the JSON can go on");
         break;
     case AMQPV_NOT_A_VALUE:
-        raise_error(state, "not a value", offset, 0, "JSON of a value: known names after $, integers in range, keys of 255 bytes");
+        raise_error(state, "not a value", offset, 0,
+                    "JSON of a value: known names after $, integers in range, keys of 255 bytes");
         break;
     case AMQPV_NOT_UTF8: raise_error(state, "text not UTF-8", offset, 0, "bytes in UTF-8"); break;
     case AMQPV_TOO_DEEP:
@@ -136,7 +138,8 @@ PyObject *encoding_of_json(const State *state, const Options *how, PyObject *tex
     buffer.length = length + 64;
     amqpv_result result = AMQPV_NO_ROOM;
     for (int tries = 0; tries < 2 && result == AMQPV_NO_ROOM && grow(&buffer, buffer.length + 1); tries++) {
-        result = amqpv_from_json(bytes, length, how->depth, (uint8_t *)buffer.bytes, buffer.capacity, &buffer.length, &problem);
+        result = amqpv_from_json(bytes, length, how->depth, (uint8_t *)buffer.bytes, buffer.capacity, &buffer.length,
+                                 &problem);
     }
     if (result == AMQPV_OK) {
         for (; blank < length && (bytes[blank] == ' ' || (bytes[blank] >= '\t' && bytes[blank] <= '\r')); blank++) {

@@ -40,12 +40,11 @@ static const struct {
 /* The defaults of these. */
 enum { DEFAULT_DEPTH = AMQPV_MAX_DEPTH, DEFAULT_MAX_BYTES = AMQPV_MAX_BYTES };
 
-static State *state_of(PyObject *module) {
-    return PyModule_GetState(module);
-}
+static State *state_of(PyObject *module) { return PyModule_GetState(module); }
 
 /* An integer from 0 to another, whose option has a name. */
-static int limit_of(const State *state, const char *name, PyObject *value, unsigned long long most, unsigned long long *limit) {
+static int limit_of(const State *state, const char *name, PyObject *value, unsigned long long most,
+                    unsigned long long *limit) {
     int overflows;
     PyObject *number = PyNumber_Index(value);
     if (number == NULL) {
@@ -123,8 +122,8 @@ void take_defaults(Options *how) {
 }
 
 /* Takes the arguments of a function: how many there are, and its options. */
-static int take(const State *state, const char *name, Py_ssize_t most, int of, PyObject *const *arguments, Py_ssize_t count,
-                PyObject *names, Options *how) {
+static int take(const State *state, const char *name, Py_ssize_t most, int of, PyObject *const *arguments,
+                Py_ssize_t count, PyObject *names, Options *how) {
     Py_ssize_t named = names != NULL ? PyTuple_Size(names) : 0;
     take_defaults(how);
     if (count < 1 || count > most) {
@@ -198,7 +197,8 @@ static int read_whole(const Reader *reader, amqpv_entry *entry) {
     return 1;
 }
 
-static PyObject *loads_by(PyObject *module, PyObject *const *arguments, Py_ssize_t count, PyObject *names, int is_table) {
+static PyObject *loads_by(PyObject *module, PyObject *const *arguments, Py_ssize_t count, PyObject *names,
+                          int is_table) {
     const State *state = state_of(module);
     Options how = {.is_table = (uint32_t)is_table};
     Reader reader;
@@ -305,7 +305,8 @@ static PyObject *find(PyObject *module, PyObject *const *arguments, Py_ssize_t c
     return documented(state, made);
 }
 
-static PyObject *dumps_by(PyObject *module, PyObject *const *arguments, Py_ssize_t count, PyObject *names, int is_table) {
+static PyObject *dumps_by(PyObject *module, PyObject *const *arguments, Py_ssize_t count, PyObject *names,
+                          int is_table) {
     const State *state = state_of(module);
     Options how = {.is_table = (uint32_t)is_table};
     PyObject *made = NULL;
@@ -349,91 +350,95 @@ static PyObject *from_json(PyObject *module, PyObject *const *arguments, Py_ssiz
     return documented(state, made);
 }
 
-#define READ_OPTIONS "keys='strict', text='strict', plain=False, equal_keys='last', " OPTIONS_OF_BOTH ", max_bytes=1048576"
+#define READ_OPTIONS \
+    "keys='strict', text='strict', plain=False, equal_keys='last', " OPTIONS_OF_BOTH ", max_bytes=1048576"
 #define WRITE_OPTIONS "keys='strict', text='strict', naive_datetimes=False, " OPTIONS_OF_BOTH
 #define OPTIONS_OF_BOTH "signed_decimals=False, finite=False, depth=64"
 #define JSON_OPTIONS "table=False, depth=64, max_bytes=1048576"
-#define CALL(name, how, doc)                                                                                                     \
+#define CALL(name, how, doc) \
     { #name, (PyCFunction)(void (*)(void))name, METH_FASTCALL | METH_KEYWORDS, #name how "\n--\n\n" doc }
 
 /* What help() says of the options, each with its default. */
-#define HELP_READING                                                                                                             \
-    "\nOptions, by name:\n\n"                                                                                                    \
-    "    keys='strict'          a key that isn't UTF-8 raises an Error; 'bytes' makes it bytes, 'surrogateescape' a str with\n"  \
-    "                           surrogates, as in the names of files\n"                                                          \
-    "    text='strict'          the same of a string, which 'bytes' makes a LongString\n"                                        \
-    "    plain=False            True for int, float, bytes, and a datetime in UTC for a Timestamp, in place of own classes\n"    \
-    "    equal_keys='last'      of equal keys in a table the last counts; 'first', or 'refuse', which raises an Error\n"         \
-    "    signed_decimals=False  True for decimals that pika or py-amqp wrote, of 32 bits with a sign\n"                          \
-    "    finite=False           True raises an Error for infinities and NaNs, for which RabbitMQ closes the connection\n"        \
-    "    depth=64               how deep containers nest at most, up to MOST_DEPTH\n"                                            \
+#define HELP_READING \
+    "\nOptions, by name:\n\n" \
+    "    keys='strict'          a key that isn't UTF-8 raises an Error; 'bytes' makes it bytes, 'surrogateescape' a str with\n" \
+    "                           surrogates, as in the names of files\n" \
+    "    text='strict'          the same of a string, which 'bytes' makes a LongString\n" \
+    "    plain=False            True for int, float, bytes, and a datetime in UTC for a Timestamp, in place of own classes\n" \
+    "    equal_keys='last'      of equal keys in a table the last counts; 'first', or 'refuse', which raises an Error\n" \
+    "    signed_decimals=False  True for decimals that pika or py-amqp wrote, of 32 bits with a sign\n" \
+    "    finite=False           True raises an Error for infinities and NaNs, for which RabbitMQ closes the connection\n" \
+    "    depth=64               how deep containers nest at most, up to MOST_DEPTH\n" \
     "    max_bytes=1048576      how many bytes the value has at most, the type tag of a table counted\n\n"
-#define HELP_WRITING                                                                                                             \
-    "\nOptions, by name:\n\n"                                                                                                    \
-    "    keys='strict'          'bytes' allows keys of any bytes, 'surrogateescape' str with such surrogates\n"                  \
-    "    text='strict'          'surrogateescape' allows str with such surrogates\n"                                             \
-    "    naive_datetimes=False  True writes a datetime without a time zone, as of UTC\n"                                         \
-    "    signed_decimals=False  True writes decimals of 32 bits with a sign, as pika and py-amqp do\n"                           \
-    "    finite=False           True raises an Error for infinities and NaNs\n"                                                  \
+#define HELP_WRITING \
+    "\nOptions, by name:\n\n" \
+    "    keys='strict'          'bytes' allows keys of any bytes, 'surrogateescape' str with such surrogates\n" \
+    "    text='strict'          'surrogateescape' allows str with such surrogates\n" \
+    "    naive_datetimes=False  True writes a datetime without a time zone, as of UTC\n" \
+    "    signed_decimals=False  True writes decimals of 32 bits with a sign, as pika and py-amqp do\n" \
+    "    finite=False           True raises an Error for infinities and NaNs\n" \
     "    depth=64               how deep containers nest at most, up to MOST_DEPTH\n\n"
-#define HELP_JSON                                                                                                                \
-    "\nOptions, by name:\n\n"                                                                                                    \
-    "    table=False            True for a table without its type tag\n"                                                         \
-    "    depth=64               how deep containers nest at most, up to MOST_DEPTH; in a text brackets count, up to 127\n"       \
-    "    max_bytes=1048576      how many bytes the value has at most, the type tag of a table counted; a text has at most 12\n"  \
+#define HELP_JSON \
+    "\nOptions, by name:\n\n" \
+    "    table=False            True for a table without its type tag\n" \
+    "    depth=64               how deep containers nest at most, up to MOST_DEPTH; in a text brackets count, up to 127\n" \
+    "    max_bytes=1048576      how many bytes the value has at most, the type tag of a table counted; a text has at most 12\n" \
     "                           times as many\n\n"
 
 static PyMethodDef FUNCTIONS[] = {
     CALL(loads, "($module, data, /, *, " READ_OPTIONS ")",
-         "The value that all of the bytes are, with its type tag.\n"
-         HELP_READING
+         "The value that all of the bytes are, with its type tag.\n" HELP_READING
          ">>> loads(b'A\\0\\0\\0\\x0cI\\0\\0\\0\\5t\\1S\\0\\0\\0\\0')\n"
          "[LongInt(5), True, '']\n"),
-    CALL(loads_table, "($module, data, /, *, " READ_OPTIONS ")",
-         "The table that all of the bytes are, without its type tag: its length, then its pairs. The options are those of loads.\n\n"
-         ">>> loads_table(b'\\0\\0\\0\\4\\1at\\1')\n"
-         "{'a': True}\n"
-         ">>> loads_table(b'\\0\\0\\0\\4\\1\\xfft\\1', keys='bytes')\n"
-         "{b'\\xff': True}\n"),
-    CALL(decode_table, "($module, data, /, offset=0, *, " READ_OPTIONS ")",
-         "The table without its type tag that begins at an offset, and the offset of its end. Offsets of an Error count\n"
-         "from the start of the data. The options are those of loads.\n\n"
-         ">>> decode_table(b'..\\0\\0\\0\\4\\1at\\1..', 2)\n"
-         "({'a': True}, 10)\n"),
-    CALL(find, "($module, data, /, *path, table=False, default=None, " READ_OPTIONS ")",
-         "The value at a path, keys into tables and indexes from 0 into arrays, or the default if there is none. Nothing\n"
-         "else is built, but all of the data is checked as loads, or with table=True loads_table, checks it; of equal keys\n"
-         "it takes the same as these.\n\n"
-         "Options, by name, besides those of loads:\n\n"
-         "    table=False            True for a table without its type tag, as headers and arguments are\n"
-         "    default=None           what is returned if the path leads nowhere\n\n"
-         ">>> data = dumps_table({'x-death': [{'queue': 'orders', 'count': 3}]})\n"
-         ">>> find(data, 'x-death', 0, 'queue', table=True)\n"
-         "'orders'\n"
-         ">>> find(data, 'x-death', 1, 'queue', table=True, default='nowhere')\n"
-         "'nowhere'\n"),
+    CALL(
+        loads_table, "($module, data, /, *, " READ_OPTIONS ")",
+        "The table that all of the bytes are, without its type tag: its length, then its pairs. The options are those of loads.\n\n"
+        ">>> loads_table(b'\\0\\0\\0\\4\\1at\\1')\n"
+        "{'a': True}\n"
+        ">>> loads_table(b'\\0\\0\\0\\4\\1\\xfft\\1', keys='bytes')\n"
+        "{b'\\xff': True}\n"),
+    CALL(
+        decode_table, "($module, data, /, offset=0, *, " READ_OPTIONS ")",
+        "The table without its type tag that begins at an offset, and the offset of its end. Offsets of an Error count\n"
+        "from the start of the data. The options are those of loads.\n\n"
+        ">>> decode_table(b'..\\0\\0\\0\\4\\1at\\1..', 2)\n"
+        "({'a': True}, 10)\n"),
+    CALL(
+        find, "($module, data, /, *path, table=False, default=None, " READ_OPTIONS ")",
+        "The value at a path, keys into tables and indexes from 0 into arrays, or the default if there is none. Nothing\n"
+        "else is built, but all of the data is checked as loads, or with table=True loads_table, checks it; of equal keys\n"
+        "it takes the same as these.\n\n"
+        "Options, by name, besides those of loads:\n\n"
+        "    table=False            True for a table without its type tag, as headers and arguments are\n"
+        "    default=None           what is returned if the path leads nowhere\n\n"
+        ">>> data = dumps_table({'x-death': [{'queue': 'orders', 'count': 3}]})\n"
+        ">>> find(data, 'x-death', 0, 'queue', table=True)\n"
+        "'orders'\n"
+        ">>> find(data, 'x-death', 1, 'queue', table=True, default='nowhere')\n"
+        "'nowhere'\n"),
     CALL(dumps, "($module, value, /, *, " WRITE_OPTIONS ")",
-         "The bytes of a value, with its type tag; the keys of tables are in their order.\n"
-         HELP_WRITING
+         "The bytes of a value, with its type tag; the keys of tables are in their order.\n" HELP_WRITING
          ">>> dumps([None, ShortInt(-2)])\n"
          "b'A\\x00\\x00\\x00\\x04Vs\\xff\\xfe'\n"),
-    CALL(dumps_table, "($module, mapping, /, *, " WRITE_OPTIONS ")",
-         "The bytes of a table without its type tag, as methods and content headers have it: its length, then its pairs. The\n"
-         "options are those of dumps.\n\n"
-         ">>> dumps_table({'a': True})\n"
-         "b'\\x00\\x00\\x00\\x04\\x01at\\x01'\n"),
-    CALL(to_json, "($module, data, /, *, " JSON_OPTIONS ")",
-         "The JSON of the value that all of the bytes are, or with table=True of the table without its type tag. A type that\n"
-         "plain JSON doesn't have is an object with one key; keys ascend, and of equal keys the last counts.\n"
-         HELP_JSON
-         ">>> to_json(dumps_table({'b': b'\\1', 'a': [ShortInt(5), 5]}), table=True)\n"
-         "'{\"a\":[{\"$ShortInt\":5},5],\"b\":{\"$ByteArray\":\"01\"}}'\n"),
-    CALL(from_json, "($module, text, /, *, " JSON_OPTIONS ")",
-         "The encoding of the value that a JSON text means, with its type tag, or with table=True of a table without it. It is\n"
-         "the canonical one, in which keys ascend. The bracket of a named value counts for the depth. The offset of an Error\n"
-         "counts the characters of a str. The options are those of to_json.\n\n"
-         ">>> loads_table(from_json('{\"a\": {\"$ShortInt\": 5}}', table=True))\n"
-         "{'a': ShortInt(5)}\n"),
+    CALL(
+        dumps_table, "($module, mapping, /, *, " WRITE_OPTIONS ")",
+        "The bytes of a table without its type tag, as methods and content headers have it: its length, then its pairs. The\n"
+        "options are those of dumps.\n\n"
+        ">>> dumps_table({'a': True})\n"
+        "b'\\x00\\x00\\x00\\x04\\x01at\\x01'\n"),
+    CALL(
+        to_json, "($module, data, /, *, " JSON_OPTIONS ")",
+        "The JSON of the value that all of the bytes are, or with table=True of the table without its type tag. A type that\n"
+        "plain JSON doesn't have is an object with one key; keys ascend, and of equal keys the last counts.\n" HELP_JSON
+        ">>> to_json(dumps_table({'b': b'\\1', 'a': [ShortInt(5), 5]}), table=True)\n"
+        "'{\"a\":[{\"$ShortInt\":5},5],\"b\":{\"$ByteArray\":\"01\"}}'\n"),
+    CALL(
+        from_json, "($module, text, /, *, " JSON_OPTIONS ")",
+        "The encoding of the value that a JSON text means, with its type tag, or with table=True of a table without it. It is\n"
+        "the canonical one, in which keys ascend. The bracket of a named value counts for the depth. The offset of an Error\n"
+        "counts the characters of a str. The options are those of to_json.\n\n"
+        ">>> loads_table(from_json('{\"a\": {\"$ShortInt\": 5}}', table=True))\n"
+        "{'a': ShortInt(5)}\n"),
     {NULL, NULL, 0, NULL}};
 
 /* Imports an attribute of a module, or one of that. */
@@ -455,13 +460,16 @@ static int begin(PyObject *module) {
         }
     }
     if ((state->error = imported(types, "Error")) == NULL || (state->integer = imported(types, "_Integer")) == NULL
-        || (state->of_float = imported(types, "Float")) == NULL || (state->long_string = imported(types, "LongString")) == NULL
-        || (state->encoded = imported(types, "Encoded")) == NULL || (state->decimal = imported("decimal", "Decimal")) == NULL
+        || (state->of_float = imported(types, "Float")) == NULL
+        || (state->long_string = imported(types, "LongString")) == NULL
+        || (state->encoded = imported(types, "Encoded")) == NULL
+        || (state->decimal = imported("decimal", "Decimal")) == NULL
         || (state->as_tuple = PyObject_GetAttrString(state->decimal, "as_tuple")) == NULL
         || (state->datetime = imported("datetime", "datetime")) == NULL
         || (state->utc_offset = PyObject_GetAttrString(state->datetime, "utcoffset")) == NULL
         || (state->timedelta = imported("datetime", "timedelta")) == NULL
-        || (state->of_empty_key = imported(types, "_OF_EMPTY_KEY")) == NULL || (state->codec = codec_type(module)) == NULL
+        || (state->of_empty_key = imported(types, "_OF_EMPTY_KEY")) == NULL
+        || (state->codec = codec_type(module)) == NULL
         || (state->mapping = imported("collections.abc", "Mapping")) == NULL
         || (state->sequence = imported("collections.abc", "Sequence")) == NULL
         || (state->items = PyUnicode_InternFromString("items")) == NULL
@@ -490,8 +498,8 @@ static int begin(PyObject *module) {
     state->new_timedelta = (newfunc)(uintptr_t)PyType_GetSlot((PyTypeObject *)state->timedelta, Py_tp_new);
     state->add = (binaryfunc)(uintptr_t)PyType_GetSlot((PyTypeObject *)state->datetime, Py_nb_add);
     state->subtract = (binaryfunc)(uintptr_t)PyType_GetSlot((PyTypeObject *)state->datetime, Py_nb_subtract);
-    if (state->new_error == NULL || state->new_integer == NULL || state->new_float == NULL || state->new_timedelta == NULL
-        || state->add == NULL || state->subtract == NULL) {
+    if (state->new_error == NULL || state->new_integer == NULL || state->new_float == NULL
+        || state->new_timedelta == NULL || state->add == NULL || state->subtract == NULL) {
         PyErr_SetString(PyExc_ImportError, "amqp_values needs the types of CPython");
         return -1;
     }
@@ -530,9 +538,7 @@ static int clear_state(PyObject *module) {
     return 0;
 }
 
-static void free_state(void *module) {
-    clear_state(module);
-}
+static void free_state(void *module) { clear_state(module); }
 
 static PyModuleDef_Slot SLOTS[] = {{Py_mod_exec, (void *)(uintptr_t)begin}, {0, NULL}};
 static PyModuleDef MODULE = {.m_base = PyModuleDef_HEAD_INIT,
@@ -544,6 +550,4 @@ static PyModuleDef MODULE = {.m_base = PyModuleDef_HEAD_INIT,
                              .m_clear = clear_state,
                              .m_free = free_state};
 
-PyMODINIT_FUNC PyInit__native(void) {
-    return PyModuleDef_Init(&MODULE);
-}
+PyMODINIT_FUNC PyInit__native(void) { return PyModuleDef_Init(&MODULE); }

@@ -68,7 +68,8 @@ static PyObject *build_text(const Reader *reader, amqpv_span span, uint32_t how,
         raise_error(reader->state, what, reader->base + offset, 0, "bytes in UTF-8");
         return NULL;
     }
-    return of_bytes == NULL ? PyBytes_FromStringAndSize(text, length) : PyObject_CallFunction(of_bytes, "y#", text, length);
+    return of_bytes == NULL ? PyBytes_FromStringAndSize(text, length)
+                            : PyObject_CallFunction(of_bytes, "y#", text, length);
 }
 
 /* An object of a class by the function that its type has for that, which leaves out the checks of the class. */
@@ -125,7 +126,8 @@ static PyObject *build_timestamp(const Reader *reader, const amqpv_entry *entry)
 static PyObject *build_bytes(const Reader *reader, const amqpv_entry *entry) {
     const char *bytes = (const char *)reader->in.bytes + entry->content.offset;
     Py_ssize_t length = (Py_ssize_t)entry->content.length;
-    return reader->how->has_bytearrays ? PyByteArray_FromStringAndSize(bytes, length) : PyBytes_FromStringAndSize(bytes, length);
+    return reader->how->has_bytearrays ? PyByteArray_FromStringAndSize(bytes, length)
+                                       : PyBytes_FromStringAndSize(bytes, length);
 }
 
 /* A Float, of which a NaN has its bits too, or a float. */
@@ -193,8 +195,8 @@ static int build_pair(const Reader *reader, const amqpv_entry *entry, PyObject *
 static int is_of_empty_key(const Reader *reader, const amqpv_entry *entry, amqpv_entry *it) {
     amqpv_cursor cursor;
     return entry->content.length > 1 && reader->in.bytes[entry->content.offset] == 0
-           && amqpv_enter(entry, &cursor) == AMQPV_OK
-           && amqpv_next(&reader->in, &cursor, it) == AMQPV_OK && cursor.left.length == 0;
+           && amqpv_enter(entry, &cursor) == AMQPV_OK && amqpv_next(&reader->in, &cursor, it) == AMQPV_OK
+           && cursor.left.length == 0;
 }
 
 /* A table whose only key is empty: in itself it has a level in six bytes, of which a dict with keys of its own has 184. */

@@ -79,8 +79,8 @@ void raise_type(const State *state, const char *what, PyObject *object);
 
 /* Raises what is wrong with an input that isn't read, before which there are `base` bytes. `without_tag` says what takes a table
    without its type tag, which the input may be if it begins with a zero. */
-void raise_problem(const State *state, const amqpv_input *in, size_t base, amqpv_result result, const amqpv_problem *problem,
-                   const char *without_tag);
+void raise_problem(const State *state, const amqpv_input *in, size_t base, amqpv_result result,
+                   const amqpv_problem *problem, const char *without_tag);
 
 /* Bytes that are read, how many are before them, and by which options. */
 typedef struct {

@@ -22,9 +22,7 @@ typedef struct {
 
 static const char LESS_THAN_4_GIB[] = "less than 4 GiB";
 
-static size_t end_of(const amqpv_container *into) {
-    return into->written.offset + into->written.length;
-}
+static size_t end_of(const amqpv_container *into) { return into->written.offset + into->written.length; }
 
 /* How many bytes are before what is written next. */
 static size_t offset_in(const Writer *writer, const Place *place) {
@@ -43,7 +41,9 @@ static int reserve(Writer *writer, const Place *place, size_t content) {
     if (needed <= writer->capacity) {
         return 1;
     }
-    size_t capacity = writer->capacity < needed / 2 ? needed : writer->capacity > most / 2 ? most : 2 * writer->capacity;
+    size_t capacity = writer->capacity < needed / 2 ? needed
+                      : writer->capacity > most / 2 ? most
+                                                    : 2 * writer->capacity;
     int is_small = writer->buffer == writer->small;
     uint8_t *grown = is_small ? PyMem_Malloc(capacity) : PyMem_Realloc(writer->buffer, capacity);
     if (grown == NULL) {
@@ -77,7 +77,8 @@ static int put(Writer *writer, const Place *place, uint8_t tag, uint64_t bits, u
 
 static int put_bytes(Writer *writer, const Place *place, uint8_t tag, const char *bytes, Py_ssize_t length) {
     size_t count = (size_t)length;
-    return reserve(writer, place, count) && is_put(writer, place, amqpv_put_bytes(INTO, tag, bytes, count), LESS_THAN_4_GIB);
+    return reserve(writer, place, count)
+           && is_put(writer, place, amqpv_put_bytes(INTO, tag, bytes, count), LESS_THAN_4_GIB);
 }
 
 /* Text */
@@ -100,7 +101,8 @@ static PyObject *escaped_bytes(PyObject *text) {
 }
 
 /* The UTF-8 of a str, inside of it; or the bytes that `kept` then is; or NULL, and an Error. */
-static const char *text_of(const State *state, uint32_t how, PyObject *text, size_t offset, Py_ssize_t *length, PyObject **kept) {
+static const char *text_of(const State *state, uint32_t how, PyObject *text, size_t offset, Py_ssize_t *length,
+                           PyObject **kept) {
     char *content = NULL;
     const char *found = PyUnicode_AsUTF8AndSize(text, length);
     *kept = NULL;
@@ -133,7 +135,8 @@ static int put_text(Writer *writer, const Place *place, PyObject *text) {
     return is_done;
 }
 
-PyObject *key_bytes(const State *state, uint32_t how, PyObject *key, size_t offset, const char **bytes, size_t *length) {
+PyObject *key_bytes(const State *state, uint32_t how, PyObject *key, size_t offset, const char **bytes,
+                    size_t *length) {
     PyObject *kept = NULL;
     Py_ssize_t count = 0;
     char *content;
@@ -214,7 +217,8 @@ static int put_integer(Writer *writer, const Place *place, PyObject *value, int 
                                                      "a number from 0 to 18446744073709551615",
                                                      "a number from -9223372036854775808 to 9223372036854775807"};
     int overflows = 0, is_time = at == INTEGERS - 1;
-    uint64_t bits = is_time ? PyLong_AsUnsignedLongLong(value) : (uint64_t)PyLong_AsLongLongAndOverflow(value, &overflows);
+    uint64_t bits =
+        is_time ? PyLong_AsUnsignedLongLong(value) : (uint64_t)PyLong_AsLongLongAndOverflow(value, &overflows);
     if (overflows || (bits == UINT64_MAX && PyErr_Occurred())) {
         return out_of_range(writer, place, RANGES[at]);
     }
@@ -287,8 +291,9 @@ static long long number_of(PyObject *digits, long long exponent, long long most)
 
 static int put_decimal(Writer *writer, const Place *place, PyObject *value) {
     int has_sign = writer->how->has_signed_decimals != 0, overflows = 0;
-    const char *expected = has_sign ? "a number from -2147483648 to 2147483647, with up to 255 digits of it after the point"
-                                    : "a number from 0 to 4294967295, with up to 255 digits of it after the point";
+    const char *expected = has_sign
+                               ? "a number from -2147483648 to 2147483647, with up to 255 digits of it after the point"
+                               : "a number from 0 to 4294967295, with up to 255 digits of it after the point";
     PyObject *parts = PyObject_CallFunctionObjArgs(writer->state->as_tuple, value, NULL);
     if (parts == NULL) {
         raise_foreign(writer->state, offset_in(writer, place));
@@ -308,8 +313,8 @@ static int put_decimal(Writer *writer, const Place *place, PyObject *value) {
     if (PyErr_Occurred() || overflows || number < 0 || exponent < -255 || (is_negative && !has_sign)) {
         return out_of_range(writer, place, expected);
     }
-    return put(writer, place, AMQPV_DECIMAL, (uint32_t)(is_negative ? -number : number), (uint8_t)(exponent < 0 ? -exponent : 0),
-               expected);
+    return put(writer, place, AMQPV_DECIMAL, (uint32_t)(is_negative ? -number : number),
+               (uint8_t)(exponent < 0 ? -exponent : 0), expected);
 }
 
 static int put_datetime(Writer *writer, const Place *place, PyObject *value) {
@@ -357,7 +362,8 @@ static int put_encoded(Writer *writer, const Place *place, const char *bytes, si
         return 0;
     }
     if (entry.value.length != length) {
-        raise_error(writer->state, "trailing bytes", offset_in(writer, place) + entry.value.length, 0, "the end of an encoded value");
+        raise_error(writer->state, "trailing bytes", offset_in(writer, place) + entry.value.length, 0,
+                    "the end of an encoded value");
         return 0;
     }
     return reserve(writer, place, length) && is_put(writer, place, amqpv_put_value(INTO, &in), LESS_THAN_4_GIB);
@@ -390,7 +396,8 @@ static int put_any_bytes(Writer *writer, const Place *place, PyObject *value) {
 static int put_value(Writer *writer, const Place *place, PyObject *value);
 
 static int changed(const Writer *writer, const Place *place) {
-    raise_error(writer->state, "changed", offset_in(writer, place), 0, "a container that stays as it is while it is written");
+    raise_error(writer->state, "changed", offset_in(writer, place), 0,
+                "a container that stays as it is while it is written");
     return 0;
 }
 
@@ -419,7 +426,8 @@ static int put_pair(Writer *writer, const Place *body, PyObject *key, PyObject *
     int is_done = 0;
     Py_INCREF(key);
     Py_INCREF(value);
-    PyObject *kept = key_bytes(writer->state, writer->how->keys, key, offset_in(writer, body), &place.key, &place.length);
+    PyObject *kept =
+        key_bytes(writer->state, writer->how->keys, key, offset_in(writer, body), &place.key, &place.length);
     if (kept != NULL && place.length > 255) {
         raise_error(writer->state, "key too long", offset_in(writer, body), 0, "at most 255 bytes");
     } else if (kept != NULL) {
@@ -568,8 +576,8 @@ static int put_contents(Writer *writer, const Place *body, PyObject *value, int 
 static int put_container(Writer *writer, const Place *place, PyObject *value, int is_table) {
     amqpv_container body;
     if (place->levels == 0) {
-        raise_error(writer->state, "too deep", offset_in(writer, place), 0, "containers nested at most %u deep, none in itself",
-                    (unsigned)writer->how->depth);
+        raise_error(writer->state, "too deep", offset_in(writer, place), 0,
+                    "containers nested at most %u deep, none in itself", (unsigned)writer->how->depth);
         return 0;
     }
     if (!reserve(writer, place, 0)) {
@@ -679,7 +687,8 @@ PyObject *written(const State *state, const Options *how, PyObject *value) {
     if (how->is_table && !is_table && !PyErr_Occurred()) {
         raise_type(state, "a table is a mapping", value);
     }
-    if (!PyErr_Occurred() && (is_table ? put_container(&writer, &place, value, 1) : put_value(&writer, &place, value))) {
+    if (!PyErr_Occurred()
+        && (is_table ? put_container(&writer, &place, value, 1) : put_value(&writer, &place, value))) {
         made = PyBytes_FromStringAndSize((const char *)writer.buffer + is_table, (Py_ssize_t)end_of(&top) - is_table);
     }
     if (writer.buffer != writer.small) {
