@@ -44,7 +44,7 @@ setup(
         Extension(
             "amqp_values._native",
             [f"src/{it}.c" for it in SOURCES],
-            depends=["src/values.h", str(INCLUDE / "amqp_values.h"), str(ARCHIVE)],
+            depends=["src/values.h", *map(str, INCLUDE.glob("*.h")), str(ARCHIVE)],
             include_dirs=[str(INCLUDE), *filter(None, [os.environ.get("AMQP_VALUES_PYTHON_INCLUDE")])],
             extra_objects=[str(ARCHIVE)],
             extra_compile_args=[
