@@ -7,7 +7,8 @@ from pathlib import Path
 import pytest
 from crates import TOP
 
-from tests.rust.cargo import CRATES, RUST, TRIPLE, Done, run
+from tests.checks import Done, run
+from tests.rust.cargo import CRATES, RUST, TRIPLE
 
 ARCHIVE = "libamqp_values.a"
 SOURCES = {
