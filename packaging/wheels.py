@@ -72,6 +72,8 @@ def make_wheel(library: Path, to: Path, target: str = X86_64) -> tuple[Path, str
         copy = Path(folder) / "bindings/python"
         shutil.copytree(PACKAGE, copy, ignore=shutil.ignore_patterns("build", "*.egg-info", "*.so", "__pycache__"))
         shutil.copytree(INCLUDE, Path(folder) / "include")
+        for name in ("LICENSE", "THIRD-PARTY"):
+            shutil.copy(TOP / name, folder)
         for it in copy.rglob("*"):
             os.utime(it, (int(SOURCE_DATE_EPOCH),) * 2)
         env = {

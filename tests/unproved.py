@@ -62,7 +62,7 @@ def runs(crate: Path) -> Tried:
                 write_case(Path(folder) / it.name, it.given, it.wants.out, it.words)
                 statuses[it.name] = it.wants.status
         files = [word for it in sorted(crate.glob("data/*")) for word in ("--data", f"{it.name}={it}")]
-        found = dict(re.findall(r"(?m)^case=(\S+) (.*)$", said(crate, ["--seconds", "300", "--cases", folder, *files])))
+        found = dict(re.findall(r"(?m)^case=(\S+) (.*)$", said(crate, ["--seconds", "600", "--cases", folder, *files])))
     for name, status in statuses.items():
         line = found.get(name, "didn't run")
         yield name, "" if re.match(f"run=ended status={status} .*output=expected", line) else line

@@ -7,6 +7,7 @@ then its compiler. The wheel is for glibc 2.17 and later, which `make wheel` che
 import os
 import platform
 import re
+import shutil
 import sys
 from pathlib import Path
 
@@ -36,6 +37,9 @@ def archive() -> Path:
 
 
 ARCHIVE = archive()
+for name in ("LICENSE", "THIRD-PARTY"):
+    # (setuptools takes them only from here)
+    shutil.copyfile(TOP / name, HERE / name)
 found = re.search(r'(?m)^#define AMQPV_VERSION "(.*)"$', (INCLUDE / "amqp_values.h").read_text())
 
 setup(

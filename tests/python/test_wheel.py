@@ -49,6 +49,8 @@ def test_install_from_the_sources(request: pytest.FixtureRequest, tmp_path: Path
     unneeded = shutil.ignore_patterns("build", "*.egg-info", "__pycache__")
     shutil.copytree(PACKAGE, sources / "bindings/python", ignore=unneeded)
     shutil.copytree(INCLUDE, sources / "include")
+    for name in ("LICENSE", "THIRD-PARTY"):
+        shutil.copy(TOP / name, sources)
     clean = {name: it for name, it in os.environ.items() if not name.startswith(("PYTHON", "PIP_", "AMQP_VALUES_"))}
     how = ["--no-build-isolation", "--no-index", "--no-deps", "--no-cache-dir", "--disable-pip-version-check", "-q"]
     words: Words = [PYTHON, "-m", "pip", "install", *how, "--target", packages, "./bindings/python"]
