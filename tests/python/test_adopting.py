@@ -74,9 +74,9 @@ def test_handler_of_the_readme(capsys: pytest.CaptureFixture[str]) -> None:
     channel = Channel()
     try:
         exec(code, names)
-        for tag, depth, body in ((1, 500, b"deep"), (2, 1, b"next")):
-            table = field(b"", b"\1a" + nested("F", depth - 1, b"", b"\1a"))
-            names["on_message"](channel, spec.Basic.Deliver(delivery_tag=tag), properties_of(table), body)
+        for tag, value, body in ((1, nested("F", 499, b"", b"\1a"), b"deep"), (2, b"V", b"next")):
+            properties = properties_of(field(b"", b"\1a" + value))
+            names["on_message"](channel, spec.Basic.Deliver(delivery_tag=tag), properties, body)
     finally:
         adapter.uninstall()
     assert (channel.calls, capsys.readouterr().out) == (["reject 1 False", "ack 2"], shown)

@@ -13,7 +13,7 @@ from tests.model.printed import TYPES, damaged, extent, lack, nested, read, valu
 from tests.model.tables import first_problem, odd_table, random_table, raw
 from tests.rust.cargo import CRATES, TARGET, assert_well, cargo, package
 
-pytestmark = [pytest.mark.needs("--library", "cargo"), pytest.mark.usefixtures("deep")]
+pytestmark = [pytest.mark.needs("cargo"), pytest.mark.usefixtures("deep")]
 # How the crate calls each problem of the model, and each error of a text.
 KINDS = {1: "UnknownTag({})", 3: "Cut", 4: "KeyCut", 5: "TooDeep", 7: "KeyNotUtf8"}
 WRONG = {"": "NotJson", "TooDeep": "TooDeep"}
