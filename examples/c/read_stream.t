@@ -8,7 +8,7 @@ nothing
 
 too_large
   $ printf '\x00\x10\x00\x00' | read_stream
-  longer than in->max_bytes, at byte 0 of the table
+  too large, at byte 0 of the table
   [1]
 
 two_tables

@@ -14,6 +14,8 @@ from tests.c.places import NAME
 TEXT = (TOP / "THIRD-PARTY").read_text()
 HEAD, *SECTIONS = re.split(r"(?m)^-{78}\n", TEXT)
 LIBRARIES = kit() / "rattle"
+# The libraries without a licence file that may be linked too, as the head says; and one that clap has inside, by the symbols.
+UNLISTED, INSIDE = {"core", "io", "libc"}, {"clap": "strsim"}
 
 
 def listed(title: str) -> list[str]:
@@ -32,9 +34,13 @@ def notices() -> Iterator[tuple[str, str]]:
 
 def linked(*crates: str) -> set[str]:
     """The kit's libraries that crates may link: those that crates.txt names, and those below them."""
-    all_crates = Crates()
-    named = {it for crate in all_crates.needed(*crates) for it in all_crates.of_kit[crate]}
-    return named | {it.name for lib in named for it in (kit() / f"rlibs/{lib}.rlib/below").glob("*")}
+    all_crates, found = Crates(), set[str]()
+    following = {it for crate in all_crates.needed(*crates) for it in all_crates.of_kit[crate]}
+    while following := following - found:
+        found |= following
+        below = {it.name for lib in following for it in (kit() / f"rlibs/{lib}.rlib/below").glob("*")}
+        following = below | {INSIDE[it] for it in following & {*INSIDE}}
+    return found - UNLISTED
 
 
 def linked_by_symbols(path: Path) -> set[str]:
@@ -65,13 +71,13 @@ def test_each_library_has_its_notices() -> None:
 @pytest.mark.needs("--built")
 def test_what_is_linked_is_listed(libraries: None) -> None:
     """Also by the symbols of what is built, where a library that is inlined has none."""
-    own, without_licence = {*Crates().below}, {"core", "io", "libc"}
+    own = {*Crates().below}
     of_show = linked_by_symbols(TOP / "crates/amqp_show/out/amqp_show")
     of_calls = set[str]().union(*(linked_by_symbols(archive(Crates(), it)) for it in CALLS_FOR_C))
     assert of_calls & own and of_show & own
-    assert of_calls - own - without_licence <= {*listed("Used by all of these")}
-    assert of_show - own - without_licence <= {*listed("Used by all of these"), *listed("Used by amqp_show besides")}
-    assert without_licence <= {*re.findall(r"\w+", HEAD)}
+    assert of_calls - own - UNLISTED <= {*listed("Used by all of these")}
+    assert of_show - own - UNLISTED <= {*listed("Used by all of these"), *listed("Used by amqp_show besides")}
+    assert UNLISTED <= {*re.findall(r"\w+", HEAD)}
 
 
 @pytest.mark.parametrize(("name", "text"), [*notices()], ids=[name for name, _ in notices()])
