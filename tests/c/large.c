@@ -113,7 +113,7 @@ static void try_two_to_32(void) {
         size_t count = 77;
         amqpv_begin(&w, bytes, large);
         w.open[0].written.length = length;
-        CHECK(amqpv_finish(&w, &count) == (less ? AMQPV_OK : AMQPV_TOO_LARGE) && count == (less ? length + 4 : 77));
+        CHECK(amqpv_finish(&w, &count) == (less ? AMQPV_OK : AMQPV_TOO_LARGE) && count == (less ? length + 4 : 0));
         w.result = AMQPV_OK, w.open[0].written.length = 0x1020304;
         CHECK(amqpv_finish(&w, &count) == AMQPV_OK && memcmp(bytes, "\1\2\3\4", 4) == 0);
         calls += 3;
