@@ -60,12 +60,12 @@ STATED = {"limits": ("read", "measure"), "json": ("to_json", "from_json"), "rabb
 
 @pytest.mark.parametrize("module", STATED)
 def test_stack(module: str) -> None:
-    """The stack that is stated for each level is that of the header, on both processors; tests/c/nested.c takes no more."""
+    """The stack that is stated for each level is that of the header, of the call that takes most, on both processors."""
     rows = re.findall(r"(?m)^ \*     (amqpv_[\w, ]*\w) +(\d+) +(\d+)$", HEADER.read_text())
-    figures = {name: found for names, *found in rows for name in names.split(", ")}
+    figures = {name: [*map(int, found)] for names, *found in rows for name in names.split(", ")}
     text = " ".join(re.sub(r"(?m)^ *///", "", (RUST / f"amqp-values/src/{module}.rs").read_text()).split())
     (stated,) = re.findall(r"each level (?:of `depth` )?(\d+) bytes on x86-64, (\d+) on aarch64", text)
-    assert all(figures[f"amqpv_{it}"] == [*stated] for it in STATED[module])
+    assert max(figures[f"amqpv_{it}"] for it in STATED[module]) == [*map(int, stated)]
 
 
 # The pages and modules that state the memory for each byte, and the calls for C that take it, in their order.
