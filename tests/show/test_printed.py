@@ -98,7 +98,7 @@ def test_others(program: Path, name: str) -> None:
 
 # Large tables
 
-MOST_SECONDS, MOST_BYTES, MOST_BYTES_OF_STREAM = 1.0, 100_000_000, 20_000_000
+MOST_SECONDS, MOST_BYTES, MOST_BYTES_OF_STREAM = 3.0, 100_000_000, 20_000_000
 SIZE = 2**20
 # A MiB of Voids, of pairs with keys that come again and that don't ascend, and a string of control characters, and Voids in many arrays.
 LARGE = {
