@@ -61,7 +61,7 @@ OPTIONS_c = --built $(ROOT)
 OPTIONS_python = --built $(SEED)
 OPTIONS_counts = --built
 OPTIONS_web = --built $(SEED)
-OPTIONS_rust = --built
+OPTIONS_rust = --built $(SEED)
 OPTIONS_broker = --built --tables $(TABLES)
 TABLES = 500
 

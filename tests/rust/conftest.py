@@ -1,7 +1,6 @@
 """What the tests of the Rust side are given."""
 
 import shutil
-import time
 from pathlib import Path
 
 import pytest
@@ -24,11 +23,9 @@ def pytest_addoption(parser: pytest.Parser) -> None:
 
 
 def pytest_configure(config: pytest.Config) -> None:
-    """What is random is another in each run. (pytest calls this before that of tests/conftest.py, which it has read earlier.)"""
+    """Packages for the Rust crate, if it is given."""
     if config.option.crate and not config.option.packages:
         config.option.packages = packages_for(config.option.crate)
-    if config.option.seed is None:
-        config.option.seed = int(time.time())
 
 
 @pytest.fixture(scope="session")
