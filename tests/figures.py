@@ -19,7 +19,7 @@ RESULTS = "bench/RESULTS.md"
 DEFAULTS = {
     "crates/examples/src/in_place.rt": [r"frame: (?P<bytes>[\d_]+),\s+depth: (?P<depth>\d+)"],
     "docs/LIMITS.md": [
-        r"`Limits::DEFAULT` has (?P<bytes>\d+) \| `Limits::depth`; (?P<depth>\d+) ",
+        r"none by default, (?P<bytes>\d+) is suitable \| `Limits::depth`; (?P<depth>\d+) is suitable",
         r"`max_bytes`; (?P<bytes>\d+) \| `max_depth`; (?P<depth>\d+) ",
         r"`max_bytes`; (?P<bytes>\d+) \| `depth`; (?P<depth>\d+), at most 512 ",
         r"`max_bytes`; (?P<bytes>\d+) \| `depth`; (?P<depth>\d+), at most 4096 ",
