@@ -54,7 +54,7 @@ fn length_of(bytes: &[u8]) -> usize
     bytes.len()
 }
 
-/// A slice of bytes as an input.
+/// A slice of bytes as an input. It is a reference: copies are cheap.
 #[derive(Clone, Copy, Debug)]
 pub struct SliceInput<'a> {
     slice: &'a [u8],
@@ -63,14 +63,15 @@ pub struct SliceInput<'a> {
 impl<'a> SliceInput<'a> {
     ghost use Rattle.amqp_value_core.specs.Inputs.{slice_bytes};
 
-    /// Makes an input of a slice.
+    /// Makes an input of all bytes of a slice. Doesn't copy or allocate.
     pub fn new(slice: &'a [u8]) -> Self
         ensures { slice_bytes result ≡ slice.now }
     {
         SliceInput { slice }
     }
 
-    /// The bytes as a slice.
+    /// Returns the bytes. The slice outlives the input: it lives as long as the one that the input
+    /// was made of.
     pub fn as_slice(&self) -> &'a [u8]
         ensures { result.now ≡ slice_bytes self.now }
     {

@@ -6,7 +6,11 @@ use crate::types::{
     ShortUInt, Timestamp,
 };
 
-/// A value, with its type.
+/// A value of a table or an array, with its type (AMQP 0-9-1, section 4.2.5.5, by RabbitMQ's
+/// errata).
+///
+/// `==` compares types and contents: an integer of 8 bits never equals one of 16. A value isn't
+/// `Clone`, since a copy may need memory: use the method `clone`.
 #[cycle(values)]
 #[derive(Debug, Drop)]
 pub enum AMQPValue {
@@ -30,7 +34,7 @@ pub enum AMQPValue {
     Float(Float),
     /// A floating-point number of 64 bits.
     Double(Double),
-    /// A decimal number.
+    /// A decimal number: an unsigned integer and the place of its decimal point.
     DecimalValue(DecimalValue),
     /// A string of at most 255 bytes. It can be written, but the parsers reject what is written.
     ShortString(ShortString),
@@ -38,7 +42,7 @@ pub enum AMQPValue {
     LongString(LongString),
     /// A list of values, each with its type.
     FieldArray(FieldArray),
-    /// A time, an unsigned integer of 64 bits.
+    /// A time, in seconds since 1970. The parsers accept every number of 64 bits.
     Timestamp(Timestamp),
     /// A map from short strings to values, each with its type.
     FieldTable(FieldTable),
@@ -53,7 +57,7 @@ impl AMQPValue {
     ghost use Rattle.amqp_value_core.specs.View.{view};
     ghost use Rattle.amqp_value_core.specs.Values.{type_of};
 
-    /// The type of the value.
+    /// Returns the type of the value. It is never `LongLongUInt`, which has no variant here.
     pub fn get_type(&self) -> AMQPType
         ensures { result ≡ type_of (view self.now) }
     {

@@ -7,7 +7,8 @@ use crate::types::{
 };
 use crate::value::AMQPValue;
 
-/// Each getter returns the field of its variant, and `None` for every other.
+/// Getters. None of them converts or allocates: `as_long_int` returns `None` for a `ShortInt`, and
+/// a string or container is borrowed from the value.
 impl AMQPValue {
     ghost use Rattle.std.specs.Prelude.{◌≡◌, option_map, is_some};
     ghost use Rattle.std.specs.Int.{w8, w16, w32, w64, cast_unsigned};
@@ -18,7 +19,7 @@ impl AMQPValue {
     ghost use Rattle.amqp_value_core.specs.Containers.{array_view, table_view};
     ghost use Rattle.amqp_value_core.specs.Getters.{truth_in, number_in, decimal_in, short_in, long_in, octets_in, array_in, table_in, is_void};
 
-    /// The boolean, of a `Boolean`.
+    /// Returns the boolean, or `None` if the value isn't a `Boolean`.
     pub fn as_bool(&self) -> Option<Boolean>
         ensures { result ≡ truth_in (view self.now) }
     {
@@ -28,7 +29,7 @@ impl AMQPValue {
         }
     }
 
-    /// The number, of a `ShortShortInt`.
+    /// Returns the signed integer of 8 bits, or `None` if the value isn't a `ShortShortInt`.
     pub fn as_short_short_int(&self) -> Option<ShortShortInt>
         ensures { option_map (cast_unsigned w8) result
             ≡ number_in amqp.ShortShortInt (view self.now) }
@@ -39,7 +40,7 @@ impl AMQPValue {
         }
     }
 
-    /// The number, of a `ShortShortUInt`.
+    /// Returns the unsigned integer of 8 bits, or `None` if the value isn't a `ShortShortUInt`.
     pub fn as_short_short_uint(&self) -> Option<ShortShortUInt>
         ensures { result ≡ number_in amqp.ShortShortUInt (view self.now) }
     {
@@ -49,7 +50,7 @@ impl AMQPValue {
         }
     }
 
-    /// The number, of a `ShortInt`.
+    /// Returns the signed integer of 16 bits, or `None` if the value isn't a `ShortInt`.
     pub fn as_short_int(&self) -> Option<ShortInt>
         ensures { option_map (cast_unsigned w16) result
             ≡ number_in amqp.ShortInt (view self.now) }
@@ -60,7 +61,7 @@ impl AMQPValue {
         }
     }
 
-    /// The number, of a `ShortUInt`.
+    /// Returns the unsigned integer of 16 bits, or `None` if the value isn't a `ShortUInt`.
     pub fn as_short_uint(&self) -> Option<ShortUInt>
         ensures { result ≡ number_in amqp.ShortUInt (view self.now) }
     {
@@ -70,7 +71,7 @@ impl AMQPValue {
         }
     }
 
-    /// The number, of a `LongInt`.
+    /// Returns the signed integer of 32 bits, or `None` if the value isn't a `LongInt`.
     pub fn as_long_int(&self) -> Option<LongInt>
         ensures { option_map (cast_unsigned w32) result
             ≡ number_in amqp.LongInt (view self.now) }
@@ -81,7 +82,7 @@ impl AMQPValue {
         }
     }
 
-    /// The number, of a `LongUInt`.
+    /// Returns the unsigned integer of 32 bits, or `None` if the value isn't a `LongUInt`.
     pub fn as_long_uint(&self) -> Option<LongUInt>
         ensures { result ≡ number_in amqp.LongUInt (view self.now) }
     {
@@ -91,7 +92,7 @@ impl AMQPValue {
         }
     }
 
-    /// The number, of a `LongLongInt`.
+    /// Returns the signed integer of 64 bits, or `None` if the value isn't a `LongLongInt`.
     pub fn as_long_long_int(&self) -> Option<LongLongInt>
         ensures { option_map (cast_unsigned w64) result
             ≡ number_in amqp.LongLongInt (view self.now) }
@@ -102,7 +103,7 @@ impl AMQPValue {
         }
     }
 
-    /// The number, of a `Float`.
+    /// Returns the floating-point number of 32 bits, or `None` if the value isn't a `Float`.
     pub fn as_float(&self) -> Option<Float>
         ensures { option_map float_bits result ≡ number_in amqp.Float (view self.now) }
     {
@@ -112,7 +113,7 @@ impl AMQPValue {
         }
     }
 
-    /// The number, of a `Double`.
+    /// Returns the floating-point number of 64 bits, or `None` if the value isn't a `Double`.
     pub fn as_double(&self) -> Option<Double>
         ensures { option_map double_bits result ≡ number_in amqp.Double (view self.now) }
     {
@@ -122,7 +123,7 @@ impl AMQPValue {
         }
     }
 
-    /// The decimal number, of a `DecimalValue`.
+    /// Returns the decimal number, or `None` if the value isn't a `DecimalValue`.
     pub fn as_decimal_value(&self) -> Option<DecimalValue>
         ensures { option_map (λ d. (d.scale, d.value)) result ≡ decimal_in (view self.now) }
     {
@@ -132,7 +133,8 @@ impl AMQPValue {
         }
     }
 
-    /// The string, of a `ShortString`.
+    /// Returns the string of at most 255 bytes, or `None` if the value isn't a `ShortString`. The
+    /// strings in a parsed table or array are `LongString`s: use `as_long_string` for them.
     pub fn as_short_string(&self) -> Option<&ShortString>
         ensures { option_map (λ s. s.now) result ≡ short_in (view self.now) }
     {
@@ -142,7 +144,8 @@ impl AMQPValue {
         }
     }
 
-    /// The bytes, of a `LongString`.
+    /// Returns the string, whose bytes may not be UTF-8, or `None` if the value isn't a
+    /// `LongString`.
     pub fn as_long_string(&self) -> Option<&LongString>
         ensures { option_map (λ s. long_bytes s.now) result ≡ long_in (view self.now) }
     {
@@ -152,7 +155,7 @@ impl AMQPValue {
         }
     }
 
-    /// The array, of a `FieldArray`.
+    /// Returns the array, or `None` if the value isn't a `FieldArray`.
     pub fn as_array(&self) -> Option<&FieldArray>
         ensures { option_map (λ a. array_view a.now) result ≡ array_in (view self.now) }
     {
@@ -162,7 +165,7 @@ impl AMQPValue {
         }
     }
 
-    /// The time, of a `Timestamp`.
+    /// Returns the time in seconds since 1970, or `None` if the value isn't a `Timestamp`.
     pub fn as_timestamp(&self) -> Option<Timestamp>
         ensures { result ≡ number_in amqp.Timestamp (view self.now) }
     {
@@ -172,7 +175,7 @@ impl AMQPValue {
         }
     }
 
-    /// The table, of a `FieldTable`.
+    /// Returns the table, or `None` if the value isn't a `FieldTable`.
     pub fn as_field_table(&self) -> Option<&FieldTable>
         ensures { option_map (λ t. table_view t.now) result ≡ table_in (view self.now) }
     {
@@ -182,7 +185,7 @@ impl AMQPValue {
         }
     }
 
-    /// The bytes, of a `ByteArray`.
+    /// Returns the bytes, or `None` if the value isn't a `ByteArray`.
     pub fn as_byte_array(&self) -> Option<&ByteArray>
         ensures { option_map (λ a. octets_of a.now) result ≡ octets_in (view self.now) }
     {
@@ -192,7 +195,7 @@ impl AMQPValue {
         }
     }
 
-    /// `Some(())`, of `Void`.
+    /// Returns `Some(())` if the value is `Void`, and `None` if it has another type.
     pub fn as_void(&self) -> Option<()>
         ensures { is_some result ≡ is_void (view self.now) }
     {

@@ -4,8 +4,8 @@ ghost use Rattle.std.specs.Prelude.{◌≡◌, ◌+◌, ◌-◌, ◌^◌, ◌<�
 
 use crate::input::{ParsableInput, length_of};
 
-/// Two slices of bytes as one input, the first's bytes before the second's. Each byte stays in its
-/// part.
+/// Two slices of bytes as one input, the first's bytes before the second's, as a ring buffer has
+/// them. They aren't joined: each byte stays in its part.
 #[derive(Clone, Copy, Debug)]
 pub struct SplitInput<'a> {
     first: &'a [u8],
@@ -16,7 +16,8 @@ pub struct SplitInput<'a> {
 impl<'a> SplitInput<'a> {
     ghost use Rattle.amqp_value_core.specs.Splits.{split_first, split_second};
 
-    /// Makes an input of two slices. Precondition: a `usize` holds the sum of their lengths.
+    /// Makes an input of two slices. Doesn't copy or allocate. Precondition: a `usize` holds the
+    /// sum of their lengths.
     pub fn new(first: &'a [u8], second: &'a [u8]) -> Self
         requires { length first.now + length second.now < 2 ^ 64 }
         ensures first { split_first result ≡ first.now }
@@ -25,7 +26,7 @@ impl<'a> SplitInput<'a> {
         SplitInput { first, second }
     }
 
-    /// The bytes as two slices.
+    /// Returns the bytes as two slices, of which either may be empty.
     pub fn parts(&self) -> (&'a [u8], &'a [u8])
         ensures first { result.0.now ≡ split_first self.now }
         ensures second { result.1.now ≡ split_second self.now }

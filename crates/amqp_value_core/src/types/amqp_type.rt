@@ -9,7 +9,7 @@ ghost use Rattle.amqp_value_core.specs.Names.{read_as};
 use serde::{Deserialize, Serialize};
 use std::fmt;
 
-/// The type of an AMQP value.
+/// The type of an AMQP value: the first byte of its encoding, its type tag, denotes it.
 #[derive(Clone, Copy, Debug, PartialEq, Eq, Serialize, Deserialize)]
 pub enum AMQPType {
     /// A boolean, a `bool`.
@@ -44,7 +44,7 @@ pub enum AMQPType {
     LongString,
     /// A list of values, each with its type.
     FieldArray,
-    /// A time, an unsigned integer of 64 bits.
+    /// A time, in seconds since 1970, an unsigned integer of 64 bits.
     Timestamp,
     /// A map from short strings to values, each with its type.
     FieldTable,
@@ -55,8 +55,8 @@ pub enum AMQPType {
 }
 
 impl AMQPType {
-    /// The type of a type tag, by RabbitMQ's errata. Two are alternate tags: `U` is read as `s`,
-    /// and `L` as `l`.
+    /// Returns the type that a type tag denotes by RabbitMQ's errata, or `None` if the character is
+    /// no type tag. Two are alternate tags: `U` is read as `s`, and `L` as `l`.
     #[inline(always)]
     #[tactic(auto, using(crate::proofs::Ids::kind_read))]
     pub fn from_id(id: char) -> Option<AMQPType>
@@ -85,7 +85,8 @@ impl AMQPType {
         }
     }
 
-    /// The type tag that is written for the type, an ASCII letter or `_`.
+    /// Returns the type tag that is written for the type, an ASCII letter, or `_` for
+    /// `ShortString`, which has none.
     pub fn get_id(self) -> char
         ensures id { result ≡ id_of self }
         ensures read_back { kind result ≡ read_as self }

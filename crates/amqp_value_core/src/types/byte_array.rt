@@ -4,9 +4,9 @@ ghost use Rattle.amqp_value_core.specs.Contents.{octets_of};
 use serde::{Deserialize, Serialize};
 use std::alloc::{AllocError, Global};
 
-/// Arbitrary bytes, of which at most 4294967295 can be written.
+/// Arbitrary bytes, a value with the type tag `x`. At most 4294967295 of them can be written.
 ///
-/// Equality and hash are those of its bytes.
+/// Equality and hash are those of its bytes. `From<Vec<u8>>` takes a vector over without a copy.
 #[derive(Debug, PartialEq, Eq, Hash, Serialize, Deserialize, Drop)]
 #[serde(transparent)]
 pub struct ByteArray {
@@ -14,7 +14,7 @@ pub struct ByteArray {
 }
 
 impl ByteArray {
-    /// An empty array. Doesn't allocate.
+    /// Makes an empty array. Doesn't allocate.
     pub fn new_in(alloc: Global) -> Self
         ensures { octets_of result ≡ [] }
     {
@@ -23,7 +23,8 @@ impl ByteArray {
         }
     }
 
-    /// Copies the bytes. An empty array doesn't allocate.
+    /// Copies the bytes, or returns an error if memory for them can't be allocated. An empty slice
+    /// doesn't allocate.
     pub fn from_slice(alloc: Global, bytes: &[u8]) -> Result<ByteArray, AllocError>
         ensures bytes { IfOk result (λ a. octets_of a ≡ bytes.now) }
         ensures empty { bytes.now ≡ [] → IsOk result }
@@ -36,28 +37,29 @@ impl ByteArray {
         })
     }
 
-    /// The bytes as a slice.
+    /// Returns the bytes.
     pub fn as_slice(&self) -> &[u8]
         ensures { result.now ≡ octets_of self.now }
     {
         self.bytes.as_slice()
     }
 
-    /// The number of bytes.
+    /// Returns the number of bytes.
     pub fn len(&self) -> usize
         ensures { result ≡ length (octets_of self.now) }
     {
         self.bytes.len()
     }
 
-    /// Whether it is empty.
+    /// Returns whether there are no bytes.
     pub fn is_empty(&self) -> bool
         ensures { result ≡ nat_eq (length (octets_of self.now)) 0 }
     {
         self.bytes.is_empty()
     }
 
-    /// Copies the bytes. An empty array doesn't allocate.
+    /// Copies the bytes, or returns an error if memory for them can't be allocated. An empty array
+    /// doesn't allocate.
     pub fn clone(&self, alloc: Global) -> Result<ByteArray, AllocError>
         ensures same { IfOk result (λ a. octets_of a ≡ octets_of self.now) }
         ensures empty { octets_of self.now ≡ [] → IsOk result }

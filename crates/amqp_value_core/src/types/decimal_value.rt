@@ -1,12 +1,14 @@
 use crate::types::{LongUInt, ShortShortUInt};
 use serde::{Deserialize, Serialize};
 
-/// A decimal number: `value` with its decimal point moved `scale` digits to the left. Its numeric
-/// value isn't computed here.
+/// A decimal number: `value` divided by ten to the power of `scale` (AMQP 0-9-1, section 4.2.5.5).
+/// With a scale of 2 the value 1999 is 19.99.
+///
+/// `==` compares the two fields: 1.0 and 1.00 differ. The quotient isn't computed here.
 #[derive(Clone, Copy, Debug, PartialEq, Eq, Hash, Serialize, Deserialize)]
 pub struct DecimalValue {
-    /// The number of digits after the decimal point.
+    /// The number of digits after the decimal point, up to 255.
     pub scale: ShortShortUInt,
-    /// The digits, as an integer.
+    /// The digits, as an unsigned integer of 32 bits.
     pub value: LongUInt,
 }

@@ -10,14 +10,14 @@ pub struct Double {
 }
 
 impl Double {
-    /// Makes a number from its bits.
+    /// Makes a number from its bits, of which each combination is allowed.
     pub fn from_bits(bits: u64) -> Self
         ensures { double_bits result ≡ bits }
     {
         Double { bits }
     }
 
-    /// Returns the number's bits.
+    /// Returns the number's bits. Those of a NaN are kept as they were read.
     pub fn to_bits(self) -> u64
         ensures { result ≡ double_bits self }
     {

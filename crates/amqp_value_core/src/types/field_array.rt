@@ -4,7 +4,7 @@ ghost use Rattle.amqp_value_core.specs.Containers.{array_items};
 use crate::value::AMQPValue;
 use std::alloc::{AllocError, Global};
 
-/// A list of values, each with its type.
+/// A list of values, each with its type: they needn't have the same one.
 #[cycle(values)]
 #[derive(Debug, Drop)]
 pub struct FieldArray {
@@ -12,7 +12,7 @@ pub struct FieldArray {
 }
 
 impl FieldArray {
-    /// An empty array. Doesn't allocate.
+    /// Makes an empty array. Doesn't allocate.
     pub fn new_in(alloc: Global) -> Self
         ensures { array_items result ≡ [] }
     {
@@ -21,14 +21,15 @@ impl FieldArray {
         }
     }
 
-    /// The values as a slice.
+    /// Returns the values, in order.
     pub fn as_slice(&self) -> &[AMQPValue]
         ensures { result.now ≡ array_items self.now }
     {
         self.items.as_slice()
     }
 
-    /// Appends a value. If an allocation fails the array is unchanged, and the value is dropped.
+    /// Appends a value, which may allocate. If an allocation fails the array is unchanged, and the
+    /// value is dropped.
     pub fn push(&mut self, v: AMQPValue) -> Result<(), AllocError>
         ensures ok { OnOk result (array_items self.new ≡ array_items self.old ++ v ∷ []) }
         ensures err { OnErr result (array_items self.new ≡ array_items self.old) }

@@ -16,7 +16,8 @@ use std::alloc::{AllocError, Global};
 use std::collections::{BTreeMap, btree_map};
 use std::convert::AsStr;
 
-/// A map from short strings to values, each with its type. Its keys are sorted by their bytes.
+/// A map from short strings to values, each with its type (AMQP 0-9-1, section 4.2.5.5). It has
+/// each key once, and iterates over the keys in the order of their bytes.
 #[cycle(values)]
 #[derive(Debug, Drop)]
 pub struct FieldTable {
@@ -50,7 +51,7 @@ fn list_of<K: Drop, const N: usize>(
 }
 
 impl FieldTable {
-    /// An empty table. Doesn't allocate.
+    /// Makes an empty table. Doesn't allocate.
     pub fn new_in(alloc: Global) -> Self
         ensures { table_entries result ≡ [] }
     {
@@ -59,8 +60,9 @@ impl FieldTable {
         }
     }
 
-    /// Inserts a value at a key, replaces the old one if there was one, and returns the table. If
-    /// an allocation fails the table is unchanged, and the key and the value are dropped.
+    /// Inserts a value at a key, and returns the table, so that calls can be chained. An old value
+    /// at the key is replaced. If an allocation fails the table is unchanged, and the key and the
+    /// value are dropped.
     pub fn insert(&mut self, k: ShortString, v: AMQPValue) -> Result<&mut FieldTable, AllocError>
         ensures* unchanged_at_err { sem 𝓛 (LentOrKept self.entry result) }
         ensures same { IfOk result (λ r. r.ghost_name ≡ self.entry.ghost_name) }
@@ -89,8 +91,8 @@ impl FieldTable {
     }
 
     /// Makes a table of the pairs, inserted in order: of equal keys the last one's value is
-    /// retained. From some hundred pairs on it is faster than inserting each, and uses more memory
-    /// meanwhile. An empty list doesn't allocate.
+    /// retained. From some hundred pairs on it is faster than to insert each, but uses more memory
+    /// meanwhile. If an allocation fails the pairs are dropped. An empty vector doesn't allocate.
     #[inline(never)]
     #[tactic(auto, using(crate::proofs::Gathered::made_of))]
     pub fn from_pairs(
@@ -107,9 +109,10 @@ impl FieldTable {
         Ok(FieldTable { map })
     }
 
-    /// Makes a table of the entries, inserted in order, with copies of their keys: of equal keys the
-    /// last one's value is retained. Fails at the first key of more than 255 bytes, and if an
-    /// allocation fails; what was copied so far is dropped. An empty array doesn't allocate.
+    /// Makes a table of the entries, with copies of their keys, inserted in order: of equal keys
+    /// the last one's value is retained. Returns `TooLong` at the first key of more than 255 bytes,
+    /// and `OutOfMemory` if an allocation fails; what was copied so far is dropped. An empty array
+    /// doesn't allocate.
     pub fn from_entries<K: AsStr + Drop, const N: usize>(
         alloc: Global,
         pairs: [(K, AMQPValue); N],
@@ -149,7 +152,8 @@ impl FieldTable {
         Ok(())
     }
 
-    /// Whether the table has the key. Iterates over the entries, and doesn't allocate.
+    /// Returns whether the table has the key. It compares the key with one after another, and
+    /// doesn't allocate.
     pub fn contains_key(&self, k: &str) -> bool
         ensures { result ≡ has_key k.now (table_view self.now) }
     {
@@ -161,7 +165,7 @@ impl FieldTable {
         false
     }
 
-    /// The entries as a `BTreeMap`.
+    /// Returns the entries as a `BTreeMap`, to look up a value by its key or to iterate.
     pub fn inner(&self) -> &BTreeMap<ShortString, AMQPValue>
         ensures { result.now.entries ≡ table_entries self.now }
     {

@@ -10,14 +10,14 @@ pub struct Float {
 }
 
 impl Float {
-    /// Makes a number from its bits.
+    /// Makes a number from its bits, of which each combination is allowed.
     pub fn from_bits(bits: u32) -> Self
         ensures { float_bits result ≡ bits }
     {
         Float { bits }
     }
 
-    /// Returns the number's bits.
+    /// Returns the number's bits. Those of a NaN are kept as they were read.
     pub fn to_bits(self) -> u32
         ensures { result ≡ float_bits self }
     {

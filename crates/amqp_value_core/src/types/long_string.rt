@@ -6,9 +6,11 @@ use serde::{Deserialize, Serialize};
 use std::alloc::{AllocError, Global};
 use std::fmt;
 
-/// Arbitrary bytes, of which at most 4294967295 can be written. Most peers take them for a string.
+/// A string: arbitrary bytes, a value with the type tag `S`. Most peers take the bytes for UTF-8.
+/// At most 4294967295 of them can be written.
 ///
-/// Order, equality and hash are those of its bytes.
+/// Order, equality and hash are those of its bytes. `Display` writes U+FFFD for bytes that aren't
+/// UTF-8. `From<Vec<u8>>` and `From<String>` take the bytes over without a copy.
 #[derive(Debug, PartialEq, Eq, PartialOrd, Ord, Hash, Serialize, Deserialize, Drop)]
 #[serde(transparent)]
 pub struct LongString {
@@ -16,7 +18,7 @@ pub struct LongString {
 }
 
 impl LongString {
-    /// An empty string. Doesn't allocate.
+    /// Makes an empty string. Doesn't allocate.
     pub fn new_in(alloc: Global) -> Self
         ensures { long_bytes result ≡ [] }
     {
@@ -25,7 +27,8 @@ impl LongString {
         }
     }
 
-    /// Copies the string's bytes. An empty string doesn't allocate.
+    /// Copies a string, or returns an error if memory for it can't be allocated. An empty string
+    /// doesn't allocate.
     pub fn from_text(alloc: Global, text: &str) -> Result<LongString, AllocError>
         ensures bytes { IfOk result (λ s. long_bytes s ≡ text.now) }
         ensures empty { text.now ≡ [] → IsOk result }
@@ -33,7 +36,8 @@ impl LongString {
         LongString::from_slice(alloc, text.as_bytes())
     }
 
-    /// Copies the bytes. An empty string doesn't allocate.
+    /// Copies the bytes, or returns an error if memory for them can't be allocated. An empty slice
+    /// doesn't allocate.
     pub fn from_slice(alloc: Global, bytes: &[u8]) -> Result<LongString, AllocError>
         ensures bytes { IfOk result (λ s. long_bytes s ≡ bytes.now) }
         ensures empty { bytes.now ≡ [] → IsOk result }
@@ -46,28 +50,29 @@ impl LongString {
         })
     }
 
-    /// The bytes as a slice.
+    /// Returns the bytes, which may not be UTF-8.
     pub fn as_bytes(&self) -> &[u8]
         ensures { result.now ≡ long_bytes self.now }
     {
         self.bytes.as_slice()
     }
 
-    /// The number of bytes.
+    /// Returns the number of bytes.
     pub fn len(&self) -> usize
         ensures { result ≡ length (long_bytes self.now) }
     {
         self.bytes.len()
     }
 
-    /// Whether it is empty.
+    /// Returns whether there are no bytes.
     pub fn is_empty(&self) -> bool
         ensures { result ≡ nat_eq (length (long_bytes self.now)) 0 }
     {
         self.bytes.is_empty()
     }
 
-    /// Copies the bytes. An empty string doesn't allocate.
+    /// Copies the string, or returns an error if memory for the copy can't be allocated. An empty
+    /// string doesn't allocate.
     pub fn clone(&self, alloc: Global) -> Result<LongString, AllocError>
         ensures same { IfOk result (λ s. long_bytes s ≡ long_bytes self.now) }
         ensures empty { long_bytes self.now ≡ [] → IsOk result }

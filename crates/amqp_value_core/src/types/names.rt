@@ -18,16 +18,16 @@ pub type LongUInt = u32;
 pub type LongLongInt = i64;
 /// An unsigned integer of 64 bits.
 pub type LongLongUInt = u64;
-/// A time, AMQP's `timestamp`.
+/// A time, AMQP's `timestamp` (0-9-1, section 4.2.5.4), in seconds since 1970.
 pub type Timestamp = LongLongUInt;
-/// No value.
+/// No value: a type that has one value, and a payload of no bytes.
 pub type Void = ();
 
 /// The number of a class or of a method.
 pub type Identifier = ShortUInt;
-/// The number of a channel.
+/// The number of a channel; 0 is the connection itself.
 pub type ChannelId = Identifier;
-/// The seconds between two heartbeats.
+/// The seconds between two heartbeats; 0 turns them off.
 pub type Heartbeat = ShortUInt;
 /// The code of a reply.
 pub type ReplyCode = ShortUInt;
@@ -35,7 +35,7 @@ pub type ReplyCode = ShortUInt;
 pub type ChunkSize = LongUInt;
 /// The number of consumers.
 pub type ConsumerCount = LongUInt;
-/// The size of a frame in bytes.
+/// The size of a frame in bytes; as a limit, 0 is none.
 pub type FrameSize = LongUInt;
 /// The number of messages.
 pub type MessageCount = LongUInt;
@@ -44,5 +44,5 @@ pub type DeliveryTag = LongLongUInt;
 /// The size of a message in bytes.
 pub type PayloadSize = LongLongUInt;
 
-/// The maximum length of a short string in bytes.
+/// The maximum length of a short string in bytes, as its length has one byte.
 pub const MAX_SHORT_STRING_LENGTH: usize = 255;

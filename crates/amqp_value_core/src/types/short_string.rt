@@ -13,7 +13,8 @@ use std::fmt;
 use std::hash::{Hash, Hasher};
 use std::marker::Model;
 
-/// A string of at most 255 bytes: a table's key, and AMQP's `shortstr` (0-9-1, section 4.2.5.3).
+/// A string of at most 255 bytes of UTF-8: a table's key, and AMQP's `shortstr` (0-9-1, section
+/// 4.2.5.3).
 ///
 /// Order, equality and hash are those of its bytes.
 #[derive(Debug, Drop)]
@@ -35,7 +36,7 @@ impl Model for ShortString {
 impl ShortString {
     ghost use Rattle.std.specs.Prelude.{[], Ok};
 
-    /// An empty string. Doesn't allocate.
+    /// Makes an empty string. Doesn't allocate.
     pub fn new_in(alloc: Global) -> Self
         ensures { result ≡ [] }
     {
@@ -44,7 +45,8 @@ impl ShortString {
         }
     }
 
-    /// Converts a string of at most 255 bytes. Doesn't allocate; a longer string is dropped.
+    /// Converts a string of at most 255 bytes, without a copy. A longer one is dropped, and the
+    /// error has its length. Doesn't allocate.
     pub fn try_new(s: String) -> Result<ShortString, ShortStringError>
         ensures ok { IfOk result (λ short. short ≡ string_bytes s) }
         ensures fits { OnOk result (length (string_bytes s) ≤ 255) }
@@ -57,8 +59,8 @@ impl ShortString {
         Ok(ShortString { text: s })
     }
 
-    /// Copies a string of at most 255 bytes. A longer one is rejected before any allocation, and an
-    /// empty one doesn't allocate.
+    /// Copies a string of at most 255 bytes. Returns `TooLong` for a longer one, before anything is
+    /// allocated, and `OutOfMemory` if an allocation fails. An empty string doesn't allocate.
     pub fn try_copy(alloc: Global, s: &str) -> Result<ShortString, TryCopyError>
         ensures ok { IfOk result (λ short. short ≡ s.now) }
         ensures fits { OnOk result (length s.now ≤ 255) }
@@ -78,7 +80,7 @@ impl ShortString {
         }
     }
 
-    /// The string as a `str`.
+    /// Returns the string, which has at most 255 bytes.
     pub fn as_str(&self) -> &str
         ensures text { result.now ≡ self.now }
         ensures short { IsShort self.now }
@@ -86,7 +88,8 @@ impl ShortString {
         self.text.as_str()
     }
 
-    /// Copies the string. An empty string doesn't allocate.
+    /// Copies the string, or returns an error if memory for the copy can't be allocated. An empty
+    /// string doesn't allocate.
     pub fn clone(&self, alloc: Global) -> Result<ShortString, AllocError>
         ensures same { IfOk result (λ s. s ≡ self.now) }
         ensures empty { self.now ≡ [] → IsOk result }
@@ -184,7 +187,7 @@ pub struct ShortStringError {
 }
 
 impl ShortStringError {
-    /// The length of the rejected string in bytes.
+    /// Returns the length of the rejected string in bytes, at least 256.
     pub fn length(&self) -> usize
         ensures { result ≡ refused_length self.now }
     {
@@ -206,7 +209,7 @@ impl fmt::Display for ShortStringError {
 
 impl Error for ShortStringError {}
 
-/// The error of `ShortString::try_copy`.
+/// Why `ShortString::try_copy` or a call that makes keys by it failed.
 #[derive(Clone, Copy, Debug, PartialEq, Eq, thiserror::Error)]
 pub enum TryCopyError {
     /// The string has more than 255 bytes.
