@@ -17,7 +17,7 @@ pub struct AMQPFlags {
 }
 
 impl AMQPFlags {
-    /// An empty list of flags. Doesn't allocate.
+    /// Makes an empty list of flags. Doesn't allocate.
     pub fn new_in(alloc: Global) -> Self
         ensures { flags_of result ≡ [] }
     {
@@ -37,7 +37,7 @@ impl AMQPFlags {
         Ok(())
     }
 
-    /// The value of the first flag of that name.
+    /// Returns the value of the first flag of that name, or `None` if there is no such flag.
     pub fn get_flag(&self, name: &str) -> Option<Boolean>
         ensures { result ≡ flag_named name.now (flags_of self.now) }
     {
@@ -49,8 +49,9 @@ impl AMQPFlags {
         None
     }
 
-    /// Packs the flags eight to a byte, the first one in the lowest bit. An empty list packs to no
-    /// bytes, and doesn't allocate.
+    /// Packs the flags eight to a byte, the first one in the lowest bit (AMQP 0-9-1, section
+    /// 4.2.5.2). Returns an error if an allocation fails. An empty list packs to no bytes, and
+    /// doesn't allocate.
     pub fn get_bytes(&self, alloc: Global) -> Result<Vec<u8>, AllocError>
         ensures ok { IfOk result (λ bytes. bytes.items ≡ pack (values_of (flags_of self.now))) }
         ensures err { OnErr result (0 < length (flags_of self.now)) }
@@ -62,8 +63,9 @@ impl AMQPFlags {
         Ok(bytes)
     }
 
-    /// Unpacks a flag for each name that has a bit, in order, the lowest bit of a byte first. If
-    /// there is no such name it doesn't allocate.
+    /// Unpacks a flag for each name that has a bit, in order, the lowest bit of a byte first. Names
+    /// without a bit are left out, and bits without a name ignored. Returns an error if an
+    /// allocation fails; if there is no such name it doesn't allocate.
     pub fn from_bytes<I: ParsableInput>(
         alloc: Global,
         names: &[&str],
@@ -85,7 +87,8 @@ impl AMQPFlags {
         Ok(flags)
     }
 
-    /// Copies the flags.
+    /// Copies the flags and their names, or returns an error if an allocation fails. An empty list
+    /// doesn't allocate.
     pub fn clone(&self, alloc: Global) -> Result<AMQPFlags, AllocError>
         ensures ok { IfOk result (λ copy. flags_of copy ≡ flags_of self.now) }
         ensures err { OnErr result (0 < length (flags_of self.now)) }
@@ -97,7 +100,7 @@ impl AMQPFlags {
         Ok(copy)
     }
 
-    /// The flags as a slice, in order.
+    /// Returns the flags, in order.
     pub fn as_slice(&self) -> &[(String, Boolean)]
         ensures { listed result.now ≡ flags_of self.now }
     {

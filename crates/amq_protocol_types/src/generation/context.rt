@@ -5,7 +5,8 @@ ghost use Rattle.amq_protocol_types.specs.generation.Contexts.{output_of, start_
 
 use crate::generation::{BackToTheBuffer, GenError, GenResult, Output};
 
-/// The context that generators write to: an output, and its position when this context was made.
+/// What serializers write through: an output, and its position when this context was made. `From`
+/// makes one of an output.
 #[derive(Drop)]
 pub struct WriteContext<W: Output> {
     output: W,
@@ -25,7 +26,8 @@ impl<W: Output> From<W> for WriteContext<W> {
 }
 
 impl<W: Output> WriteContext<W> {
-    /// The number of bytes written through this context.
+    /// Returns the number of bytes written through this context. Bytes that the output had before
+    /// don't count.
     pub fn position(&self) -> u64
         ensures { result ≡ (state_of W.seen self.now).position - start_of self.now }
     {

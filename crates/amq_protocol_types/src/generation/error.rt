@@ -1,13 +1,14 @@
 use std::io::ErrorKind;
 use thiserror::Error;
 
-/// The error of a generator or an output.
+/// Why a serializer or an output failed.
 #[derive(Clone, Copy, Debug, PartialEq, Eq, Error)]
 pub enum GenError {
-    /// The bytes don't fit in the buffer.
+    /// The bytes don't fit in the rest of the buffer.
     #[error("buffer too small")]
     BufferTooSmall,
-    /// A length doesn't fit in its length field.
+    /// A string or container has more bytes than its length field can state: 255 for a short
+    /// string, 4294967295 for every other.
     #[error("length too long")]
     LengthTooLong,
     /// An allocation failed.
@@ -21,5 +22,5 @@ pub enum GenError {
     InvalidOffset,
 }
 
-/// What a generator returns.
+/// What a serializer returns: nothing, or why it failed.
 pub type GenResult = Result<(), GenError>;

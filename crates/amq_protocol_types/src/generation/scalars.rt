@@ -14,7 +14,8 @@ use amqp_value_core::types::{
     LongUInt, ShortInt, ShortShortInt, ShortShortUInt, ShortUInt, Timestamp,
 };
 
-/// Writes a type tag, one byte.
+/// Writes the type tag of the type, one byte: `l` for `LongLongUInt`, and `_`, which no parser
+/// accepts, for `ShortString`.
 pub fn gen_type<W: Output>(t: AMQPType, x: &mut WriteContext<W>) -> GenResult
     ensures put { AppendsThrough W.is_buffer W.seen (id_of t ∷ []) x.old result x.new }
     ensures start { KeepsStart x.old x.new }
@@ -30,7 +31,7 @@ pub fn gen_id<W: Output>(n: Identifier, x: &mut WriteContext<W>) -> GenResult
     gen_short_uint(n, x)
 }
 
-/// Writes a boolean in one byte, true as 1.
+/// Writes a boolean in one byte: true as 1, false as 0.
 pub fn gen_boolean<W: Output>(b: Boolean, x: &mut WriteContext<W>) -> GenResult
     ensures put { AppendsThrough W.is_buffer W.seen (spelled (boolean b)) x.old result x.new }
     ensures start { KeepsStart x.old x.new }
@@ -38,7 +39,7 @@ pub fn gen_boolean<W: Output>(b: Boolean, x: &mut WriteContext<W>) -> GenResult
     x.put(&[u8::from(b)])
 }
 
-/// Writes a signed integer in one byte.
+/// Writes a signed integer in one byte, in two's complement.
 pub fn gen_short_short_int<W: Output>(n: ShortShortInt, x: &mut WriteContext<W>) -> GenResult
     ensures put { AppendsThrough W.is_buffer W.seen (to_be_bytes w8 (cast_unsigned w8 n))
         x.old result x.new }
@@ -106,7 +107,8 @@ pub fn gen_long_long_uint<W: Output>(n: LongLongUInt, x: &mut WriteContext<W>) -
     x.put(&u64::to_be_bytes(n))
 }
 
-/// Writes the bits of a floating-point number in four bytes, big-endian.
+/// Writes the bits of a floating-point number in four bytes, big-endian. The bits of a NaN are
+/// kept.
 pub fn gen_float<W: Output>(f: Float, x: &mut WriteContext<W>) -> GenResult
     ensures put { AppendsThrough W.is_buffer W.seen (to_be_bytes w32 (float_bits f))
         x.old result x.new }
@@ -115,7 +117,8 @@ pub fn gen_float<W: Output>(f: Float, x: &mut WriteContext<W>) -> GenResult
     gen_long_uint(f.to_bits(), x)
 }
 
-/// Writes the bits of a floating-point number in eight bytes, big-endian.
+/// Writes the bits of a floating-point number in eight bytes, big-endian. The bits of a NaN are
+/// kept.
 pub fn gen_double<W: Output>(f: Double, x: &mut WriteContext<W>) -> GenResult
     ensures put { AppendsThrough W.is_buffer W.seen (to_be_bytes w64 (double_bits f))
         x.old result x.new }
@@ -124,7 +127,7 @@ pub fn gen_double<W: Output>(f: Double, x: &mut WriteContext<W>) -> GenResult
     gen_long_long_uint(f.to_bits(), x)
 }
 
-/// Writes a time in eight bytes, big-endian.
+/// Writes a time, in seconds since 1970, in eight bytes, big-endian.
 pub fn gen_timestamp<W: Output>(n: Timestamp, x: &mut WriteContext<W>) -> GenResult
     ensures put { AppendsThrough W.is_buffer W.seen (to_be_bytes w64 n) x.old result x.new }
     ensures start { KeepsStart x.old x.new }

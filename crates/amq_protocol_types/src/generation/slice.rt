@@ -4,7 +4,8 @@ ghost use Rattle.amq_protocol_types.specs.generation.Slices.{seen_slice};
 use crate::generation::{BackToTheBuffer, GenError, GenResult, Output};
 use std::marker::Model;
 
-/// A slice as a buffer of fixed capacity, written from its start. Doesn't allocate.
+/// A slice as a buffer of fixed capacity, written from its start. Bytes that don't fit are rejected
+/// with `BufferTooSmall`. Doesn't allocate.
 #[derive(Drop)]
 pub struct SliceOutput<'a> {
     slice: &'a mut [u8],
@@ -30,7 +31,7 @@ impl<'a> SliceOutput<'a> {
         SliceOutput { slice, at: 0 }
     }
 
-    /// The bytes written.
+    /// Returns the bytes written so far.
     pub fn written(&self) -> &[u8]
         ensures { result.now ≡ self.now.put }
     {

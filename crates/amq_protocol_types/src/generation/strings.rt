@@ -29,7 +29,7 @@ pub fn gen_short_string<W: Output>(s: &str, x: &mut WriteContext<W>) -> GenResul
     x.put(s.as_bytes())
 }
 
-/// Writes at most 4294967295 bytes after their length in four bytes.
+/// Writes at most 4294967295 bytes after their length in four bytes, big-endian.
 ///
 /// More bytes are rejected with `LengthTooLong` before a byte is written, whatever the capacity.
 pub fn gen_long_string<W: Output>(s: &[u8], x: &mut WriteContext<W>) -> GenResult
@@ -47,7 +47,7 @@ pub fn gen_long_string<W: Output>(s: &[u8], x: &mut WriteContext<W>) -> GenResul
     x.put(s)
 }
 
-/// Writes at most 4294967295 bytes after their length in four bytes.
+/// Writes at most 4294967295 bytes after their length in four bytes, big-endian.
 ///
 /// More bytes are rejected with `LengthTooLong` before a byte is written, whatever the capacity.
 pub fn gen_byte_array<W: Output>(a: &ByteArray, x: &mut WriteContext<W>) -> GenResult

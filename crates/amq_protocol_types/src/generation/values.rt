@@ -26,6 +26,9 @@ use amqp_value_core::value::AMQPValue;
 /// a value that was parsed, a buffer as long as the bytes it was parsed from is enough. A value
 /// that holds a `ShortString`, except as a key, has no encoding: it is written with the byte `_` as
 /// type tag, and the parsers reject it.
+///
+/// Returns `LengthTooLong` if a string or the body of a container has more than 4294967295 bytes,
+/// and the output's error if the output fails. It uses stack for each level of nesting.
 pub fn gen_value<W: BackToTheBuffer>(v: &AMQPValue, x: &mut WriteContext<W>) -> GenResult
     ensures written { Writes true (Fits (view v.now)) (text (view v.now))
         (state_of W.seen x.old) result (state_of W.seen x.new) }
@@ -54,7 +57,7 @@ fn write_value<W: BackToTheBuffer>(v: &AMQPValue, x: &mut WriteContext<W>) -> Ge
     Ok(())
 }
 
-/// Writes a value's payload, without its type tag.
+/// Writes a value's payload, without its type tag. Errors and memory are as in `gen_value`.
 #[cycle(values)]
 pub fn gen_raw_value<W: BackToTheBuffer>(v: &AMQPValue, x: &mut WriteContext<W>) -> GenResult
     ensures written { Writes true (Fits (view v.now)) (payload (view v.now))
@@ -89,7 +92,9 @@ pub fn gen_raw_value<W: BackToTheBuffer>(v: &AMQPValue, x: &mut WriteContext<W>)
     }
 }
 
-/// Writes an array: the length of its body in four bytes, then its values, each after its type tag.
+/// Writes an array: the length of its body in four bytes, big-endian, then its values, each after
+/// its type tag. Returns `LengthTooLong` if the body, or a string in it, has more than 4294967295
+/// bytes.
 #[cycle(values)]
 pub fn gen_field_array<W: BackToTheBuffer>(a: &FieldArray, x: &mut WriteContext<W>) -> GenResult
     ensures written { Writes true (Fits (array (array_view a.now)))
@@ -112,8 +117,9 @@ pub fn gen_field_array<W: BackToTheBuffer>(a: &FieldArray, x: &mut WriteContext<
     fill_length(at, x)
 }
 
-/// Writes a table: the length of its body in four bytes, then its entries, each its key as a short
-/// string and its value after its type tag, sorted by the keys' bytes.
+/// Writes a table: the length of its body in four bytes, big-endian, then its entries, each its key
+/// as a short string and its value after its type tag, sorted by the keys' bytes. Returns
+/// `LengthTooLong` if the body, or a string in it, has more than 4294967295 bytes.
 #[cycle(values)]
 pub fn gen_field_table<W: BackToTheBuffer>(t: &FieldTable, x: &mut WriteContext<W>) -> GenResult
     ensures written { Writes true (Fits (table (table_view t.now)))

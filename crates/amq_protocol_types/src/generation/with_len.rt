@@ -8,7 +8,7 @@ ghost use Rattle.amq_protocol_types.specs.generation.Lengths.{OnlyAppends, Appen
 use crate::generation::values::fill_length;
 use crate::generation::{BackToTheBuffer, GenResult, WriteContext};
 
-/// Writes the length of what `f` appends in four bytes, then what it appends.
+/// Writes the length of what `f` appends in four bytes, big-endian, then what it appends.
 ///
 /// Precondition: `f` only appends, whatever it returns. If `f` returns an error, that is returned,
 /// and if it appends more than 4294967295 bytes, `LengthTooLong`. On an error the position and the

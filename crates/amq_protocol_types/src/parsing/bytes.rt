@@ -5,7 +5,8 @@ ghost use Rattle.std.specs.Prelude.{◌≡◌, ◌<◌, IfOk, OnErr, length};
 use super::traits::ParsableInput;
 use std::alloc::{AllocError, Global};
 
-/// Copies all bytes of the input. An empty input doesn't allocate.
+/// Copies all bytes of the input into one buffer, or returns an error if memory for them can't be
+/// allocated. An empty input doesn't allocate.
 #[inline(always)]
 pub fn copy_of<I: ParsableInput>(alloc: Global, input: I) -> Result<Vec<u8>, AllocError>
     ensures ok { IfOk result (λ bytes. bytes.items ≡ I.bytes input) }

@@ -8,17 +8,17 @@ use std::error::Error;
 use std::fmt;
 use std::marker::Model;
 
-/// Why a parser returned no value.
+/// Why a parser returned no value. It is used with `ParserErrors`, as `ParserError`.
 #[derive(Clone, Debug, PartialEq, Drop, thiserror::Error)]
 #[error_bound(E: fmt::Display)]
 pub enum Err<E> {
-    /// More bytes are needed: call again with more input.
+    /// The input ended too early. Call again with the same bytes and more after them.
     #[error("incomplete input ({0})")]
     Incomplete(Needed),
-    /// The input is invalid, whatever bytes follow.
+    /// The input is malformed, whatever bytes follow.
     #[error("{0}")]
     Error(E),
-    /// Out of memory, whatever the input is.
+    /// An allocation failed. The same call may succeed later.
     #[error("{0}")]
     Failure(E),
 }
@@ -41,7 +41,8 @@ impl fmt::Display for Needed {
     }
 }
 
-/// The kind of an error.
+/// What is wrong with an input, or that memory ran out. Most names are those of nom, which
+/// `amq-protocol-types` uses.
 #[derive(Clone, Copy, Debug, PartialEq, Eq)]
 pub enum ErrorKind {
     /// The byte is no known type tag.
@@ -57,7 +58,7 @@ pub enum ErrorKind {
     TooLarge,
 }
 
-/// An invalid input, or out of memory.
+/// The error in `Err::Error` or `Err::Failure`: its kind. It has no position.
 #[derive(Clone, Debug, PartialEq, Drop)]
 pub struct ParserErrors {
     kind: ErrorKind,
@@ -106,7 +107,8 @@ pub type ParserError = Err<ParserErrors>;
 /// What a parser returns: the remaining input and a value, or why there is no value.
 pub type ParserResult<I, T> = Result<(I, T), ParserError>;
 
-/// Makes `Incomplete`: `n` more bytes are needed for the field that is being read.
+/// Makes `Incomplete`: `n` more bytes are needed for the field that is being read. For parsers of
+/// one's own.
 pub fn lacks(n: usize) -> ParserError
     ensures { result ≡ lacks n }
 {
@@ -120,7 +122,7 @@ pub(crate) fn refusal(kind: ErrorKind) -> ParserErrors
     ParserErrors { kind }
 }
 
-/// Makes `Error`: the input is invalid.
+/// Makes `Error` of the kind: the input is malformed. For parsers of one's own.
 pub fn error_of_kind(kind: ErrorKind) -> ParserError
     ensures { result ≡ error_of_kind kind }
 {

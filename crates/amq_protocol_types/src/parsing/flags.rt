@@ -10,9 +10,10 @@ use crate::flags::AMQPFlags;
 use std::alloc::Global;
 
 /// Parses a flag for each name: as many bytes as the names need, eight flags to a byte, the lowest
-/// bit of a byte first. Unused bits are ignored.
+/// bit of a byte first (AMQP 0-9-1, section 4.2.5.2). Unused bits are ignored.
 ///
-/// It allocates only if there is a name and the bytes are all there.
+/// Returns `Incomplete` with the number of missing bytes, and `Failure` if an allocation fails. It
+/// allocates only if there is a name and the bytes are all there.
 pub fn parse_flags<I: ParsableInput>(
     alloc: Global,
     i: I,

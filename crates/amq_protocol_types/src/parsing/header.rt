@@ -12,16 +12,16 @@ use super::scalars::{parse_long_uint, parse_type};
 use super::traits::ParsableInput;
 use amqp_value_core::types::AMQPType;
 
-/// What a value's type tag and length determine, whatever bytes follow them.
+/// What the type tag of a value and the length after it determine, whatever bytes follow them.
 #[derive(Clone, Copy, Debug)]
 pub enum Header {
     /// The first byte is no type tag.
     Unknown,
-    /// The value is longer than the limit.
+    /// The value has more bytes than the limit.
     TooLarge,
     /// This many more bytes are needed for the field that is being read.
     Lacks(usize),
-    /// The value is complete, by its header.
+    /// The value is complete, by its type tag and length. Its contents may be malformed.
     Whole,
 }
 
@@ -73,8 +73,9 @@ pub(crate) fn counted_len<I: ParsableInput>(i: I) -> usize
     }
 }
 
-/// The least length of the value at the start of the input, by its type tag and length only, and 0
-/// if there is no type tag. It takes constant time.
+/// Returns how many bytes the value at the start of the input has at least, from its type tag to
+/// its end, by its type tag and length only. If the length is incomplete it counts as 0. Returns 0
+/// if the first byte is no type tag or there is none. It takes constant time and doesn't allocate.
 #[inline(always)]
 pub fn value_len<I: ParsableInput>(i: I) -> usize
     ensures extent { result ≡ extent (I.bytes i) }
@@ -90,7 +91,8 @@ pub fn value_len<I: ParsableInput>(i: I) -> usize
     1 + len
 }
 
-/// Reads the header of a value that may have at most `frame` bytes.
+/// Reads the type tag and the length of a value that may have at most `frame` bytes, the type tag
+/// included. It takes constant time and doesn't allocate.
 #[tactic(auto, using(crate::proofs::lemmas::parsing::Whole::whole_by_header))]
 #[inline(always)]
 pub fn header_of<I: ParsableInput>(i: I, frame: u32) -> Header

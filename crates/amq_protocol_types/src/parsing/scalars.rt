@@ -17,7 +17,8 @@ use amqp_value_core::types::{
     LongUInt, ShortInt, ShortShortInt, ShortShortUInt, ShortUInt, Timestamp,
 };
 
-/// Parses a type tag, one byte.
+/// Parses a type tag, one byte. Returns `Incomplete` if there is none, and `Error` with `MapOpt` if
+/// the byte is no type tag. Doesn't allocate.
 #[inline(always)]
 pub fn parse_type<I: ParsableInput>(i: I) -> ParserResult<I, AMQPType>
     ensures id { MatchResult result
@@ -33,7 +34,7 @@ pub fn parse_type<I: ParsableInput>(i: I) -> ParserResult<I, AMQPType>
     }
 }
 
-/// Parses the number of a class or of a method, two bytes.
+/// Parses the number of a class or of a method, as `parse_short_uint` does.
 #[inline(always)]
 pub fn parse_id<I: ParsableInput>(i: I) -> ParserResult<I, Identifier>
     ensures { ReadsUnsigned w16 I.bytes i result }
@@ -41,7 +42,8 @@ pub fn parse_id<I: ParsableInput>(i: I) -> ParserResult<I, Identifier>
     parse_short_uint(i)
 }
 
-/// Parses a boolean, one byte: 0 is false, every other byte true.
+/// Parses a boolean, one byte: 0 is false, every other byte true. Returns `Incomplete` if there is
+/// none; there is no other error. Doesn't allocate.
 #[inline(always)]
 pub fn parse_boolean<I: ParsableInput>(i: I) -> ParserResult<I, Boolean>
     ensures { ReadsScalar AMQPType.Boolean boolean I.bytes i result }
@@ -50,7 +52,8 @@ pub fn parse_boolean<I: ParsableInput>(i: I) -> ParserResult<I, Boolean>
     Ok((i, byte != 0))
 }
 
-/// Parses an unsigned integer of 8 bits.
+/// Parses an unsigned integer of 8 bits from one byte. Returns `Incomplete(1)` if there is none;
+/// there is no other error. Doesn't allocate.
 #[inline(always)]
 pub fn parse_short_short_uint<I: ParsableInput>(i: I) -> ParserResult<I, ShortShortUInt>
     ensures number { ReadsUnsigned w8 I.bytes i result }
@@ -63,7 +66,8 @@ pub fn parse_short_short_uint<I: ParsableInput>(i: I) -> ParserResult<I, ShortSh
     Ok((i.take_from(1), i.byte_at(0)))
 }
 
-/// Parses an unsigned integer of 16 bits.
+/// Parses an unsigned integer of 16 bits from two bytes, big-endian. Returns `Incomplete` with the
+/// number of missing bytes if there are fewer; there is no other error. Doesn't allocate.
 #[inline(always)]
 pub fn parse_short_uint<I: ParsableInput>(i: I) -> ParserResult<I, ShortUInt>
     ensures number { ReadsUnsigned w16 I.bytes i result }
@@ -77,7 +81,8 @@ pub fn parse_short_uint<I: ParsableInput>(i: I) -> ParserResult<I, ShortUInt>
     Ok((i.take_from(2), n))
 }
 
-/// Parses an unsigned integer of 32 bits.
+/// Parses an unsigned integer of 32 bits from four bytes, big-endian. Returns `Incomplete` with the
+/// number of missing bytes if there are fewer; there is no other error. Doesn't allocate.
 #[inline(always)]
 pub fn parse_long_uint<I: ParsableInput>(i: I) -> ParserResult<I, LongUInt>
     ensures number { ReadsUnsigned w32 I.bytes i result }
@@ -92,8 +97,9 @@ pub fn parse_long_uint<I: ParsableInput>(i: I) -> ParserResult<I, LongUInt>
     Ok((i.take_from(4), n))
 }
 
-/// Parses an unsigned integer of 64 bits. `parse_raw_value` returns the signed integer of the same
-/// bits for it.
+/// Parses an unsigned integer of 64 bits from eight bytes, big-endian. Returns `Incomplete` with
+/// the number of missing bytes if there are fewer; there is no other error. Doesn't allocate. As a
+/// value's payload `parse_raw_value` returns the signed integer of the same bits.
 #[inline(always)]
 pub fn parse_long_long_uint<I: ParsableInput>(i: I) -> ParserResult<I, LongLongUInt>
     ensures { ReadsUnsigned w64 I.bytes i result }
@@ -115,7 +121,8 @@ pub fn parse_long_long_uint<I: ParsableInput>(i: I) -> ParserResult<I, LongLongU
     Ok((i.take_from(8), n))
 }
 
-/// Parses a signed integer of 8 bits.
+/// Parses a signed integer of 8 bits from one byte. Returns `Incomplete(1)` if there is none; there
+/// is no other error. Doesn't allocate.
 #[inline(always)]
 pub fn parse_short_short_int<I: ParsableInput>(i: I) -> ParserResult<I, ShortShortInt>
     ensures { ReadsNumber AMQPType.ShortShortInt (cast_unsigned w8) I.bytes i result }
@@ -124,7 +131,8 @@ pub fn parse_short_short_int<I: ParsableInput>(i: I) -> ParserResult<I, ShortSho
     Ok((i, n.cast_signed()))
 }
 
-/// Parses a signed integer of 16 bits.
+/// Parses a signed integer of 16 bits from two bytes, big-endian. Returns `Incomplete` with the
+/// number of missing bytes if there are fewer; there is no other error. Doesn't allocate.
 #[inline(always)]
 pub fn parse_short_int<I: ParsableInput>(i: I) -> ParserResult<I, ShortInt>
     ensures { ReadsNumber AMQPType.ShortInt (cast_unsigned w16) I.bytes i result }
@@ -133,7 +141,8 @@ pub fn parse_short_int<I: ParsableInput>(i: I) -> ParserResult<I, ShortInt>
     Ok((i, n.cast_signed()))
 }
 
-/// Parses a signed integer of 32 bits.
+/// Parses a signed integer of 32 bits from four bytes, big-endian. Returns `Incomplete` with the
+/// number of missing bytes if there are fewer; there is no other error. Doesn't allocate.
 #[inline(always)]
 pub fn parse_long_int<I: ParsableInput>(i: I) -> ParserResult<I, LongInt>
     ensures { ReadsNumber AMQPType.LongInt (cast_unsigned w32) I.bytes i result }
@@ -142,7 +151,8 @@ pub fn parse_long_int<I: ParsableInput>(i: I) -> ParserResult<I, LongInt>
     Ok((i, n.cast_signed()))
 }
 
-/// Parses a signed integer of 64 bits.
+/// Parses a signed integer of 64 bits from eight bytes, big-endian. Returns `Incomplete` with the
+/// number of missing bytes if there are fewer; there is no other error. Doesn't allocate.
 #[inline(always)]
 pub fn parse_long_long_int<I: ParsableInput>(i: I) -> ParserResult<I, LongLongInt>
     ensures { ReadsNumber AMQPType.LongLongInt (cast_unsigned w64) I.bytes i result }
@@ -151,7 +161,9 @@ pub fn parse_long_long_int<I: ParsableInput>(i: I) -> ParserResult<I, LongLongIn
     Ok((i, n.cast_signed()))
 }
 
-/// Parses a floating-point number of 32 bits.
+/// Parses a floating-point number of 32 bits from four bytes, big-endian. Returns `Incomplete` with
+/// the number of missing bytes if there are fewer; there is no other error. Doesn't allocate. Each
+/// combination of bits is a number, NaN included.
 #[inline(always)]
 pub fn parse_float<I: ParsableInput>(i: I) -> ParserResult<I, Float>
     ensures { ReadsNumber AMQPType.Float float_bits I.bytes i result }
@@ -160,7 +172,9 @@ pub fn parse_float<I: ParsableInput>(i: I) -> ParserResult<I, Float>
     Ok((i, Float::from_bits(bits)))
 }
 
-/// Parses a floating-point number of 64 bits.
+/// Parses a floating-point number of 64 bits from eight bytes, big-endian. Returns `Incomplete`
+/// with the number of missing bytes if there are fewer; there is no other error. Doesn't allocate.
+/// Each combination of bits is a number, NaN included.
 #[inline(always)]
 pub fn parse_double<I: ParsableInput>(i: I) -> ParserResult<I, Double>
     ensures { ReadsNumber AMQPType.Double double_bits I.bytes i result }
@@ -169,7 +183,9 @@ pub fn parse_double<I: ParsableInput>(i: I) -> ParserResult<I, Double>
     Ok((i, Double::from_bits(bits)))
 }
 
-/// Parses a time, an unsigned integer of 64 bits.
+/// Parses a time, an unsigned integer of 64 bits, from eight bytes, big-endian. It is in seconds
+/// since 1970 by the standard (AMQP 0-9-1, section 4.2.5.4), which isn't checked. Returns
+/// `Incomplete` with the number of missing bytes if there are fewer. Doesn't allocate.
 #[inline(always)]
 pub fn parse_timestamp<I: ParsableInput>(i: I) -> ParserResult<I, Timestamp>
     ensures { ReadsNumber AMQPType.Timestamp (λ n. n) I.bytes i result }
@@ -178,8 +194,9 @@ pub fn parse_timestamp<I: ParsableInput>(i: I) -> ParserResult<I, Timestamp>
     Ok((i, seconds))
 }
 
-/// Parses a decimal number: its scale in one byte, then its digits as an unsigned integer of 32
-/// bits.
+/// Parses a decimal number: its scale in one byte, then its digits as an unsigned integer in four
+/// bytes, big-endian. Returns `Incomplete` with the number of bytes that the scale, or then the
+/// digits, are missing; there is no other error. Doesn't allocate.
 #[inline(always)]
 pub fn parse_decimal_value<I: ParsableInput>(i: I) -> ParserResult<I, DecimalValue>
     ensures { ReadsScalar AMQPType.DecimalValue (λ d. decimal d.scale d.value) I.bytes i result }

@@ -17,10 +17,12 @@ use super::traits::ParsableInput;
 use amqp_value_core::types::{AMQPType, ByteArray, LongString, ShortString, TryCopyError};
 use std::alloc::Global;
 
-/// Parses a short string: its length in one byte, then its bytes, which must be UTF-8.
+/// Parses a short string: its length in one byte, then its bytes, which must be UTF-8 (AMQP 0-9-1,
+/// section 4.2.5.3).
 ///
-/// If all bytes are there and they aren't UTF-8 it returns `MapRes`. It allocates only for a string
-/// that isn't empty.
+/// Returns `Incomplete` with the number of missing bytes, first for the length and then for the
+/// bytes; `Error` with `MapRes` if all bytes are there and they aren't UTF-8; `Failure` if an
+/// allocation fails. It allocates only for a string that isn't empty.
 #[inline(always)]
 pub fn parse_short_string<I: ParsableInput>(alloc: Global, i: I) -> ParserResult<I, ShortString>
     ensures { MatchResult result
@@ -77,9 +79,11 @@ fn text_of(bytes: &[u8]) -> Option<&str>
     }
 }
 
-/// Parses a long string: its length in four bytes, then its bytes, which are arbitrary.
+/// Parses a long string: its length in four bytes, big-endian, then its bytes, which are arbitrary.
 ///
-/// It allocates only for a string that isn't empty and whose bytes are all there.
+/// Returns `Incomplete` with the number of missing bytes, first for the length and then for the
+/// bytes, and `Failure` if an allocation fails. It allocates only for a string that isn't empty and
+/// whose bytes are all there.
 #[inline(always)]
 pub fn parse_long_string<I: ParsableInput>(alloc: Global, i: I) -> ParserResult<I, LongString>
     ensures { MatchResult result
@@ -93,9 +97,8 @@ pub fn parse_long_string<I: ParsableInput>(alloc: Global, i: I) -> ParserResult<
     Ok((i, LongString::from(bytes)))
 }
 
-/// Parses a byte array: its length in four bytes, then its bytes.
-///
-/// It allocates only for an array that isn't empty and whose bytes are all there.
+/// Parses a byte array: its length in four bytes, big-endian, then its bytes. Errors and memory are
+/// as in `parse_long_string`.
 pub fn parse_byte_array<I: ParsableInput>(alloc: Global, i: I) -> ParserResult<I, ByteArray>
     ensures { MatchResult result
         (λ x. RawOutcome AMQPType.ByteArray (I.bytes i)
@@ -108,8 +111,9 @@ pub fn parse_byte_array<I: ParsableInput>(alloc: Global, i: I) -> ParserResult<I
     Ok((i, ByteArray::from(bytes)))
 }
 
-/// Parses a length-prefixed field: a length in four bytes, then as many bytes, if all of them are
-/// there.
+/// Parses a length in four bytes, big-endian, and returns as many bytes after it, as an input of
+/// their own. Returns `Incomplete` with the number of missing bytes, first for the length and then
+/// for the bytes; there is no other error. It doesn't copy or allocate.
 #[inline(always)]
 pub fn parse_length_prefixed<I: ParsableInput>(i: I) -> ParserResult<I, I>
     ensures { MatchResult result

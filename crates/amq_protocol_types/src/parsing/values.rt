@@ -67,9 +67,11 @@ pub(crate) fn value_within<I: ParsableInput>(
     payload_within(alloc, amqp_type, i, depth)
 }
 
-/// Parses the payload of a value of the type.
+/// Parses the payload of a value of the type, without its type tag.
 ///
-/// For `LongLongUInt` it returns the `LongLongInt` of the same bits.
+/// For `LongLongUInt` it returns the `LongLongInt` of the same bits. Errors and memory are as in
+/// `parse_value`, except that there is no type tag to reject, and that a complete `ShortString`
+/// that isn't UTF-8 is `MapRes`. Like `parse_value` it has no limit on nesting.
 #[inline(always)]
 pub fn parse_raw_value<I: ParsableInput>(
     alloc: Global,
@@ -180,9 +182,13 @@ fn payload_within<I: ParsableInput>(
     }
 }
 
-/// Parses an array: the length of its body in four bytes, then its values, each after its type tag.
+/// Parses an array: the length of its body in four bytes, big-endian, then its values, each after
+/// its type tag. Containers may nest as deep as the input is long: for bytes from untrusted peers
+/// use `parse_field_array_within`.
 ///
-/// All bytes of the body must be there before any value in it is parsed.
+/// Returns `Incomplete` until all bytes of the body are there: before that no value in it is
+/// parsed. Then a malformed value, or one that the body cuts off, is `Eof`, and a failed allocation
+/// `Failure`.
 #[inline(always)]
 pub fn parse_field_array<I: ParsableInput>(alloc: Global, i: I) -> ParserResult<I, FieldArray>
     ensures { MatchResult result
@@ -216,7 +222,11 @@ pub(crate) fn array_within<I: ParsableInput>(
     Ok((i, array))
 }
 
-/// Parses the body of an array: values one after another, to its end.
+/// Parses the body of an array: values one after another, to its end. Containers in it may nest at
+/// most `depth` deep: 0 allows none.
+///
+/// Returns `Error` with `Eof` if the bytes aren't such a body, and `Failure` if an allocation
+/// fails. It never returns `Incomplete`. An empty body doesn't allocate.
 #[cycle(parser)]
 #[inline(never)]
 pub fn parse_array_body<I: ParsableInput>(
@@ -241,10 +251,14 @@ pub fn parse_array_body<I: ParsableInput>(
     Ok(array)
 }
 
-/// Parses a table: the length of its body in four bytes, then its entries, each a key as a short
-/// string and a value after its type tag. Of equal keys the last one's value is retained.
+/// Parses a table: the length of its body in four bytes, big-endian, then its entries, each a key
+/// as a short string and a value after its type tag. Of equal keys the last one's value is
+/// retained. Containers may nest as deep as the input is long: for bytes from untrusted peers use
+/// `parse_field_table_within`.
 ///
-/// All bytes of the body must be there before any entry in it is parsed.
+/// Returns `Incomplete` until all bytes of the body are there: before that no entry in it is
+/// parsed. Then a malformed entry, or one that the body cuts off, is `Eof`, and a failed allocation
+/// `Failure`.
 #[inline(always)]
 pub fn parse_field_table<I: ParsableInput>(alloc: Global, i: I) -> ParserResult<I, FieldTable>
     ensures { MatchResult result
@@ -278,7 +292,11 @@ pub(crate) fn table_within<I: ParsableInput>(
     Ok((i, table))
 }
 
-/// Parses the body of a table: keys, each with a value, one after another, to its end.
+/// Parses the body of a table: keys, each with a value, one after another, to its end. Containers
+/// in it may nest at most `depth` deep: 0 allows none.
+///
+/// Returns `Error` with `Eof` if the bytes aren't such a body, and `Failure` if an allocation
+/// fails. It never returns `Incomplete`. An empty body doesn't allocate.
 #[cycle(parser)]
 #[inline(never)]
 pub fn parse_table_body<I: ParsableInput>(

@@ -40,7 +40,8 @@ impl<R: Source> ValueReader<R> {
     }
 
     /// Reads the next value; returns `None` if the reader ended after the value before. After
-    /// `None` a later call asks the reader again.
+    /// `None` a later call asks the reader again. After `Refused` or `Truncated` each later call
+    /// returns `Failed`, and after `Read` or `OutOfMemory` it continues.
     pub fn next(&mut self) -> Result<Option<AMQPValue>, StreamError>
         ensures { ReadsNext R.Source (values_of self.old) (reader_of self.old) result
             (values_of self.new) (reader_of self.new) }

@@ -47,7 +47,8 @@ impl Values {
     }
 
     /// Reads the next value; returns `None` if the reader ended after the value before. The reader
-    /// may be another one each time: an incomplete value is continued from it.
+    /// may be another one each time: an incomplete value is continued from it. Errors are as in
+    /// `ValueReader::next`.
     pub fn next_from<R: Source>(&mut self, reader: &mut R) -> Result<Option<AMQPValue>, StreamError>
         ensures { ReadsNext R.Source self.old reader.old result self.new reader.new }
     {
