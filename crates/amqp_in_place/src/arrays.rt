@@ -20,21 +20,22 @@ use amqp_value_core::types::FieldArray;
 use std::alloc::{AllocError, Global};
 
 impl<'a> ArrayRef<'a> {
-    /// The bytes of its body: those after its length.
+    /// Returns the bytes of the body: those after its length.
     pub fn as_bytes(self) -> &'a [u8]
         ensures { result.now ≡ array_body self.entry }
     {
         self.body().as_slice()
     }
 
-    /// Whether the array is empty.
+    /// Returns whether the array has no values.
     pub fn is_empty(self) -> bool
         ensures { (vs : Trees) → ArrayBody (array_body self.entry) vs → IsTrue result ↔ (vs ≡ no_trees) }
     {
         self.body().input_len() == 0
     }
 
-    /// Returns the value at `index`, counted from 0. Iterates over the values before it.
+    /// Returns the value at `index`, counted from 0, or `None` if the array has no more than
+    /// `index` values. Skips over the values before it one by one, and doesn't allocate.
     pub fn get(self, index: usize) -> Option<ValueRef<'a>>
         ensures value { (vs : Trees) → ArrayBody (array_body self.entry) vs → FoundIs (tree_at index vs) result }
         ensures written { (ts : Trees) → WrittenValues (array_body self.entry) ts → WrittenIs (tree_at index ts) result }
@@ -44,8 +45,9 @@ impl<'a> ArrayRef<'a> {
         nth_value(self.body(), index)
     }
 
-    /// Copies the array to an owned one, the one that `parse_value` returns. An empty array doesn't
-    /// allocate. It uses stack for each level of nesting; docs/PROMISES.md has measurements.
+    /// Copies the array to the owned one that `parse_value` returns. Returns an error if an
+    /// allocation fails; an empty array doesn't allocate. It uses stack for each level of nesting;
+    /// docs/PROMISES.md has measurements.
     #[tactic(auto, using(amqp_value_core::proofs::GrammarLaws::body_of))]
     pub fn to_owned(self, alloc: Global) -> Result<FieldArray, AllocError>
         ensures { MatchResult result

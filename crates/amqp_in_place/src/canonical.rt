@@ -12,8 +12,8 @@ use amq_protocol_types::parsing::header::{Header, header_of};
 use amqp_value_core::input::{ParsableInput, SliceInput};
 use amqp_value_core::types::AMQPType;
 
-/// Whether the bytes are exactly the canonical encoding of a value within the limits. It doesn't
-/// allocate.
+/// Returns whether the bytes are exactly the canonical encoding of a value within the limits. It
+/// doesn't allocate.
 ///
 /// The canonical encoding is the one that `gen_value` writes: no alternate type tag (`U` or `L`), a
 /// boolean's byte 0 or 1, and the keys of each table strictly ascending by their bytes.
@@ -26,8 +26,8 @@ pub fn is_canonical(bytes: &[u8], limits: Limits) -> bool
     canonical_len(bytes, limits) == Some(bytes.len())
 }
 
-/// The length of the canonical encoding at the start of the bytes, or `None` if there is none
-/// within the limits.
+/// Returns the length in bytes of the canonical encoding at the start of the bytes, or `None` if
+/// there is none within the limits.
 ///
 /// All of the value is checked, keys' UTF-8 too, in one pass. Nothing is copied or allocated. By
 /// measurements it uses stack for at most `limits.depth` levels; docs/PROMISES.md has what one
@@ -44,8 +44,8 @@ pub fn canonical_len(bytes: &[u8], limits: Limits) -> Option<usize>
     Some(bytes.len() - rest.input_len())
 }
 
-/// Whether the bytes are exactly the canonical encoding of a table within the limits, without its
-/// type tag: its length, then its pairs. It doesn't allocate.
+/// Returns whether the bytes are exactly the canonical encoding of a table within the limits,
+/// without its type tag: its length, then its pairs. It doesn't allocate.
 ///
 /// The limits count the type tag as if it were there.
 pub fn is_canonical_table(bytes: &[u8], limits: Limits) -> bool
@@ -57,8 +57,8 @@ pub fn is_canonical_table(bytes: &[u8], limits: Limits) -> bool
     canonical_table_len(bytes, limits) == Some(bytes.len())
 }
 
-/// The length of the canonical encoding of a table at the start of the bytes, without its type tag,
-/// or `None` if there is none within the limits.
+/// Returns the length in bytes of the canonical encoding of a table at the start of the bytes,
+/// without its type tag, or `None` if there is none within the limits.
 ///
 /// The limits count the type tag as if it were there, and the result doesn't. It checks what
 /// `canonical_len` does, in one pass, and doesn't allocate.

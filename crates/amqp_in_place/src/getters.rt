@@ -6,7 +6,8 @@ use amqp_value_core::types::{
     ShortShortInt, ShortShortUInt, ShortUInt, Timestamp,
 };
 
-/// Each getter returns the field of its variant, and `None` for every other.
+/// Getters. None of them converts: `as_long_int` returns `None` for a `ShortInt`. None allocates:
+/// strings, byte arrays and containers are borrowed from the encoding.
 impl<'a> ValueRef<'a> {
     ghost use Rattle.std.specs.Prelude.{◌≡◌, option_map, is_some};
     ghost use Rattle.std.specs.Int.{w8, w16, w32, w64, cast_unsigned};
@@ -16,7 +17,8 @@ impl<'a> ValueRef<'a> {
     ghost use Rattle.amqp_value_core.specs.Getters.{truth_in, number_in, decimal_in, long_in, octets_in, array_in, table_in, is_void};
     ghost use Rattle.amqp_in_place.specs.Refs.{Denotes, ArrayIs, TableIs, array_body, table_body, array_bytes, table_bytes};
 
-    /// The type of the value.
+    /// Returns the type of the value. It is never `ShortString` or `LongLongUInt`, which have no
+    /// type tag.
     pub fn get_type(self) -> AMQPType
         ensures { (v : Tree) → Denotes self.entry v → result ≡ type_of v }
     {
@@ -41,7 +43,7 @@ impl<'a> ValueRef<'a> {
         }
     }
 
-    /// The boolean, of a `Boolean`.
+    /// Returns the boolean, or `None` if the value isn't a `Boolean`.
     pub fn as_bool(self) -> Option<Boolean>
         ensures { (v : Tree) → Denotes self.entry v → result ≡ truth_in v }
     {
@@ -51,7 +53,7 @@ impl<'a> ValueRef<'a> {
         }
     }
 
-    /// The number, of a `ShortShortInt`.
+    /// Returns the signed integer of 8 bits, or `None` if the value isn't a `ShortShortInt`.
     pub fn as_short_short_int(self) -> Option<ShortShortInt>
         ensures { (v : Tree) → Denotes self.entry v
             → option_map (cast_unsigned w8) result ≡ number_in amqp.ShortShortInt v }
@@ -62,7 +64,7 @@ impl<'a> ValueRef<'a> {
         }
     }
 
-    /// The number, of a `ShortShortUInt`.
+    /// Returns the unsigned integer of 8 bits, or `None` if the value isn't a `ShortShortUInt`.
     pub fn as_short_short_uint(self) -> Option<ShortShortUInt>
         ensures { (v : Tree) → Denotes self.entry v → result ≡ number_in amqp.ShortShortUInt v }
     {
@@ -72,7 +74,7 @@ impl<'a> ValueRef<'a> {
         }
     }
 
-    /// The number, of a `ShortInt`.
+    /// Returns the signed integer of 16 bits, or `None` if the value isn't a `ShortInt`.
     pub fn as_short_int(self) -> Option<ShortInt>
         ensures { (v : Tree) → Denotes self.entry v
             → option_map (cast_unsigned w16) result ≡ number_in amqp.ShortInt v }
@@ -83,7 +85,7 @@ impl<'a> ValueRef<'a> {
         }
     }
 
-    /// The number, of a `ShortUInt`.
+    /// Returns the unsigned integer of 16 bits, or `None` if the value isn't a `ShortUInt`.
     pub fn as_short_uint(self) -> Option<ShortUInt>
         ensures { (v : Tree) → Denotes self.entry v → result ≡ number_in amqp.ShortUInt v }
     {
@@ -93,7 +95,7 @@ impl<'a> ValueRef<'a> {
         }
     }
 
-    /// The number, of a `LongInt`.
+    /// Returns the signed integer of 32 bits, or `None` if the value isn't a `LongInt`.
     pub fn as_long_int(self) -> Option<LongInt>
         ensures { (v : Tree) → Denotes self.entry v
             → option_map (cast_unsigned w32) result ≡ number_in amqp.LongInt v }
@@ -104,7 +106,7 @@ impl<'a> ValueRef<'a> {
         }
     }
 
-    /// The number, of a `LongUInt`.
+    /// Returns the unsigned integer of 32 bits, or `None` if the value isn't a `LongUInt`.
     pub fn as_long_uint(self) -> Option<LongUInt>
         ensures { (v : Tree) → Denotes self.entry v → result ≡ number_in amqp.LongUInt v }
     {
@@ -114,7 +116,7 @@ impl<'a> ValueRef<'a> {
         }
     }
 
-    /// The number, of a `LongLongInt`.
+    /// Returns the signed integer of 64 bits, or `None` if the value isn't a `LongLongInt`.
     pub fn as_long_long_int(self) -> Option<LongLongInt>
         ensures { (v : Tree) → Denotes self.entry v
             → option_map (cast_unsigned w64) result ≡ number_in amqp.LongLongInt v }
@@ -125,7 +127,7 @@ impl<'a> ValueRef<'a> {
         }
     }
 
-    /// The number, of a `Float`.
+    /// Returns the floating-point number of 32 bits, or `None` if the value isn't a `Float`.
     pub fn as_float(self) -> Option<Float>
         ensures { (v : Tree) → Denotes self.entry v
             → option_map float_bits result ≡ number_in amqp.Float v }
@@ -136,7 +138,7 @@ impl<'a> ValueRef<'a> {
         }
     }
 
-    /// The number, of a `Double`.
+    /// Returns the floating-point number of 64 bits, or `None` if the value isn't a `Double`.
     pub fn as_double(self) -> Option<Double>
         ensures { (v : Tree) → Denotes self.entry v
             → option_map double_bits result ≡ number_in amqp.Double v }
@@ -147,7 +149,7 @@ impl<'a> ValueRef<'a> {
         }
     }
 
-    /// The decimal number, of a `DecimalValue`.
+    /// Returns the decimal number, or `None` if the value isn't a `DecimalValue`.
     pub fn as_decimal_value(self) -> Option<DecimalValue>
         ensures { (v : Tree) → Denotes self.entry v
             → option_map (λ d. (d.scale, d.value)) result ≡ decimal_in v }
@@ -158,7 +160,8 @@ impl<'a> ValueRef<'a> {
         }
     }
 
-    /// The bytes, of a `LongString`.
+    /// Returns the bytes of the string, which may not be UTF-8, or `None` if the value isn't a
+    /// `LongString`.
     pub fn as_long_string(self) -> Option<&'a [u8]>
         ensures { (v : Tree) → Denotes self.entry v → option_map (λ s. s.now) result ≡ long_in v }
     {
@@ -168,7 +171,7 @@ impl<'a> ValueRef<'a> {
         }
     }
 
-    /// The array, of a `FieldArray`.
+    /// Returns the array, or `None` if the value isn't a `FieldArray`.
     pub fn as_array(self) -> Option<ArrayRef<'a>>
         ensures value { (v : Tree) → Denotes self.entry v → ArrayIs (array_in v) result }
         ensures bytes { option_map array_body result ≡ array_bytes self.entry }
@@ -179,7 +182,7 @@ impl<'a> ValueRef<'a> {
         }
     }
 
-    /// The time, of a `Timestamp`.
+    /// Returns the time in seconds since 1970, or `None` if the value isn't a `Timestamp`.
     pub fn as_timestamp(self) -> Option<Timestamp>
         ensures { (v : Tree) → Denotes self.entry v → result ≡ number_in amqp.Timestamp v }
     {
@@ -189,7 +192,7 @@ impl<'a> ValueRef<'a> {
         }
     }
 
-    /// The table, of a `FieldTable`.
+    /// Returns the table, or `None` if the value isn't a `FieldTable`.
     pub fn as_field_table(self) -> Option<TableRef<'a>>
         ensures value { (v : Tree) → Denotes self.entry v → TableIs (table_in v) result }
         ensures bytes { option_map table_body result ≡ table_bytes self.entry }
@@ -200,7 +203,7 @@ impl<'a> ValueRef<'a> {
         }
     }
 
-    /// The bytes, of a `ByteArray`.
+    /// Returns the bytes, or `None` if the value isn't a `ByteArray`.
     pub fn as_byte_array(self) -> Option<&'a [u8]>
         ensures { (v : Tree) → Denotes self.entry v
             → option_map (λ s. s.now) result ≡ octets_in v }
@@ -211,7 +214,7 @@ impl<'a> ValueRef<'a> {
         }
     }
 
-    /// `Some(())`, of `Void`.
+    /// Returns `Some(())` if the value is `Void`, and `None` if it has another type.
     pub fn as_void(self) -> Option<()>
         ensures { (v : Tree) → Denotes self.entry v → is_some result ≡ is_void v }
     {

@@ -14,8 +14,8 @@ pub struct ArrayValues<'a> {
     ghost well_formed: { ∥ HasValues (slice_bytes values) ∥₁ },
 }
 
-/// An iterator over the pairs of a table, in the order in which they are written. A key may occur
-/// more than once: the last pair's value counts.
+/// An iterator over the remaining pairs of a table, in the order in which they are written. A key
+/// may occur more than once: the last pair's value counts.
 #[derive(Drop)]
 pub struct TablePairs<'a> {
     pairs: SliceInput<'a>,

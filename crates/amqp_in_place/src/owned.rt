@@ -12,9 +12,9 @@ use amqp_value_core::value::AMQPValue;
 use std::alloc::{AllocError, Global};
 
 impl<'a> ValueRef<'a> {
-    /// Copies the value to an owned one, the one that `parse_value` returns. A number, a boolean,
-    /// Void and what is empty don't allocate. It uses stack for each level of nesting;
-    /// docs/PROMISES.md has measurements.
+    /// Copies the value to the owned one that `parse_value` returns. Returns an error if an
+    /// allocation fails; a number, a boolean, Void and what is empty don't allocate. It uses stack
+    /// for each level of nesting; docs/PROMISES.md has measurements.
     pub fn to_owned(self, alloc: Global) -> Result<AMQPValue, AllocError>
         ensures { MatchResult result (λ v. Denotes self.entry (view v)) (λ _. HasBytes self.entry) }
     {

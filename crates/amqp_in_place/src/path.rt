@@ -25,7 +25,7 @@ pub enum PathStep<'p> {
 pub enum EqualKeys {
     /// The first pair: [`TableRef::get_first`].
     First,
-    /// The last pair, as this library and the Rust crate take: [`TableRef::get`].
+    /// The last pair, as in the tree that `parse_value` returns: [`TableRef::get`].
     Last,
 }
 

@@ -22,7 +22,7 @@ pub enum Rules {
     Reading,
     /// What `read_in_place` reads, and any bytes as keys.
     AnyKeys,
-    /// What RabbitMQ takes, as was found by tests: any bytes as keys, but no type tag `U`, and no
+    /// What RabbitMQ accepts, as was found by tests: any bytes as keys, but no type tag `U`, and no
     /// Float or Double that is an infinity or a NaN.
     RabbitMq,
 }
@@ -42,7 +42,7 @@ pub struct Problem {
 pub enum ProblemKind {
     /// The byte isn't a type tag, or none that RabbitMQ knows.
     UnknownTag(u8),
-    /// The number in a Float or a Double is an infinity or a NaN, which RabbitMQ doesn't take.
+    /// The number in a Float or a Double is an infinity or a NaN, which RabbitMQ rejects.
     NotFinite,
     /// The value, by its type tag and its length, goes past the end of its container or of the
     /// input; or there is no value, after a key or in an empty input.
@@ -86,14 +86,14 @@ impl Problem {
     }
 }
 
-/// The first problem, by its offset, in the value at the start of the bytes, or `None` if the rules
-/// allow it and it is within the limits. It doesn't allocate.
+/// Returns the first problem, by its offset, in the value at the start of the bytes, or `None` if
+/// the rules allow the value and it is within the limits. It doesn't allocate.
 ///
 /// A value longer than `limits.frame` is `TooLarge`, and nothing in it is looked at. A complete
 /// container deeper than `limits.depth` is `TooDeep`, and it recurses no deeper. A boolean may be
 /// any byte. If `read_in_place` needs more bytes, the value is `Cut`, at 0, but by
-/// `Rules::RabbitMq` one with the type tag `U` is `UnknownTag`. By `Rules::Reading` there is none
-/// exactly if `read_in_place` returns a value.
+/// `Rules::RabbitMq` one with the type tag `U` is `UnknownTag`. By `Rules::Reading` there is no
+/// problem if, and only if, `read_in_place` returns a value.
 #[inline(always)]
 pub fn first_problem(bytes: &[u8], rules: Rules, limits: Limits) -> Option<Problem>
     ensures first { result ≡ problem_of rules limits bytes.now }
@@ -142,10 +142,10 @@ fn is_table_read(table: &[u8], rules: Rules, limits: Limits) -> bool
     }
 }
 
-/// The first problem in a table without its type tag, which begins with its length, as in methods
-/// and content headers. It doesn't allocate.
+/// Returns the first problem in a table without its type tag, which begins with its length. It
+/// doesn't allocate.
 ///
-/// It is what `first_problem` returns for the table with its type tag, but for the offset, which
+/// The problem is the one that `first_problem` returns for the table with its type tag. Its offset
 /// counts from the length on, and is 0 for the table itself. The limit `frame` counts the type tag
 /// too.
 #[inline(always)]

@@ -15,8 +15,9 @@ use crate::problems::{self, Rules};
 use amq_protocol_types::parsing::Limits;
 pub use warning::{CLIENT_LEVELS, Warned, warnings, warnings_in_table};
 
-/// The first problem that RabbitMQ has with the value at the start of the bytes:
-/// `amqp_in_place::first_problem` by its rules.
+/// Returns the first problem that RabbitMQ has with the value at the start of the bytes, or `None`
+/// if it accepts the value and the value is within the limits: `amqp_in_place::first_problem` by
+/// `Rules::RabbitMq`.
 pub fn first_problem(bytes: &[u8], limits: Limits) -> Option<Problem>
     ensures first { result ≡ problem_of RabbitMq limits bytes.now }
     ensures inside { IfSome result (λ p. p.offset ≤ length bytes.now) }
@@ -24,7 +25,9 @@ pub fn first_problem(bytes: &[u8], limits: Limits) -> Option<Problem>
     problems::first_problem(bytes, Rules::RabbitMq, limits)
 }
 
-/// That in a table without its type tag: `amqp_in_place::first_problem_in_table` by RabbitMQ's rules.
+/// Returns the first problem that RabbitMQ has with a table without its type tag, or `None` if it
+/// accepts the table and the table is within the limits: `amqp_in_place::first_problem_in_table` by
+/// `Rules::RabbitMq`.
 pub fn first_problem_in_table(table: &[u8], limits: Limits) -> Option<Problem>
     ensures first { result ≡ problem_in_table_of RabbitMq limits table.now }
     ensures inside { IfSome result (λ p. p.offset ≤ length table.now) }

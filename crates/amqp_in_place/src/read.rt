@@ -76,7 +76,7 @@ pub fn read_in_place_unlimited(bytes: &[u8]) -> Result<(ValueRef<'_>, &[u8]), Pa
 }
 
 /// Reads a table without its type tag in place, as AMQP methods and content headers have it: its
-/// length, then its pairs.
+/// length in four bytes, big-endian, then its pairs.
 ///
 /// It returns what `read_in_place` does of the type tag `F` and the bytes, within the same limits:
 /// `frame` counts the type tag, and `depth` the table. Nothing is copied or allocated. It recurses

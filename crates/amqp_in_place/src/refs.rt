@@ -9,22 +9,24 @@ use amqp_value_core::types::{
     ShortShortUInt, ShortUInt, Timestamp,
 };
 
-/// A borrowed view of an encoded array.
+/// A borrowed view of an encoded array, which was validated. Copies are cheap: it is a reference to
+/// the encoding.
 #[derive(Clone, Copy)]
 pub struct ArrayRef<'a> {
     body: SliceInput<'a>,
     ghost well_formed: { ∥ HasValues (slice_bytes body) ∥₁ },
 }
 
-/// A borrowed view of an encoded table.
+/// A borrowed view of an encoded table, which was validated. Copies are cheap: it is a reference to
+/// the encoding.
 #[derive(Clone, Copy)]
 pub struct TableRef<'a> {
     body: SliceInput<'a>,
     ghost well_formed: { ∥ HasPairs (slice_bytes body) ∥₁ },
 }
 
-/// A borrowed view of an encoded value, with its type. It is never a short string, which has no
-/// type tag.
+/// A borrowed view of an encoded value, which was validated, with its type. It is never a short
+/// string, which has no type tag.
 #[derive(Clone, Copy)]
 pub enum ValueRef<'a> {
     /// A boolean.
@@ -47,13 +49,13 @@ pub enum ValueRef<'a> {
     Float(Float),
     /// A floating-point number of 64 bits.
     Double(Double),
-    /// A decimal number.
+    /// A decimal number: an unsigned integer and the place of its decimal point.
     DecimalValue(DecimalValue),
-    /// Arbitrary bytes, which most peers take for a string.
+    /// A string: arbitrary bytes, which most peers take for UTF-8.
     LongString(&'a [u8]),
     /// A list of values, each with its type.
     FieldArray(ArrayRef<'a>),
-    /// A time, an unsigned integer of 64 bits: by the specification, seconds since 1970.
+    /// A time, in seconds since 1970. Every number of 64 bits is accepted.
     Timestamp(Timestamp),
     /// A map from short strings to values, each with its type.
     FieldTable(TableRef<'a>),

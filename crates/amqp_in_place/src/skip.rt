@@ -11,11 +11,11 @@ use super::head::read_head;
 use amq_protocol_types::parsing::ParserError;
 use amqp_value_core::input::{ParsableInput, SliceInput};
 
-/// The length of the value at the start of the bytes, by its type tag and its length field only: in
-/// constant time, and whether or not the body of a container holds entries.
+/// Returns the length in bytes of the value at the start of the bytes, by its type tag and its
+/// length field only: in constant time, and whether or not the body of a container holds entries.
 ///
-/// It rejects an unknown type tag, as `parse_value` does, and asks for more bytes whenever that
-/// does.
+/// It rejects an unknown type tag, as `parse_value` does, and returns `Incomplete` whenever that
+/// does. It doesn't allocate.
 #[tactic(auto, using(crate::proofs::Skipping::skipped, crate::proofs::Skipping::width_of_found, crate::proofs::Skipping::refused_so))]
 pub fn skip_value(bytes: &[u8]) -> Result<usize, ParserError>
     ensures extent { IfOk result (λ n. n ≡ extent bytes.now) }

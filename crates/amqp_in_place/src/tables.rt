@@ -24,14 +24,14 @@ use amqp_value_core::types::FieldTable;
 use std::alloc::{AllocError, Global};
 
 impl<'a> TableRef<'a> {
-    /// The bytes of its body: those after its length.
+    /// Returns the bytes of the body: those after its length.
     pub fn as_bytes(self) -> &'a [u8]
         ensures { result.now ≡ table_body self.entry }
     {
         self.body().as_slice()
     }
 
-    /// Whether the table is empty.
+    /// Returns whether the table has no pairs.
     #[tactic(auto, using(crate::proofs::Lookups::no_pairs_at))]
     pub fn is_empty(self) -> bool
         ensures { (ps : Entries) → TableBody (table_body self.entry) ps → IsTrue result ↔ (ps ≡ no_entries) }
@@ -39,8 +39,9 @@ impl<'a> TableRef<'a> {
         self.body().input_len() == 0
     }
 
-    /// Returns the value at the key: of equal keys the last pair's. Skips over all pairs by their
-    /// lengths, and reads the value that is found.
+    /// Returns the value at the key, of equal keys the last pair's, or `None` if no pair has the
+    /// key. Skips over all pairs by their lengths, and reads the value that is found. Doesn't
+    /// allocate.
     pub fn get(self, key: &str) -> Option<ValueRef<'a>>
         ensures value { (es : Entries) → HasEntries (table_body self.entry) es → FoundIs (value_at key.now es) result }
         ensures written { (ps : Entries) → WrittenPairs (table_body self.entry) ps → WrittenIs (last_at key.now ps) result }
@@ -50,8 +51,9 @@ impl<'a> TableRef<'a> {
         value_there(last_place(self.as_bytes(), key.as_bytes()))
     }
 
-    /// Returns the value of the first pair with the key; `get` returns the last pair's. Skips over
-    /// the pairs before it by their lengths, and reads none after it.
+    /// Returns the value of the first pair with the key, or `None` if no pair has it; `get` returns
+    /// the last pair's. Skips over the pairs before it by their lengths, and reads none after it.
+    /// Doesn't allocate.
     pub fn get_first(self, key: &str) -> Option<ValueRef<'a>>
         ensures value { (ps : Entries) → TableBody (table_body self.entry) ps → FoundIs (first_at key.now ps) result }
         ensures written { (ps : Entries) → WrittenPairs (table_body self.entry) ps → WrittenIs (first_at key.now ps) result }
@@ -61,15 +63,17 @@ impl<'a> TableRef<'a> {
         value_there(first_place(self.as_bytes(), key.as_bytes()))
     }
 
-    /// Whether the table has the key.
+    /// Returns whether a pair has the key. Skips over the pairs by their lengths, and doesn't
+    /// allocate.
     pub fn contains_key(self, key: &str) -> bool
         ensures { (es : Entries) → HasEntries (table_body self.entry) es → result ≡ has_key key.now es }
     {
         last_place(self.as_bytes(), key.as_bytes()).is_some()
     }
 
-    /// Copies the table to an owned one, the one that `parse_value` returns. An empty table doesn't
-    /// allocate. It uses stack for each level of nesting; docs/PROMISES.md has measurements.
+    /// Copies the table to the owned one that `parse_value` returns: of equal keys the last pair's
+    /// value is retained. Returns an error if an allocation fails; an empty table doesn't allocate.
+    /// It uses stack for each level of nesting; docs/PROMISES.md has measurements.
     #[tactic(auto, using(crate::proofs::HeadLemmas::entries_of_table))]
     pub fn to_owned(self, alloc: Global) -> Result<FieldTable, AllocError>
         ensures { MatchResult result

@@ -14,8 +14,8 @@ use amqp_value_core::types::AMQPType;
 use std::alloc::{AllocError, Global};
 use std::collections::BTreeSet;
 
-/// A depth of containers that every client read that was tried. Go's amqp091 1.16 breaks at 34;
-/// docs/INTEROP.md has the others.
+/// A depth of containers that every client that was tried could read. Go's amqp091 1.16 breaks at
+/// 34; docs/INTEROP.md has the others.
 pub const CLIENT_LEVELS: u32 = 32;
 
 /// What may go wrong with a value that RabbitMQ accepts. Offsets are the number of bytes before a
@@ -58,14 +58,15 @@ enum Fault {
     Decimal,
 }
 
-/// What may go wrong with the value at the start of the bytes, if `first_problem` finds no problem
-/// in it. Of the limits only `depth` counts: it looks no deeper. A `frame_max` of 0 means that there
-/// is none. A container is too deep that nests deeper than `levels`, as `CLIENT_LEVELS`, or than
-/// `depth`.
+/// Finds what may go wrong with the value at the start of the bytes, if `first_problem` finds no
+/// problem in it. Of the limits only `depth` counts: it looks no deeper. `frame_max` is in bytes; 0
+/// means that there is none. A container is too deep if it nests deeper than `levels`, as
+/// `CLIENT_LEVELS`, or than `depth`.
 ///
-/// Only what finds repeated keys allocates. Keys of a table, and of those around it, are retained in
-/// sets until one is repeated, in at most some 40 bytes each: n log n comparisons for n pairs, whoever
-/// picks the keys. What finds the others goes over the headers and keys once each.
+/// Returns an error if an allocation fails. Only the search for repeated keys allocates. Keys of a
+/// table, and of those around it, are retained in sets until one is repeated, in at most some 40
+/// bytes each: n log n comparisons for n pairs, whoever picks the keys. The other searches pass
+/// over the headers and keys once each.
 pub fn warnings(
     alloc: Global,
     bytes: &[u8],
@@ -101,9 +102,9 @@ pub fn warnings(
     })
 }
 
-/// What may go wrong with a table without its type tag, which begins with its length, as in methods
-/// and content headers. Finds what `warnings` finds in the table with its type tag; the offsets count
-/// from the length on, and are 0 for the table itself.
+/// Finds what may go wrong with a table without its type tag, which begins with its length. Finds
+/// what `warnings` finds in the table with its type tag; the offsets count from the length on, and
+/// are 0 for the table itself.
 pub fn warnings_in_table(
     alloc: Global,
     table: &[u8],
