@@ -21,10 +21,11 @@ use amqp_in_place::{Limits, ValueRef, read_in_place, read_in_place_unlimited};
 use amqp_value_core::value::AMQPValue;
 use std::alloc::{AllocError, Global};
 
-/// Converts a value to its JSON text, without spaces. `from_json` reads the text as the value if the
-/// text nests at most 127 deep.
+/// Converts a value to its JSON text, without spaces. `from_json` reads the text as the value if
+/// the text nests at most 127 deep.
 ///
-/// It allocates the canonical encoding and the text. It uses stack for each level of nesting.
+/// Returns an error for a value that has no encoding, and if an allocation fails. It allocates the
+/// canonical encoding and the text. It uses stack for each level of nesting.
 pub fn to_json(alloc: Global, value: &AMQPValue) -> Result<String, EncodeError>
     ensures text { IfOk result (λ s. string_bytes s ≡ json_text (view value.now)) }
     ensures read_back { IfOk result (λ s. MeansIfShallow (string_bytes s) (view value.now)) }
@@ -58,7 +59,8 @@ pub fn json_of_encoding<'a>(
     }
 }
 
-/// Converts a value that was read in place to JSON text, as `json_of_encoding` does.
+/// Converts a value that was read in place to JSON text, as `json_of_encoding` does. Returns an
+/// error only if an allocation fails.
 pub fn json_of_view(alloc: Global, value: ValueRef<'_>) -> Result<String, AllocError>
     requires read { (l : Limits) × (s : List ℕ) × (rest : List ℕ) × IsViewOfRead l s value rest }
     ensures json { IfOk result (λ text. (l : Limits) (s rest : List ℕ) → IsViewOfRead l s value.entry rest
@@ -96,8 +98,9 @@ pub fn write_json<'a>(
     Ok((count, rest))
 }
 
-/// Writes the JSON text of a value that was read in place to the start of the buffer, and returns how many bytes
-/// the text has, which may be more than the buffer has. `None` if the keys of a table don't ascend.
+/// Writes the JSON text of a value that was read in place to the start of the buffer, and returns
+/// how many bytes the text has, which may be more than the buffer has. Returns `None` if the keys
+/// of a table don't ascend.
 ///
 /// Nothing is allocated. If the text doesn't fit, the buffer may hold some of it.
 pub fn write_json_of_view(value: ValueRef<'_>, buffer: &mut [u8]) -> Option<usize>

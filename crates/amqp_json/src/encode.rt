@@ -32,6 +32,10 @@ const UNLIMITED: Limits = Limits {
 const MOST_LEVELS: u32 = 127;
 
 /// Converts a JSON text to the canonical encoding of the value that it means.
+///
+/// The error says why the text means no value, and at which byte, or that an allocation failed. At
+/// most 127 arrays and objects may be open at once: a deeper one is rejected with `TooDeep`.
+/// docs/JSON.md has the most memory that it allocates for each byte of the text.
 pub fn encoding_of_json(alloc: Global, json: &str) -> Result<Vec<u8>, JsonError>
     ensures ok { IfOk result (λ bytes. IsEncodingWithin most_levels json.now bytes.items) }
     ensures encodes { IfOk result (λ bytes. (v : Tree) → meant json.now ≡ Some v
@@ -42,8 +46,8 @@ pub fn encoding_of_json(alloc: Global, json: &str) -> Result<Vec<u8>, JsonError>
     canonical_encoding(alloc, json, MOST_LEVELS)
 }
 
-/// The same with another limit on nesting: of a text at most `levels` arrays and objects may be open at once. More
-/// than 127 count as 127.
+/// Converts a JSON text as `encoding_of_json` does, with another limit on nesting: at most `levels`
+/// arrays and objects may be open at once. More than 127 count as 127.
 pub fn encoding_of_json_within(alloc: Global, json: &str, levels: u32) -> Result<Vec<u8>, JsonError>
     ensures ok { IfOk result (λ bytes. IsEncodingWithin (min levels most_levels) json.now bytes.items) }
     ensures encodes { IfOk result (λ bytes. (v : Tree)
@@ -69,7 +73,9 @@ fn canonical_encoding(alloc: Global, json: &str, levels: u32) -> Result<Vec<u8>,
     canonical_of(alloc, bytes)
 }
 
-/// Converts a JSON text to the value that it means.
+/// Converts a JSON text to the value that it means. Errors and the limit on nesting are as in
+/// `encoding_of_json`; docs/JSON.md has the most memory that it allocates for each byte of the
+/// text.
 pub fn from_json(alloc: Global, json: &str) -> Result<AMQPValue, JsonError>
     ensures ok { IfOk result (λ v. meant json.now ≡ Some (view v)) }
     ensures refused { IfErr result (λ e. IsRefusedWithin most_levels e json.now) }

@@ -2,7 +2,7 @@ use amq_protocol_types::parsing::ParserError;
 use std::alloc::AllocError;
 use thiserror::Error;
 
-/// Why no value was read from a JSON text.
+/// Why no value was read from a JSON text. Offsets are in bytes, counted from 0.
 #[derive(Clone, Copy, Debug, Drop, PartialEq, Eq, Error)]
 pub enum JsonError {
     /// An allocation failed.
@@ -14,7 +14,7 @@ pub enum JsonError {
     /// The text isn't JSON: the bytes before this one begin a JSON text, and no JSON text has this byte after them.
     #[error("{1} at byte {0}")]
     Syntax(usize, SyntaxError),
-    /// At this byte begins an array or an object too many inside one another.
+    /// At this byte an array or an object begins that is nested too deep.
     #[error("nested too deep at byte {0}")]
     TooDeep(usize),
     /// The text is JSON up to this byte, where something begins that no AMQP value has.
@@ -25,13 +25,13 @@ pub enum JsonError {
 /// What is wrong where a text stops being JSON.
 #[derive(Clone, Copy, Debug, Drop, PartialEq, Eq, Error)]
 pub enum SyntaxError {
-    /// The text ends, and something is missing.
+    /// The text ends too early.
     #[error("unexpected end")]
     UnexpectedEnd,
     /// The text ends in a string.
     #[error("unfinished string")]
     UnfinishedString,
-    /// A character that nothing has that may be here.
+    /// A character that can't be there in any JSON text.
     #[error("unexpected character")]
     UnexpectedCharacter,
     /// A control character in a string, such as a line feed, which has to be escaped.
@@ -46,7 +46,7 @@ pub enum SyntaxError {
     /// A value or a key where a comma should be.
     #[error("missing comma")]
     MissingComma,
-    /// Something else after a key.
+    /// Something other than a colon after a key.
     #[error("missing colon")]
     MissingColon,
     /// A closing bracket after a comma.
@@ -87,7 +87,7 @@ pub enum Mismatch {
     /// A character that isn't a hexadecimal digit.
     #[error("expected only hexadecimal digits")]
     NotHexadecimal,
-    /// A `Float` without 8 digits, or a `Double` without 16.
+    /// A `Float` that doesn't have 8 digits, or a `Double` that doesn't have 16.
     #[error("expected 8 hexadecimal digits of a Float, or 16 of a Double")]
     DigitCount,
     /// A decimal that isn't a number, `e-` and a scale, as `314e-2`.
