@@ -37,7 +37,7 @@ impl Entry {
 }
 
 impl Cursor {
-    /// Becomes another, field by field: the bytes between fields aren't copied.
+    /// Assigns every field. Padding isn't copied.
     #[inline(always)]
     pub fn set(&mut self, to: Cursor)
         ensures { self.new ≡ to }

@@ -42,7 +42,7 @@ pub struct Entry {
 }
 
 impl Entry {
-    /// Becomes another, field by field: the bytes between fields aren't copied.
+    /// Assigns every field. Padding isn't copied.
     #[inline(always)]
     pub fn set(&mut self, to: Entry)
         ensures { self.new ≡ to }

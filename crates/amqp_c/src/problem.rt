@@ -27,7 +27,7 @@ pub struct ReadError {
 }
 
 impl ReadError {
-    /// What reading reports of the first problem in a value with this header.
+    /// Returns what reading reports of the first problem in a value with this header.
     pub fn of(first: amqp_in_place::Problem, header: Header) -> ReadError
         ensures { result ≡ error_of first (header_lack header) }
     {

@@ -17,7 +17,7 @@ const OK: i32 = 0;
 /// No entry is left, no entry has the key, or the value isn't canonical.
 const NONE: i32 = 1;
 
-/// Leaves what is given.
+/// Stores what a call returns, and returns its result code.
 #[inline(always)]
 pub fn store<T: Copy>(done: Result<T, Fault>, place: &mut T) -> i32
     ensures returned { result ≡ return_code_of done }
@@ -32,7 +32,8 @@ pub fn store<T: Copy>(done: Result<T, Fault>, place: &mut T) -> i32
     }
 }
 
-/// Leaves what is written of a container that has grown, or the capacity that the buffer should have.
+/// Stores how far a container is written after an entry was added, or the capacity that the buffer
+/// should have.
 #[inline(always)]
 pub fn store_grown(done: Result<Container, Fault>, into: &mut Container) -> i32
     ensures returned { result ≡ return_code_of done }
@@ -47,7 +48,7 @@ pub fn store_grown(done: Result<Container, Fault>, into: &mut Container) -> i32
     }
 }
 
-/// Leaves the body that is opened, and in its container that one is open, or the capacity that the
+/// Stores the body that was opened, and in its container that one is open, or the capacity that the
 /// buffer should have.
 #[inline(always)]
 pub fn store_opened(
@@ -69,7 +70,8 @@ pub fn store_opened(
     }
 }
 
-/// Leaves what is written of a container in which one is closed, and that none is open in it.
+/// Stores how far a container is written after an entry in it was closed, and that none is open in
+/// it.
 #[inline(always)]
 pub fn store_closed(done: Result<Container, Fault>, into: &mut Container) -> i32
     ensures returned { result ≡ return_code_of done }
@@ -97,7 +99,7 @@ fn store_fault(fault: Fault, into: &mut Container) -> i32
     fault.code()
 }
 
-/// Leaves what is read, or where reading failed.
+/// Stores what was read, or where reading failed.
 #[inline(always)]
 pub fn store_read<T: Copy>(done: Result<T, ReadError>, place: &mut T, problem: &mut Problem) -> i32
     ensures read { IfOk done (λ read.
@@ -117,7 +119,7 @@ pub fn store_read<T: Copy>(done: Result<T, ReadError>, place: &mut T, problem: &
     }
 }
 
-/// The result that says whether something is so.
+/// Returns the result code of a call that answers yes or no.
 pub fn told(done: Result<bool, Fault>) -> i32
     ensures { result ≡ code_if_told done }
 {
@@ -128,7 +130,7 @@ pub fn told(done: Result<bool, Fault>) -> i32
     }
 }
 
-/// Leaves the entry that is found.
+/// Stores the entry that was found.
 pub fn store_found(done: Result<Option<Entry>, Fault>, entry: &mut Entry) -> i32
     ensures returned { result ≡ return_code_if_any done }
     ensures entry { entry.new ≡ found_or_old entry.old done }
@@ -143,7 +145,7 @@ pub fn store_found(done: Result<Option<Entry>, Fault>, entry: &mut Entry) -> i32
     }
 }
 
-/// Leaves the entry and the cursor that a step returns.
+/// Stores the entry and the cursor that a step returns.
 #[inline(always)]
 pub fn store_step(
     done: Result<Option<(Entry, Cursor)>, Fault>,

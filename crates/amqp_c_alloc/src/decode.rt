@@ -9,8 +9,9 @@ use amqp_c::{Fault, Input, put_at_start};
 use amqp_json::{json_of_view, write_json_of_view};
 use std::alloc::Global;
 
-/// Puts the JSON text of the value at the start of the input at the start of `buffer`, and returns how many bytes
-/// it has. Nothing is allocated unless the keys of a table don't ascend.
+/// Writes the JSON text of the value at the start of the input to the start of `buffer`, and
+/// returns how many bytes the text has. Nothing is allocated unless the keys of a table don't
+/// ascend.
 pub fn put_json(alloc: Global, input: &Input<'_>, buffer: &mut [u8]) -> Result<usize, Fault>
     ensures written { MatchResult result
         (IsJsonPut input.now buffer.old buffer.new)

@@ -9,17 +9,17 @@ use amqp_json::{JsonError, encoding_of_json_within};
 use std::alloc::Global;
 use std::str;
 
-/// What comes of a JSON text.
+/// The result of converting a JSON text to an encoding in a buffer.
 #[derive(Clone, Copy)]
 pub struct EncodingPut {
-    /// How many bytes are put into the buffer, or why none are.
+    /// How many bytes were written to the buffer, or why none were.
     pub done: Result<usize, Fault>,
     /// The byte at which the text isn't the JSON of a value.
     pub offset: Option<usize>,
 }
 
-/// Puts the canonical encoding of the value that a JSON text means at the start of `buffer`. Of a text at most
-/// `nesting` arrays and objects may be open at once, and at most 127.
+/// Writes the canonical encoding of the value that a JSON text means to the start of `buffer`. At
+/// most `nesting` arrays and objects may be open at once, and at most 127.
 pub fn put_encoding(alloc: Global, text: &[u8], nesting: u32, buffer: &mut [u8]) -> EncodingPut
     ensures written { IsPutOrRejected (min nesting most_levels) text.now buffer.old buffer.new result.done result.offset }
     ensures kept { IfErr result.done (λ _. buffer.new ≡ buffer.old) }

@@ -60,7 +60,7 @@ impl Warnings {
     }
 }
 
-/// Looks for such constructs.
+/// Finds the constructs that `amqpv_warnings` has, as `amqp_in_place::rabbitmq::warnings` does.
 pub fn find_warnings(
     alloc: Global,
     input: &Input<'_>,
@@ -94,7 +94,7 @@ fn warnings_of(
     }
 }
 
-/// Leaves the warnings that are asked for.
+/// Stores the warnings that the flags of the input ask for, and returns the result code.
 pub fn store_warnings(
     input: &Input<'_>,
     found: Result<Warned, Fault>,
