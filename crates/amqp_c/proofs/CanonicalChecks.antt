@@ -2,7 +2,7 @@
 use Rattle.std.proofs.Common.{◌≡◌, ℕ, Bool, true, false, if◌then◌else◌, List, ◌++◌, length, Option, Some, None, IfSome, Ok, refl, ap, ◌∙◌, subst, arith}
 use Rattle.std.specs.Prelude.{MatchBool, is_some}
 use Rattle.amqp_value_core.specs.declared.types.amqp_type.AMQPType.TheVariants.{FieldTable}
-use Rattle.amqp_value_core.specs.Inputs.{IsBytes}
+use Rattle.amqp_value_core.specs.Bytes.{IsBytes}
 use Rattle.amqp_value_core.specs.Texts.{text}
 use Rattle.amqp_value_core.proofs.Bytes.{bytes_before}
 use Rattle.amqp_value_core.proofs.GrammarLaws.{canon_is_text, prefix_within, read_is_value, text_is_canon, what_is_read, wire_of}

@@ -10,8 +10,7 @@ use Rattle.amqp_value_core.specs.Names.{read_as}
 use Rattle.amqp_value_core.specs.Values.{Tree, scalar, short, long, octets, array, table, scalar_type, Scalar, type_of}
 use Rattle.amqp_value_core.specs.Layouts.{Layout, fixed}
 use Rattle.amqp_value_core.specs.Grammar.{long_field, Wire, Raw, raw_fixed, raw_short, raw_long, raw_octets, raw_array, raw_table, ArrayBody, TableBody}
-use Rattle.amqp_value_core.specs.Outcomes.{Reading, found, more, unknown, malformed, lack_of, fields_lack, length_field, no_byte, no_tag, needs_more, Outcome}
-use Rattle.amqp_value_core.specs.Payloads.{RawOutcome}
+use Rattle.amqp_value_core.specs.Outcomes.{Reading, found, more, unknown, malformed, lack_of, fields_lack, length_field, no_byte, no_tag, needs_more, Outcome, RawOutcome}
 use Rattle.amqp_value_core.proofs.GrammarLaws.{one_large, found_prefix, length-wire, one_outcome, raw_to_value, value_to_raw}
 use Rattle.amq_protocol_types.specs.declared.parsing.errors.Err.TheVariants.{Incomplete, Error, Failure}
 use Rattle.amq_protocol_types.specs.declared.parsing.errors.Needed.TheVariants.{Unknown, Size}

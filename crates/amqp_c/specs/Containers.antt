@@ -1,6 +1,6 @@
 -- Containers that are put together in a buffer.
 use Rattle.std.specs.Prelude.{ℕ, ◌≡◌, ◌+◌, ◌-◌, ◌<◌, ◌≤◌, List, [], ◌++◌, ◌==◌, if◌then◌else◌, length, ◌⊎◌}
-use Rattle.amqp_value_core.specs.Strings.{IsShort}
+use Rattle.amqp_value_core.specs.Bytes.{IsShort}
 use Rattle.amqp_value_core.specs.Grammar.{short_field}
 use Rattle.amqp_c.specs.Spans.{SpanIsIn}
 use Rattle.amqp_c.specs.declared.container.Container.{Container}

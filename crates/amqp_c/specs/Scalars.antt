@@ -4,9 +4,8 @@ use Rattle.std.specs.Int.{w8, w16, w32, w64, cast_signed, cast_unsigned}
 use Rattle.amqp_value_core.specs.declared.types.amqp_type.AMQPType.{AMQPType}
 use Rattle.amqp_value_core.specs.declared.types.amqp_type.AMQPType.TheVariants as amqp
 use Rattle.amqp_value_core.specs.Values.{Tree, Scalar, boolean, number, decimal, void, scalar}
-use Rattle.amqp_value_core.specs.Payloads.{RawOutcome}
+use Rattle.amqp_value_core.specs.Outcomes.{RawOutcome, Outcome, found}
 use Rattle.amqp_c.specs.declared.entry.Number.{Number}
-use Rattle.amqp_value_core.specs.Outcomes.{Outcome, found}
 use Rattle.amqp_c.specs.declared.entry.Fixed.{Fixed}
 
 -- a number in 64 bits: a signed one in two's complement, and the bits of every other as they are

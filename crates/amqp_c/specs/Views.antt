@@ -1,6 +1,6 @@
 -- Reading the value at the start of an input in place.
 use Rattle.std.specs.Prelude.{ℕ, ◌≡◌, true, false, List, Some, ◌⊎◌}
-use Rattle.amqp_value_core.specs.Inputs.{IsBytes}
+use Rattle.amqp_value_core.specs.Bytes.{IsBytes}
 use Rattle.amqp_value_core.specs.Outcomes.{found}
 use Rattle.amqp_value_core.specs.Values.{Tree}
 use Rattle.amq_protocol_types.specs.declared.parsing.limits.Limits.{Limits}

@@ -2,14 +2,12 @@
 
 ghost use Rattle.std.specs.Prelude.{◌≡◌, ◌+◌, ◌<◌, ℕ, List, length, Some, false, IfErr, IfOk, MatchResult};
 ghost use Rattle.amqp_value_core.specs.Ids.{id_of};
-ghost use Rattle.amqp_value_core.specs.Inputs.{slice_bytes};
+ghost use Rattle.amqp_value_core.specs.Bytes.{slice_bytes};
 ghost use Rattle.amqp_value_core.specs.Names.{read_as};
 ghost use Rattle.amq_protocol_types.specs.parsing.PayloadResults.{IsType, OnlyLacks};
-ghost use Rattle.amqp_value_core.specs.Payloads.{RawOutcome};
-ghost use Rattle.amqp_c.specs.Scalars.{IsNumberPayload};
+ghost use Rattle.amqp_value_core.specs.Outcomes.{RawOutcome, Outcome, found};
+ghost use Rattle.amqp_c.specs.Scalars.{IsNumberPayload, IsFixed};
 ghost use Rattle.amqp_value_core.specs.Values.{Tree};
-ghost use Rattle.amqp_value_core.specs.Outcomes.{Outcome, found};
-ghost use Rattle.amqp_c.specs.Scalars.{IsFixed};
 ghost use Rattle.amqp_c.specs.Entries.{IsEntryAtStart, EntryIsIn};
 ghost use Rattle.amqp_c.specs.CallResults.{GivesFirst, HeaderFaults, IsRefusalOf};
 ghost use Rattle.amqp_c.specs.Heads.{has_content};

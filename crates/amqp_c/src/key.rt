@@ -1,7 +1,7 @@
 //! Whether bytes can be a key.
 
 ghost use Rattle.std.specs.Prelude.{◌≡◌, ◌<◌, ◌≤◌, ◌⊎◌, true, length, MatchBool};
-ghost use Rattle.amqp_value_core.specs.Strings.{IsShort};
+ghost use Rattle.amqp_value_core.specs.Bytes.{IsShort};
 ghost use Rattle.std.specs.Str.{IsAscii, IsUtf8};
 
 use std::str;

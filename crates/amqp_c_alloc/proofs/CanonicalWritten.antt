@@ -5,7 +5,7 @@ use Rattle.amqp_value_core.specs.declared.types.amqp_type.AMQPType.{AMQPType}
 use Rattle.amqp_value_core.specs.declared.types.amqp_type.AMQPType.TheVariants as amqp
 use Rattle.amqp_value_core.specs.Grammar.{Wire, wire, Raw, raw_fixed, raw_short, raw_long, raw_octets, raw_array, raw_table}
 use Rattle.amqp_value_core.specs.Ids.{kind, id_of}
-use Rattle.amqp_value_core.specs.Inputs.{IsBytes}
+use Rattle.amqp_value_core.specs.Bytes.{IsBytes}
 use Rattle.amqp_value_core.specs.Layouts.{fixed}
 use Rattle.amqp_value_core.specs.Outcomes.{found}
 use Rattle.amqp_value_core.specs.Texts.{text, size, payload, Fits}

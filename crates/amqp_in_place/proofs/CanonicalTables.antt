@@ -1,7 +1,7 @@
 -- Canonical encodings of tables without their type tag.
 use Rattle.std.proofs.Common.{◌≡◌, ◌≤◌, ◌+◌, ℕ, List, length, arith}
 use Rattle.amqp_value_core.specs.declared.types.amqp_type.AMQPType.TheVariants as amqp
-use Rattle.amqp_value_core.specs.Inputs.{IsBytes, slice_bytes}
+use Rattle.amqp_value_core.specs.Bytes.{IsBytes, slice_bytes}
 use Rattle.amqp_value_core.specs.declared.input.SliceInput.{SliceInput}
 use Rattle.amq_protocol_types.specs.declared.parsing.limits.Limits.{Limits}
 use Rattle.amq_protocol_types.specs.parsing.Bodies.{IsLengthPrefixed}

@@ -13,21 +13,18 @@ use Rattle.std.proofs.lemmas.Bool.{eqb-true, false≢true}
 use Rattle.std.proofs.lemmas.List.{nil_from_length, append-nil}
 use Rattle.std.proofs.lemmas.Option.{same_Some}
 use Rattle.amqp_value_core.specs.Ids.{letters, kind}
-use Rattle.amqp_value_core.specs.Strings.{IsShort}
+use Rattle.amqp_value_core.specs.Bytes.{IsShort, IsBytes, slice_bytes}
 use Rattle.amqp_value_core.specs.declared.types.amqp_type.AMQPType.{AMQPType}
 use Rattle.amqp_value_core.specs.declared.types.amqp_type.AMQPType.TheVariants as amqp
 use Rattle.amqp_value_core.proofs.Ids.{row_holds, kind_read}
 use Rattle.amqp_value_core.specs.Values.{Tree, short, array, table, no_trees, tree, no_entries, entry, ComesBefore, depth}
-use Rattle.amqp_value_core.specs.Members.{CanonBody, CanonPairs}
+use Rattle.amqp_value_core.specs.Canonical.{CanonBody, CanonPairs, IsStrict, Canon, canon, CanonRaw, canon_fixed, canon_long, canon_octets, canon_array, canon_table, canon_no_values, canon_value, canon_no_pairs, canon_pair}
 use Rattle.amqp_value_core.specs.Layouts.{Layout, fixed}
 use Rattle.amqp_value_core.specs.Grammar.{short_field, long_field, Wire, Raw, raw_fixed, raw_short, raw_long, raw_octets, raw_array, raw_table}
 use Rattle.amqp_value_core.specs.Nesting.{WireWithin, OutcomeWithin}
-use Rattle.amqp_value_core.specs.Outcomes.{found, more, unknown, Outcome}
-use Rattle.amqp_value_core.specs.Payloads.{RawOutcome}
-use Rattle.amqp_value_core.specs.Canonical.{IsStrict, Canon, canon, CanonRaw, canon_fixed, canon_long, canon_octets, canon_array, canon_table, canon_no_values, canon_value, canon_no_pairs, canon_pair}
+use Rattle.amqp_value_core.specs.Outcomes.{found, more, unknown, Outcome, RawOutcome}
 use Rattle.amqp_value_core.proofs.Bytes.{bytes_before}
 use Rattle.amqp_value_core.proofs.GrammarLaws.{wire_of, one_large, one_reading, one_raw_reading, one_raw_outcome, raw_found, wire_found, wire_found_within, prefix_within, depth_within, text_within, text_is_canon, what_is_read, read_is_value, canon_is_wire, canon_fits, canon_is_text, short_bytes, one_outcome}
-use Rattle.amqp_value_core.specs.Inputs.{IsBytes, slice_bytes}
 use Rattle.amq_protocol_types.specs.declared.parsing.limits.Limits.{Limits}
 use Rattle.amq_protocol_types.specs.parsing.Headers.{extent, wanted}
 use Rattle.amq_protocol_types.specs.parsing.Limits.{Within, IsHeader}

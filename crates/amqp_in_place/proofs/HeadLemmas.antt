@@ -3,17 +3,15 @@ use Rattle.std.proofs.Common.{◌≡◌, ◌<◌, ◌-◌, ◌+◌, ℕ, List, [
 use Rattle.std.specs.Int.{w8}
 use Rattle.std.specs.Str.{IsUtf8}
 use Rattle.std.proofs.lemmas.Bool.{cases_lt, le-ltb}
-use Rattle.amqp_value_core.specs.Strings.{IsShort}
+use Rattle.amqp_value_core.specs.Bytes.{IsShort, slice_bytes}
 use Rattle.amqp_value_core.specs.declared.types.amqp_type.AMQPType.{AMQPType}
 use Rattle.amqp_value_core.specs.declared.types.amqp_type.AMQPType.TheVariants as amqp
 use Rattle.amqp_value_core.specs.Values.{Tree, Entries, no_entries, short, array, table}
-use Rattle.amqp_value_core.specs.Inserting.{insert_all}
+use Rattle.amqp_value_core.specs.Maps.{insert_all}
 use Rattle.amqp_value_core.specs.Grammar.{short_field, long_field, Wire, raw_short, raw_array, raw_table}
 use Rattle.amqp_value_core.specs.Nesting.{nesting, OutcomeWithin, RawOutcomeWithin}
-use Rattle.amqp_value_core.specs.Outcomes.{Reading, found, more, unknown, malformed, lack, frame_lack, counted, Outcome}
-use Rattle.amqp_value_core.specs.Payloads.{RawOutcome}
+use Rattle.amqp_value_core.specs.Outcomes.{Reading, found, more, unknown, malformed, lack, frame_lack, counted, Outcome, RawOutcome}
 use Rattle.amqp_value_core.proofs.GrammarLaws.{RawPrefix, wire_within, body_of, pairs_of, put_mean, one_outcome_within, one_raw_reading, value_to_raw, raw_to_value_within, raw_whole, raw_found, wire_found, wire_found_within, array_body, table_body, short_bytes}
-use Rattle.amqp_value_core.specs.Inputs.{slice_bytes}
 use Rattle.amqp_value_core.specs.declared.input.SliceInput.{SliceInput}
 use Rattle.amq_protocol_types.specs.declared.parsing.errors.Err.TheVariants.{Incomplete, Error, Failure}
 use Rattle.amq_protocol_types.specs.declared.parsing.errors.Needed.TheVariants.{Unknown, Size}

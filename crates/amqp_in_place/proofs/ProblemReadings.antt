@@ -9,10 +9,10 @@ use Rattle.std.proofs.lemmas.List.{drop-drop, drop-take, length-drop, length-tak
 use Rattle.amqp_value_core.specs.declared.types.amqp_type.AMQPType.{AMQPType}
 use Rattle.amqp_value_core.specs.declared.types.amqp_type.AMQPType.TheVariants as amqp
 use Rattle.amqp_value_core.specs.Ids.{kind}
-use Rattle.amqp_value_core.specs.Inputs.{IsBytes}
+use Rattle.amqp_value_core.specs.Bytes.{IsBytes}
 use Rattle.amqp_value_core.proofs.Bytes.{bytes_take, bytes_drop}
 use Rattle.amqp_value_core.specs.Values.{Tree, scalar, array, table, tree, Entries, no_entries}
-use Rattle.amqp_value_core.specs.Inserting.{insert}
+use Rattle.amqp_value_core.specs.Maps.{insert}
 use Rattle.amqp_value_core.specs.Layouts.{Layout, fixed}
 use Rattle.amqp_value_core.specs.Outcomes.{Reading, found, more, unknown, malformed, length_field, counted, lack, lack_of}
 use Rattle.amqp_value_core.specs.Decode.{framed, raw_outcome_by, outcome_by, values_by, is_key, pairs_onto, meaning}

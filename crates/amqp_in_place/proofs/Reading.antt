@@ -3,9 +3,7 @@ use Rattle.std.proofs.Common.{◌≡◌, ◌<◌, ℕ, List, length, refl, arith
 use Rattle.amqp_value_core.specs.declared.types.amqp_type.AMQPType.TheVariants as amqp
 use Rattle.amqp_value_core.specs.Values.{Tree, Entries, short}
 use Rattle.amqp_value_core.specs.Nesting.{OutcomeWithin}
-use Rattle.amqp_value_core.specs.Outcomes.{Reading, found, malformed, Heavy}
-use Rattle.amqp_value_core.specs.Payloads.{RawOutcome}
-use Rattle.amqp_value_core.specs.Outcomes.{Outcome}
+use Rattle.amqp_value_core.specs.Outcomes.{Reading, found, malformed, Heavy, RawOutcome, Outcome}
 use Rattle.amqp_value_core.proofs.GrammarLaws.{unlimited, prefix_within}
 use Rattle.amqp_in_place.specs.InPlaceResults.{IsLeft}
 use Rattle.amqp_in_place.proofs.Refusals.{by_outcome}

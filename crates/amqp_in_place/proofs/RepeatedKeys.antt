@@ -14,7 +14,7 @@ use Rattle.std.proofs.lemmas.Cmp.{nat_list_cmp_total}
 use Rattle.amqp_value_core.specs.Values.{Tree, Entries, no_entries, entry, ComesBefore}
 use Rattle.amqp_value_core.specs.Maps.{same_bytes, IsRising}
 use Rattle.amqp_value_core.specs.Grammar.{TableBody}
-use Rattle.amqp_value_core.specs.Inputs.{slice_bytes}
+use Rattle.amqp_value_core.specs.Bytes.{slice_bytes}
 use Rattle.amqp_value_core.specs.declared.input.SliceInput.{SliceInput}
 use Rattle.amqp_in_place.specs.declared.refs.ValueRef.{ValueRef}
 use Rattle.amqp_in_place.specs.Canonicals.{IsAbove, AreAbove}

@@ -7,7 +7,7 @@ use Rattle.amqp_value_core.specs.Values.{long}
 use Rattle.amqp_value_core.specs.Grammar.{long_field, wire, raw_long}
 use Rattle.amqp_value_core.specs.Outcomes.{Reading, more, unknown, Outcome}
 use Rattle.amqp_value_core.proofs.GrammarLaws.{wire_of, found_prefix, prefix_within, unlimited}
-use Rattle.amqp_value_core.specs.Inputs.{slice_bytes}
+use Rattle.amqp_value_core.specs.Bytes.{slice_bytes}
 use Rattle.amq_protocol_types.specs.parsing.Refusals.{Refusal}
 use Rattle.amq_protocol_types.specs.parsing.PayloadResults.{IsType}
 use Rattle.amq_protocol_types.specs.parsing.Bodies.{IsLengthPrefixed}

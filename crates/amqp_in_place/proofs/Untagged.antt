@@ -4,7 +4,7 @@ use Rattle.std.specs.Int.{w32}
 use Rattle.amqp_value_core.specs.declared.types.amqp_type.AMQPType.TheVariants as amqp
 use Rattle.amqp_value_core.specs.Nesting.{OutcomeWithin}
 use Rattle.amqp_value_core.specs.Outcomes.{Reading, more, frame_lack, needs_more}
-use Rattle.amqp_value_core.specs.Inputs.{slice_bytes}
+use Rattle.amqp_value_core.specs.Bytes.{slice_bytes}
 use Rattle.amqp_value_core.specs.declared.input.SliceInput.{SliceInput}
 use Rattle.amq_protocol_types.specs.declared.parsing.limits.Limits.{Limits}
 use Rattle.amq_protocol_types.specs.parsing.Refusals.{Refusal}

@@ -5,12 +5,11 @@ use Rattle.std.specs.Ordering.{nat_cmp}
 use Rattle.std.specs.Cmp.Lexicographic.{slice_cmp}
 use Rattle.std.specs.declared.cmp.Ordering.TheVariants.{Less}
 use Rattle.amqp_value_core.specs.declared.types.amqp_type.AMQPType.TheVariants as amqp
-use Rattle.amqp_value_core.specs.Values.{Tree, Trees, Entries, ComesBefore, depth}
+use Rattle.amqp_value_core.specs.Values.{Tree, Trees, Entries, ComesBefore, depth, greatest_depth, entries_depth}
 use Rattle.amqp_value_core.specs.Outcomes.{found}
 use Rattle.amqp_value_core.specs.Texts.{text}
-use Rattle.amqp_value_core.specs.Members.{greatest_depth, entries_depth, CanonBody, CanonPairs}
-use Rattle.amqp_value_core.specs.Canonical.{IsStrict, Canon}
-use Rattle.amqp_value_core.specs.Inputs.{slice_bytes}
+use Rattle.amqp_value_core.specs.Canonical.{CanonBody, CanonPairs, IsStrict, Canon}
+use Rattle.amqp_value_core.specs.Bytes.{slice_bytes}
 use Rattle.amq_protocol_types.specs.declared.parsing.limits.Limits.{Limits}
 use Rattle.amq_protocol_types.specs.parsing.Limits.{Within}
 use Rattle.amqp_in_place.specs.declared.head.Head.{Head}

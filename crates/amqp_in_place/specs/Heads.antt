@@ -4,10 +4,9 @@ use Rattle.amqp_value_core.specs.declared.types.amqp_type.AMQPType.{AMQPType}
 use Rattle.amqp_value_core.specs.declared.types.amqp_type.AMQPType.TheVariants as amqp
 use Rattle.amqp_value_core.specs.Values.{Tree, Trees, Entries, array, table}
 use Rattle.amqp_value_core.specs.Grammar.{ArrayBody, short_field}
-use Rattle.amqp_value_core.specs.Outcomes.{Reading, found}
-use Rattle.amqp_value_core.specs.Payloads.{RawOutcome}
+use Rattle.amqp_value_core.specs.Outcomes.{Reading, found, RawOutcome}
 use Rattle.amqp_value_core.specs.Nesting.{BodyWithin, OutcomeWithin}
-use Rattle.amqp_value_core.specs.Inputs.{slice_bytes}
+use Rattle.amqp_value_core.specs.Bytes.{slice_bytes}
 use Rattle.amq_protocol_types.specs.parsing.PayloadResults.{IsType}
 use Rattle.amq_protocol_types.specs.parsing.Bodies.{IsLengthPrefixed, IsTable}
 use Rattle.amqp_in_place.specs.declared.head.Head.{Head}

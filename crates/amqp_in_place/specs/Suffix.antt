@@ -1,6 +1,6 @@
 -- What iterators have left.
 use Rattle.std.specs.Prelude.{ℕ, List}
-use Rattle.amqp_value_core.specs.Inputs.{slice_bytes}
+use Rattle.amqp_value_core.specs.Bytes.{slice_bytes}
 use Rattle.amqp_in_place.specs.declared.iter.ArrayValues.{ArrayValues}
 use Rattle.amqp_in_place.specs.declared.iter.TablePairs.{TablePairs}
 

@@ -4,7 +4,7 @@ ghost use Rattle.std.specs.Prelude.{◌≡◌, ◌<◌, ◌↔◌, IsTrue, IfSom
 ghost use Rattle.amqp_value_core.specs.Values.{Trees, no_trees};
 ghost use Rattle.amqp_value_core.specs.Grammar.{ArrayBody};
 ghost use Rattle.amqp_value_core.specs.Containers.{array_view};
-ghost use Rattle.amqp_value_core.specs.Inputs.{slice_bytes};
+ghost use Rattle.amqp_value_core.specs.Bytes.{slice_bytes};
 ghost use Rattle.amqp_in_place.specs.Bodies.{HasValues};
 ghost use Rattle.amqp_in_place.specs.Refs.{array_body};
 ghost use Rattle.amqp_in_place.specs.Walks.{FoundIs, WrittenIs, ViewIs, ValueIs, tree_at};

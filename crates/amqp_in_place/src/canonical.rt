@@ -1,7 +1,7 @@
 //! Canonical encodings, checked in place.
 
 ghost use Rattle.std.specs.Prelude.{◌≡◌, ◌+◌, true, false, ℕ, List, None, IfSome};
-ghost use Rattle.amqp_value_core.specs.Inputs.{slice_bytes};
+ghost use Rattle.amqp_value_core.specs.Bytes.{slice_bytes};
 ghost use Rattle.amq_protocol_types.specs.parsing.Untagged.{tagged};
 ghost use Rattle.amqp_in_place.specs.Canonicals.{IsCanonicalLen, IsCanonicalWithin, IsReadAsWritten, CanonPrefix, CanonValues, CanonEntries, HasCanonicalBody, IsAbove, IsFirstSpelling};
 

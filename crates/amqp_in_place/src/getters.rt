@@ -12,7 +12,7 @@ impl<'a> ValueRef<'a> {
     ghost use Rattle.std.specs.Prelude.{◌≡◌, option_map, is_some};
     ghost use Rattle.std.specs.Int.{w8, w16, w32, w64, cast_unsigned};
     ghost use Rattle.amqp_value_core.specs.declared.types.amqp_type.AMQPType.TheVariants as amqp;
-    ghost use Rattle.amqp_value_core.specs.Contents.{float_bits, double_bits};
+    ghost use Rattle.amqp_value_core.specs.View.{float_bits, double_bits};
     ghost use Rattle.amqp_value_core.specs.Values.{Tree, type_of};
     ghost use Rattle.amqp_value_core.specs.Getters.{truth_in, number_in, decimal_in, long_in, octets_in, array_in, table_in, is_void};
     ghost use Rattle.amqp_in_place.specs.Refs.{Denotes, ArrayIs, TableIs, array_body, table_body, array_bytes, table_bytes};

@@ -1,6 +1,6 @@
 //! Iterators over the values of an array and the pairs of a table.
 
-ghost use Rattle.amqp_value_core.specs.Inputs.{slice_bytes};
+ghost use Rattle.amqp_value_core.specs.Bytes.{slice_bytes};
 ghost use Rattle.amqp_in_place.specs.Bodies.{HasValues, HasPairs};
 
 use super::refs::{ArrayRef, TableRef, ValueRef};

@@ -3,7 +3,7 @@
 ghost use Rattle.std.specs.Prelude.{ℕ, List, ◌≡◌, ◌+◌, ◌^◌, ◌<◌, ◌≤◌, max, drop, length, MatchResult, IfErr, IfOk};
 ghost use Rattle.amqp_value_core.specs.Values.{Tree, count, depth};
 ghost use Rattle.amqp_value_core.specs.Outcomes.{found};
-ghost use Rattle.amqp_value_core.specs.Inputs.{slice_bytes};
+ghost use Rattle.amqp_value_core.specs.Bytes.{slice_bytes};
 ghost use Rattle.amq_protocol_types.specs.parsing.Limits.{Within, RefusesWithin};
 ghost use Rattle.amq_protocol_types.specs.parsing.Untagged.{tagged, UntaggedWithin, RefusesUntagged};
 ghost use Rattle.amqp_in_place.specs.Bodies.{HasValues, HasPairs};

@@ -8,7 +8,7 @@ ghost use Rattle.amqp_value_core.specs.Values.{Tree, Trees, Entries, table};
 ghost use Rattle.amqp_value_core.specs.Grammar.{long_field};
 ghost use Rattle.amqp_value_core.specs.Nesting.{BodyWithin, OutcomeWithin};
 ghost use Rattle.amqp_value_core.specs.Outcomes.{Outcome, found, malformed};
-ghost use Rattle.amqp_value_core.specs.Inputs.{slice_bytes};
+ghost use Rattle.amqp_value_core.specs.Bytes.{slice_bytes};
 ghost use Rattle.amq_protocol_types.specs.parsing.ParseResults.{IsRefusal};
 ghost use Rattle.amq_protocol_types.specs.parsing.Bodies.{IsNoBody, IsTable, IsNoTable};
 ghost use Rattle.amq_protocol_types.specs.parsing.Limits.{Within, RefusesWithin};

@@ -1,6 +1,6 @@
 //! Borrowed views of encoded values.
 
-ghost use Rattle.amqp_value_core.specs.Inputs.{slice_bytes};
+ghost use Rattle.amqp_value_core.specs.Bytes.{slice_bytes};
 ghost use Rattle.amqp_in_place.specs.Bodies.{HasValues, HasPairs};
 
 use amqp_value_core::input::SliceInput;

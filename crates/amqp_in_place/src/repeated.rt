@@ -4,7 +4,7 @@ ghost use Rattle.std.specs.Prelude.{◌≡◌, true, false, IfOk, OnErr};
 ghost use Rattle.amqp_value_core.specs.Values.{Entries};
 ghost use Rattle.amqp_value_core.specs.Grammar.{TableBody};
 ghost use Rattle.amqp_value_core.specs.Maps.{IsRising};
-ghost use Rattle.amqp_value_core.specs.Inputs.{slice_bytes};
+ghost use Rattle.amqp_value_core.specs.Bytes.{slice_bytes};
 ghost use Rattle.amqp_in_place.specs.Bodies.{HasPairs};
 ghost use Rattle.amqp_in_place.specs.Refs.{table_body};
 ghost use Rattle.amqp_in_place.specs.Keys.{RepeatedIs};

@@ -3,7 +3,7 @@
 ghost use Rattle.std.specs.Prelude.{◌≡◌, ◌++◌, length, drop, IfSome, IsNone};
 ghost use Rattle.amqp_value_core.specs.Values.{Tree, Trees, Entries};
 ghost use Rattle.amqp_value_core.specs.Grammar.{short_field, ArrayBody, TableBody};
-ghost use Rattle.amqp_value_core.specs.Inputs.{slice_bytes};
+ghost use Rattle.amqp_value_core.specs.Bytes.{slice_bytes};
 ghost use Rattle.amqp_in_place.specs.Bodies.{HasValues, HasPairs};
 ghost use Rattle.amqp_in_place.specs.Refs.{Denotes};
 ghost use Rattle.amqp_in_place.specs.Heads.{HeadHasMeaning, HeadMeans, RefersTo};

@@ -1,10 +1,9 @@
 -- A canonical encoding that is read again.
 use Rattle.std.proofs.Common.{◌≡◌, ℕ, Bool, true, false, cond, List, [], refl, sym, ap, subst, append-nil}
-use Rattle.amqp_value_core.specs.Inputs.{IsBytes}
+use Rattle.amqp_value_core.specs.Bytes.{IsBytes}
 use Rattle.amqp_value_core.specs.Values.{Tree, scalar, short, long, octets, array, table, readable}
 use Rattle.amqp_value_core.specs.Texts.{text}
-use Rattle.amqp_value_core.specs.Outcomes.{Reading, more, unknown, malformed, found, Outcome}
-use Rattle.amqp_value_core.specs.Readings.{read_back, unread}
+use Rattle.amqp_value_core.specs.Outcomes.{Reading, more, unknown, malformed, found, Outcome, read_back, unread}
 use Rattle.amqp_value_core.proofs.GrammarLaws.{one_outcome, found_prefix}
 use Rattle.amqp_value_core.proofs.Bytes.{bytes_before}
 use Rattle.amq_protocol_types.specs.parsing.Refusals.{Refusal}

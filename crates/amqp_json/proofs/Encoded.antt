@@ -6,10 +6,9 @@ use Rattle.std.specs.declared.cmp.Ordering.{Ordering}
 use Rattle.std.specs.Int.{w32, to_be_bytes}
 use Rattle.amqp_value_core.specs.declared.types.amqp_type.AMQPType.{AMQPType}
 use Rattle.amqp_value_core.specs.Grammar.{short_field, Wire, wire, Raw, raw_fixed, raw_short, raw_long, raw_octets, raw_array, raw_table, ArrayBody, no_values, value, TableBody, no_pairs, pair}
-use Rattle.amqp_value_core.specs.Inputs.{IsBytes}
-use Rattle.amqp_value_core.specs.Strings.{IsShort}
+use Rattle.amqp_value_core.specs.Bytes.{IsBytes, IsShort}
 use Rattle.amqp_value_core.specs.Values.{Tree, scalar, Trees, Entries, no_entries, entry, readable}
-use Rattle.amqp_value_core.specs.Inserting.{insert, insert_all}
+use Rattle.amqp_value_core.specs.Maps.{insert, insert_all}
 use Rattle.amqp_value_core.proofs.Bytes.{bytes_before, bytes_after, byte_at}
 use Rattle.amqp_value_core.proofs.GrammarLaws.{of_mean, what_is_read, raw_value}
 use Rattle.amqp_json.specs.Written.{HasJson, AllHaveJson, EntriesHaveJson}

@@ -6,7 +6,7 @@ use Rattle.amqp_value_core.specs.Layouts.{Layout}
 use Rattle.amqp_value_core.specs.Values.{Tree, scalar, long, octets, array, table, Trees, tree, Entries, entry, readable}
 use Rattle.amqp_value_core.specs.Grammar.{Wire, wire, Raw, raw_fixed, raw_short, raw_long, raw_octets, raw_array, raw_table, ArrayBody, no_values, value, TableBody, no_pairs, pair}
 use Rattle.amqp_value_core.specs.InMemory.{IsValue}
-use Rattle.amqp_value_core.specs.Inputs.{IsBytes}
+use Rattle.amqp_value_core.specs.Bytes.{IsBytes}
 use Rattle.amqp_value_core.specs.Outcomes.{Outcome, found}
 use Rattle.amqp_value_core.proofs.Bytes.{bytes_before}
 use Rattle.amqp_value_core.specs.Texts.{text, Fits}

@@ -1,7 +1,7 @@
 -- Keys with a `$` and without.
 use Rattle.std.proofs.Common.{◌≡◌, ◌≢◌, true, false, not, drop, ℕ, ◌==◌, List, [], ◌∷◌, get_or, refl, ap, ◌∙◌, arith, Bool, cond, length, Option, Some, None, option_map, option_and_then, le-ltb}
 use Rattle.std.specs.Prelude.{nat_lt, ◌||◌}
-use Rattle.amqp_value_core.specs.Strings.{IsShort}
+use Rattle.amqp_value_core.specs.Bytes.{IsShort}
 use Rattle.amqp_value_core.specs.Values.{Tree, Entries, entry}
 use Rattle.amqp_json.specs.Meaning.{is_type_key, entry_key, with_entry}
 

@@ -7,9 +7,9 @@ use Rattle.json.specs.Json as json
 use Rattle.json.specs.Json.{parse_map, after_end_array, read_key, items, members}
 use Rattle.json.proofs.Grammar.{read_key-shorter, items_fail, members_fail, members_no_key}
 use Rattle.amqp_value_core.specs.Values.{Tree, scalar, long, octets, array, Trees, no_trees, tree, Entries, no_entries, entry}
-use Rattle.amqp_value_core.specs.Inserting.{insert_all}
+use Rattle.amqp_value_core.specs.Maps.{insert_all}
 use Rattle.amqp_value_core.specs.Grammar.{Wire, wire, raw_array, raw_table, raw_long, raw_octets, ArrayBody, no_values, value, TableBody, no_pairs, pair, short_field, long_field}
-use Rattle.amqp_value_core.specs.Strings.{IsShort}
+use Rattle.amqp_value_core.specs.Bytes.{IsShort}
 use Rattle.amqp_value_core.specs.Texts.{text}
 use Rattle.amqp_value_core.proofs.GrammarLaws.{put_mean, text_is_wire}
 use Rattle.amqp_json.specs.declared.error.JsonError.{JsonError}

@@ -6,7 +6,7 @@ use Rattle.std.specs.Cmp.Lexicographic.{slice_cmp}
 use Rattle.std.specs.Ordering.{nat_cmp, match_ordering}
 use Rattle.std.specs.declared.cmp.Ordering.{Ordering}
 use Rattle.amqp_value_core.specs.Values.{Tree, Entries, no_entries, entry}
-use Rattle.amqp_value_core.specs.Inserting.{insert, insert_all}
+use Rattle.amqp_value_core.specs.Maps.{insert, insert_all}
 use Rattle.amqp_value_core.specs.Grammar.{TableBody}
 use Rattle.amqp_value_core.proofs.GrammarLaws.{mean_put}
 use Rattle.amqp_in_place.specs.declared.refs.ValueRef.{ValueRef}

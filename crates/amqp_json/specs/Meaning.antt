@@ -22,7 +22,7 @@ use Rattle.amqp_value_core.specs.declared.types.amqp_type.AMQPType.TheVariants a
 use Rattle.amqp_value_core.specs.Json.{is_within}
 use Rattle.amqp_value_core.specs.Values as values
 use Rattle.amqp_value_core.specs.Values.{Tree, scalar, long, octets, table, Trees, no_trees, tree, Entries, no_entries, entry}
-use Rattle.amqp_value_core.specs.Inserting.{insert_all}
+use Rattle.amqp_value_core.specs.Maps.{insert_all}
 use Rattle.amqp_json.specs.Names.{type_named}
 
 -- whether a key begins with exactly one `$`, as `$` alone does too (past the end `slice_index` is 0)

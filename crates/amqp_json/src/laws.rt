@@ -6,7 +6,7 @@
 
 ghost use Rattle.std.specs.Prelude.{◌≡◌, Some, List, ℕ};
 ghost use Rattle.amqp_value_core.specs.Grammar.{Wire};
-ghost use Rattle.amqp_value_core.specs.Inputs.{IsBytes};
+ghost use Rattle.amqp_value_core.specs.Bytes.{IsBytes};
 ghost use Rattle.amqp_value_core.specs.Values.{Tree};
 ghost use Rattle.amqp_json.specs.Meaning.{meaning, meant};
 ghost use Rattle.amqp_json.specs.Written.{written, HasJson, json_text, MeansIfShallow};

@@ -3,7 +3,7 @@
 ghost use Rattle.std.specs.Prelude.{◌≡◌, ◌+◌, ◌-◌, ◌<◌, ◌^◌, ◌∷◌, [], ◌++◌, length, take, drop, false, None, Option, OnOk, IfErr, IfSome, MatchOption};
 ghost use Rattle.std.specs.Int.{w32, to_be_bytes};
 ghost use Rattle.amqp_value_core.specs.Grammar.{short_field, long_field};
-ghost use Rattle.amqp_value_core.specs.Strings.{IsShort};
+ghost use Rattle.amqp_value_core.specs.Bytes.{IsShort};
 ghost use Rattle.amqp_value_core.specs.Values.{Tree, Entries, scalar, decimal as decimal_tree};
 ghost use Rattle.amqp_json.specs.Meaning.{is_type_key, entry_key, with_entry, number_as};
 ghost use Rattle.amqp_json.specs.declared.error.JsonError.TheVariants.{OutOfMemory};

@@ -8,14 +8,12 @@ use Rattle.std.specs.declared.cmp.Ordering.{Ordering}
 use Rattle.std.specs.declared.cmp.Ordering.TheVariants.{Less, Equal, Greater}
 use Rattle.amqp_value_core.specs.declared.types.amqp_type.AMQPType.{AMQPType}
 use Rattle.amqp_value_core.specs.declared.types.amqp_type.AMQPType.TheVariants as amqp
-use Rattle.amqp_value_core.specs.Values.{Tree, Trees, Entries, no_entries, entry, scalar_type, depth, count}
-use Rattle.amqp_value_core.specs.Inserting.{insert, insert_all}
+use Rattle.amqp_value_core.specs.Values.{Tree, Trees, Entries, no_entries, entry, scalar_type, depth, count, greatest_depth, entries_depth, count_all, entries_count}
+use Rattle.amqp_value_core.specs.Maps.{insert, insert_all, Mean}
 use Rattle.amqp_value_core.specs.Layouts.{Layout, fixed, width_of}
 use Rattle.amqp_value_core.specs.Grammar.{Wire, wire, Raw, raw_fixed, raw_short, raw_long, raw_octets, raw_array, raw_table, ArrayBody, no_values, value, TableBody, no_pairs, pair}
-use Rattle.amqp_value_core.specs.Texts.{size}
+use Rattle.amqp_value_core.specs.Texts.{size, body_size, pairs_size}
 use Rattle.amqp_value_core.proofs.Spelling.{size_of_scalar, body_size_more, pairs_size_more}
-use Rattle.amqp_value_core.specs.Members.{greatest_depth, entries_depth, count_all, entries_count, body_size, pairs_size}
-use Rattle.amqp_value_core.specs.Maps.{Mean}
 use Rattle.amqp_value_core.proofs.Tables.{of_mean}
 
 -- ---- entries that are put

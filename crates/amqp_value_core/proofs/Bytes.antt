@@ -3,7 +3,7 @@
 use Rattle.std.proofs.Common.{ℕ, suc, zero, ◌<◌, ◌^◌, sym, subst, List, [], ◌∷◌, ◌++◌, get_or, take, drop, arith}
 use Rattle.std.proofs.lemmas.List.{take-append-drop}
 use Rattle.std.specs.Int.{w8, w16, w32, w64, from_be_bytes}
-use Rattle.amqp_value_core.specs.Inputs.{IsBytes}
+use Rattle.amqp_value_core.specs.Bytes.{IsBytes}
 
 -- a part of some bytes is bytes
 pub bytes_before : (s t : List ℕ) → IsBytes (s ++ t) → IsBytes s

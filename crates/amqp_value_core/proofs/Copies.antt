@@ -11,10 +11,9 @@ use Rattle.amqp_value_core.specs.declared.types.field_table.FieldTable.{FieldTab
 use Rattle.amqp_value_core.specs.declared.value.AMQPValue.{AMQPValue, the_lemmas}
 use Rattle.amqp_value_core.specs.declared.value.AMQPValue.TheVariants as value
 use Rattle.amqp_value_core.specs.Values.{no_trees, no_entries, entry, array, table}
-use Rattle.amqp_value_core.specs.Inserting.{insert}
-use Rattle.amqp_value_core.specs.NeedsNoAlloc.{NeedsNoAlloc}
+use Rattle.amqp_value_core.specs.Maps.{insert}
+use Rattle.amqp_value_core.specs.Containers.{NeedsNoAlloc, trees, entries, array_items, array_view, table_entries, table_view}
 use Rattle.amqp_value_core.specs.View.{view}
-use Rattle.amqp_value_core.specs.Containers.{trees, entries, array_items, array_view, table_entries, table_view}
 
 abbrev pub StoredPair : Type 0
 StoredPair = List ℕ × AMQPValue

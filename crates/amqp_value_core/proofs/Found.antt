@@ -10,9 +10,9 @@ use Rattle.std.specs.Int.{w32, byte_len, from_be_bytes, to_be_bytes}
 use Rattle.amqp_value_core.specs.declared.types.amqp_type.AMQPType.{AMQPType}
 use Rattle.amqp_value_core.specs.declared.types.amqp_type.AMQPType.TheVariants as amqp
 use Rattle.amqp_value_core.specs.Values.{Tree, scalar, short, long, octets, array, table, Trees, tree, Entries, no_entries}
-use Rattle.amqp_value_core.specs.Inserting.{insert, insert_all}
+use Rattle.amqp_value_core.specs.Maps.{insert, insert_all}
 use Rattle.amqp_value_core.specs.Layouts.{Layout, fixed}
-use Rattle.amqp_value_core.specs.Strings.{IsShort}
+use Rattle.amqp_value_core.specs.Bytes.{IsShort}
 use Rattle.amqp_value_core.specs.Grammar.{Wire, Raw, short_field, wire, raw_fixed, raw_short, raw_long, raw_octets, raw_array, raw_table}
 use Rattle.amqp_value_core.specs.Nesting.{WireWithin, within_wire, RawWithin, within_plain, within_array, within_table, BodyWithin, within_no_values, within_value, PairsWithin, within_no_pairs, within_pair}
 use Rattle.amqp_value_core.proofs.Nests.{wire_of}

@@ -9,8 +9,7 @@ use Rattle.std.specs.Map.{keys_of, lookup, update, update_all}
 use Rattle.std.specs.BTreeMap.{is_at}
 use Rattle.amqp_value_core.specs.declared.value.AMQPValue.{AMQPValue}
 use Rattle.amqp_value_core.specs.Values.{Tree, no_entries, ComesBefore}
-use Rattle.amqp_value_core.specs.Inserting.{insert_all}
-use Rattle.amqp_value_core.specs.Maps.{same_bytes, value_at, last_at, IsRising}
+use Rattle.amqp_value_core.specs.Maps.{insert_all, same_bytes, value_at, last_at, IsRising}
 use Rattle.amqp_value_core.specs.View.{view}
 use Rattle.amqp_value_core.specs.Containers.{entries}
 use Rattle.amqp_value_core.proofs.GrammarLaws.{same_tables, pairs_rise, last_stays, option_or-none}

@@ -4,10 +4,8 @@ use Rattle.amqp_value_core.specs.declared.types.amqp_type.AMQPType.{AMQPType}
 use Rattle.amqp_value_core.specs.Values.{Tree}
 use Rattle.amqp_value_core.specs.Ids.{kind}
 use Rattle.amqp_value_core.specs.Grammar.{Wire, Raw}
-use Rattle.amqp_value_core.specs.Outcomes.{Reading, found, more, unknown, malformed, lack, RawOutcomeBy, OutcomeBy, no_byte, no_tag, needs_more, at_start, not_at_start, Outcome}
-use Rattle.amqp_value_core.specs.Payloads.{RawOutcome}
+use Rattle.amqp_value_core.specs.Outcomes.{Reading, found, more, unknown, malformed, lack, RawOutcomeBy, OutcomeBy, no_byte, no_tag, needs_more, at_start, not_at_start, Outcome, RawOutcome, StillWaits, with_more}
 use Rattle.amqp_value_core.specs.Nesting.{WireWithin, within_wire, RawWithin, OutcomeWithin, RawOutcomeWithin}
-use Rattle.amqp_value_core.specs.Readings.{StillWaits, with_more}
 use Rattle.amqp_value_core.proofs.Prefixes.{one_held}
 use Rattle.amqp_value_core.proofs.Headers.{lack-raw}
 use Rattle.amqp_value_core.proofs.MoreBytes.{more_raw_bytes_by, more_bytes_by}

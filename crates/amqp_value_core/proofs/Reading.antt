@@ -4,16 +4,14 @@ use Rattle.std.specs.Int.{w32}
 use Rattle.std.proofs.lemmas.Bool.{and_from, both_ways}
 use Rattle.amqp_value_core.specs.declared.types.amqp_type.AMQPType.{AMQPType}
 use Rattle.amqp_value_core.specs.declared.types.amqp_type.AMQPType.TheVariants as amqp
-use Rattle.amqp_value_core.specs.Values.{Tree, scalar, short, long, octets, array, table, Trees, no_trees, tree, Entries, no_entries, entry, readable}
+use Rattle.amqp_value_core.specs.Values.{Tree, scalar, short, long, octets, array, table, Trees, no_trees, tree, Entries, no_entries, entry, readable, all_readable, entries_readable}
 use Rattle.amqp_value_core.specs.Ids.{kind, id_of}
-use Rattle.amqp_value_core.specs.Strings.{IsShort}
+use Rattle.amqp_value_core.specs.Bytes.{IsShort}
 use Rattle.amqp_value_core.specs.Grammar.{short_field, long_field, Wire, wire, Raw, raw_fixed, raw_short, raw_array, raw_table, ArrayBody, no_values, value, TableBody, no_pairs, pair}
 use Rattle.amqp_value_core.specs.Nesting.{RawWithin, within_plain, within_array, within_table, BodyWithin, PairsWithin}
-use Rattle.amqp_value_core.specs.Texts.{text, body, pairs, Fits}
-use Rattle.amqp_value_core.specs.Members.{all_readable, entries_readable, AllFit, EntriesFit}
+use Rattle.amqp_value_core.specs.Texts.{text, body, pairs, Fits, AllFit, EntriesFit}
 use Rattle.amqp_value_core.specs.InMemory.{IsValue, AreValues, AreEntries}
-use Rattle.amqp_value_core.specs.Readings.{unread, read_back}
-use Rattle.amqp_value_core.specs.Outcomes.{counted, found, malformed, lack, no_tag, Outcome}
+use Rattle.amqp_value_core.specs.Outcomes.{unread, read_back, counted, found, malformed, lack, no_tag, Outcome}
 use Rattle.amqp_value_core.proofs.Prefixes.{same_prefixes}
 use Rattle.amqp_value_core.proofs.Headers.{counted-long_field, lack_of-long_field}
 use Rattle.amqp_value_core.proofs.Unique.{one_prefix, one_key}

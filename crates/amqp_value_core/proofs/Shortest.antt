@@ -6,17 +6,15 @@ use Rattle.std.specs.Int.{w32, to_be_bytes}
 use Rattle.std.proofs.lemmas.Bool.{and_from}
 use Rattle.amqp_value_core.specs.declared.types.amqp_type.AMQPType.{AMQPType}
 use Rattle.amqp_value_core.specs.declared.types.amqp_type.AMQPType.TheVariants as amqp
-use Rattle.amqp_value_core.specs.Values.{Tree, Trees, Entries, no_entries, entry, readable}
+use Rattle.amqp_value_core.specs.Values.{Tree, Trees, Entries, no_entries, entry, readable, all_readable, entries_readable}
 use Rattle.amqp_value_core.specs.Ids.{kind}
 use Rattle.amqp_value_core.specs.Names.{read_as}
 use Rattle.amqp_value_core.proofs.Ids.{kind_read}
 use Rattle.amqp_value_core.specs.Layouts.{Layout, fixed}
-use Rattle.amqp_value_core.specs.Strings.{IsShort}
+use Rattle.amqp_value_core.specs.Bytes.{IsShort, IsBytes}
 use Rattle.amqp_value_core.specs.Grammar.{short_field, Wire, wire, Raw, raw_fixed, raw_short, raw_long, raw_octets, raw_array, raw_table, ArrayBody, no_values, value, TableBody, no_pairs, pair}
-use Rattle.amqp_value_core.specs.Texts.{text, Fits}
-use Rattle.amqp_value_core.specs.Members.{all_readable, entries_readable, AllFit, EntriesFit}
+use Rattle.amqp_value_core.specs.Texts.{text, Fits, AllFit, EntriesFit}
 use Rattle.amqp_value_core.specs.InMemory.{IsScalar, IsValue, AreValues, AreEntries}
-use Rattle.amqp_value_core.specs.Inputs.{IsBytes}
 use Rattle.amqp_value_core.specs.Maps.{IsRising}
 use Rattle.amqp_value_core.proofs.Bytes.{bytes_before, bytes_after, bytes_take, bytes_drop, below_1, below_2, below_4, below_8}
 use Rattle.amqp_value_core.proofs.Tables.{Each, each-mean}

@@ -11,18 +11,16 @@ use Rattle.std.specs.Int.{w8, w32, byte_len, from_be_bytes, to_be_bytes}
 use Rattle.amqp_value_core.specs.declared.types.amqp_type.AMQPType.{AMQPType}
 use Rattle.amqp_value_core.specs.declared.types.amqp_type.AMQPType.TheVariants as amqp
 use Rattle.amqp_value_core.specs.Values.{Tree, short, long, octets, array, table, Trees, tree, Entries, no_entries, entry}
-use Rattle.amqp_value_core.specs.Inserting.{insert, insert_all}
+use Rattle.amqp_value_core.specs.Maps.{insert, insert_all, Mean}
 use Rattle.amqp_value_core.specs.Ids.{kind}
 use Rattle.amqp_value_core.specs.Layouts.{Layout, fixed}
-use Rattle.amqp_value_core.specs.Strings.{IsShort}
+use Rattle.amqp_value_core.specs.Bytes.{IsShort, IsBytes}
 use Rattle.amqp_value_core.specs.Grammar.{short_field, long_field, raw_short, raw_long, raw_octets}
 use Rattle.amqp_value_core.specs.Nesting.{WireWithin, within_wire, RawWithin, within_plain, within_array, within_table, BodyWithin, within_no_values, within_value, PairsWithin, within_no_pairs, within_pair}
 use Rattle.amqp_value_core.proofs.Nests.{fixed_within}
-use Rattle.amqp_value_core.specs.Inputs.{IsBytes}
 use Rattle.amqp_value_core.specs.Outcomes.{Reading, found, more, unknown, malformed, length_field, counted, lack, lack_of, frame_lack}
 use Rattle.amqp_value_core.specs.Decode.{Meaning, framed, raw_outcome_by, outcome_by, values_by, is_short, is_key, pairs_onto, meaning}
 use Rattle.amqp_value_core.proofs.Bytes.{bytes_after, bytes_take, bytes_drop, byte_at}
-use Rattle.amqp_value_core.specs.Maps.{Mean}
 use Rattle.amqp_value_core.proofs.Tables.{put_mean}
 use Rattle.amqp_value_core.proofs.Headers.{extent_of-whole}
 use Rattle.amqp_value_core.proofs.Outcomes.{NeedsMoreOr, NeedsMoreOr-weaker}

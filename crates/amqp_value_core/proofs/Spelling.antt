@@ -5,9 +5,8 @@ use Rattle.std.proofs.lemmas.Bool.{and_parts}
 use Rattle.std.proofs.lemmas.Nat.{from_be_bytes-to_be_bytes_2, from_be_bytes-to_be_bytes_4, from_be_bytes-to_be_bytes_8}
 use Rattle.amqp_value_core.specs.declared.types.amqp_type.AMQPType.{AMQPType}
 use Rattle.amqp_value_core.specs.declared.types.amqp_type.AMQPType.TheVariants as amqp
-use Rattle.amqp_value_core.specs.Values.{Scalar, boolean, number, decimal, void, Tree, scalar, short, long, octets, array, table, Trees, no_trees, tree, Entries, no_entries, entry, scalar_type, readable, type_of}
-use Rattle.amqp_value_core.specs.Texts.{payload, text, body, pairs, size, Fits}
-use Rattle.amqp_value_core.specs.Members.{all_readable, entries_readable, body_size, pairs_size, AllFit, EntriesFit}
+use Rattle.amqp_value_core.specs.Values.{Scalar, boolean, number, decimal, void, Tree, scalar, short, long, octets, array, table, Trees, no_trees, tree, Entries, no_entries, entry, scalar_type, readable, type_of, all_readable, entries_readable}
+use Rattle.amqp_value_core.specs.Texts.{payload, text, body, pairs, size, Fits, body_size, pairs_size, AllFit, EntriesFit}
 use Rattle.amqp_value_core.specs.Ids.{kind, id_of}
 use Rattle.amqp_value_core.specs.Layouts.{Layout, fixed, width_of, spelled}
 use Rattle.amqp_value_core.specs.Grammar.{long_field, Wire, wire, Raw, raw_fixed, raw_long, raw_octets, raw_array, raw_table, ArrayBody, no_values, value, TableBody, no_pairs, pair}

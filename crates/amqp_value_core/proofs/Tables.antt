@@ -8,9 +8,8 @@ use Rattle.std.specs.declared.cmp.Ordering.{Ordering}
 use Rattle.std.specs.declared.cmp.Ordering.TheVariants.{Less, Equal, Greater}
 use Rattle.std.proofs.lemmas.Cmp.{nat_list_cmp_total}
 use Rattle.amqp_value_core.specs.Values.{Tree, Entries, no_entries, entry, ComesBefore}
-use Rattle.amqp_value_core.specs.Inserting.{insert, insert_all}
+use Rattle.amqp_value_core.specs.Maps.{insert, insert_all, same_bytes, has_key, value_at, last_at, IsRising, Mean}
 use Rattle.amqp_value_core.specs.InMemory.{AreEntries}
-use Rattle.amqp_value_core.specs.Maps.{same_bytes, has_key, value_at, last_at, IsRising, Mean}
 
 -- ---- the order of keys
 

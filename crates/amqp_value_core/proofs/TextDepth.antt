@@ -3,17 +3,16 @@ use Rattle.std.proofs.Common.{◌≡◌, ◌≢◌, ◌≤◌, ℕ, zero, suc, L
 use Rattle.std.proofs.lemmas.Bool.{and_parts}
 use Rattle.amqp_value_core.specs.declared.types.amqp_type.AMQPType.{AMQPType}
 use Rattle.amqp_value_core.specs.declared.types.amqp_type.AMQPType.TheVariants as amqp
-use Rattle.amqp_value_core.specs.Values.{Scalar, Tree, scalar, short, long, octets, array, table, Trees, no_trees, tree, Entries, no_entries, entry, scalar_type, depth, readable}
+use Rattle.amqp_value_core.specs.Values.{Scalar, Tree, scalar, short, long, octets, array, table, Trees, no_trees, tree, Entries, no_entries, entry, scalar_type, depth, readable, greatest_depth, entries_depth, all_readable, entries_readable}
 use Rattle.amqp_value_core.specs.Ids.{id_of}
 use Rattle.amqp_value_core.specs.Layouts.{spelled}
 use Rattle.amqp_value_core.specs.Grammar.{long_field, Raw, raw_fixed, raw_short, raw_long, raw_octets, raw_array, raw_table}
 use Rattle.amqp_value_core.specs.Nesting.{WireWithin, within_wire, RawWithin, within_plain, within_array, within_table, BodyWithin, within_no_values, within_value, PairsWithin, within_no_pairs, within_pair}
 use Rattle.amqp_value_core.proofs.Nests.{wire_of, fixed_within}
 use Rattle.amqp_value_core.proofs.Tables.{rising_mean, entries_rise}
-use Rattle.amqp_value_core.specs.Inputs.{IsBytes}
+use Rattle.amqp_value_core.specs.Bytes.{IsBytes}
 use Rattle.amqp_value_core.proofs.Shortest.{what_is_read, read_is_value}
-use Rattle.amqp_value_core.specs.Texts.{text, body, pairs, Fits}
-use Rattle.amqp_value_core.specs.Members.{greatest_depth, entries_depth, all_readable, entries_readable, AllFit, EntriesFit}
+use Rattle.amqp_value_core.specs.Texts.{text, body, pairs, Fits, AllFit, EntriesFit}
 use Rattle.amqp_value_core.specs.InMemory.{IsValue, AreValues, AreEntries}
 use Rattle.amqp_value_core.proofs.Bounds.{mean_within}
 use Rattle.amqp_value_core.proofs.Spelling.{scalar_spelled, scalar_raw}

@@ -3,9 +3,8 @@ use Rattle.std.proofs.Common.{ℕ, suc, zero, ◌≡◌, ◌≢◌, sym, refl, s
 use Rattle.amqp_value_core.specs.declared.types.amqp_type.AMQPType.{AMQPType}
 use Rattle.amqp_value_core.specs.declared.types.amqp_type.AMQPType.TheVariants as amqp
 use Rattle.amqp_value_core.specs.Layouts.{fixed}
-use Rattle.amqp_value_core.specs.Inputs.{IsBytes}
-use Rattle.amqp_value_core.specs.Outcomes.{Reading, malformed, lack}
-use Rattle.amqp_value_core.specs.Payloads.{RawOutcome}
+use Rattle.amqp_value_core.specs.Bytes.{IsBytes}
+use Rattle.amqp_value_core.specs.Outcomes.{Reading, malformed, lack, RawOutcome}
 use Rattle.amqp_value_core.specs.Decode.{meaning, compute_raw_outcome}
 use Rattle.amqp_value_core.proofs.Agreement.{raw_outcome_is}
 use Rattle.amqp_value_core.proofs.Found.{by_layout, by_lack}

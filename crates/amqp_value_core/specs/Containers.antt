@@ -1,9 +1,9 @@
--- What arrays and tables are viewed as.
-use Rattle.std.specs.Prelude.{ℕ, List, map}
+-- What arrays and tables in memory are viewed as, and which values are stored without an allocation.
+use Rattle.std.specs.Prelude.{ℕ, List, map, ◌≡◌, []}
 use Rattle.amqp_value_core.specs.declared.types.field_array.FieldArray.{FieldArray}
 use Rattle.amqp_value_core.specs.declared.types.field_table.FieldTable.{FieldTable}
 use Rattle.amqp_value_core.specs.declared.value.AMQPValue.{AMQPValue}
-use Rattle.amqp_value_core.specs.Values.{Trees, trees_of, Entries, entries_of}
+use Rattle.amqp_value_core.specs.Values.{Trees, trees_of, Entries, entries_of, Tree, scalar, short, long, octets, array, table, no_trees, no_entries}
 use Rattle.amqp_value_core.specs.View.{view}
 
 -- the values of an array, in order
@@ -38,3 +38,12 @@ module _ {K : Type 0} (text : K → List ℕ) where
   -- the entries, each at its string
   abbrev pub named : List (K × AMQPValue) → List (List ℕ × AMQPValue)
   named es = map (λ e. (text e.0, e.1)) es
+
+-- v is stored without an allocation: it has a fixed width, or it is empty
+abbrev pub NeedsNoAlloc : Tree → Type 0
+NeedsNoAlloc (scalar x) = Unit {0}
+NeedsNoAlloc (short s) = s ≡ []
+NeedsNoAlloc (long s) = s ≡ []
+NeedsNoAlloc (octets s) = s ≡ []
+NeedsNoAlloc (array vs) = vs ≡ no_trees
+NeedsNoAlloc (table es) = es ≡ no_entries

@@ -1,11 +1,13 @@
--- The outcome as a function: what reading computes to, for any list of bytes.
-use Rattle.std.specs.Prelude.{ℕ, suc, zero, Bool, ◌&&◌, nat_le, Option, Some, None, option_map, List, [], ◌∷◌, length, take, drop, if◌then◌else◌}
+-- The outcome as a function: what reading computes to, for any list of bytes. The worked examples of
+-- other crates use it, and write bytes by `hex`.
+use Prim.Native.String.{String}
+use Rattle.std.specs.Prelude.{ℕ, Bool, true, false, ◌+◌, ◌-◌, ◌*◌, List, [], ◌∷◌, codes, nat_eq, nat_lt, if◌then◌else◌, suc, zero, ◌&&◌, nat_le, Option, Some, None, option_map, length, take, drop}
 use Rattle.std.specs.Int.{Width, byte_len}
 use Rattle.std.specs.Str.{is_utf8}
 use Rattle.amqp_value_core.specs.declared.types.amqp_type.AMQPType.{AMQPType}
 use Rattle.amqp_value_core.specs.declared.types.amqp_type.AMQPType.TheVariants as amqp
 use Rattle.amqp_value_core.specs.Values.{Tree, scalar, short, long, octets, array, table, Trees, no_trees, tree, Entries, no_entries}
-use Rattle.amqp_value_core.specs.Inserting.{insert}
+use Rattle.amqp_value_core.specs.Maps.{insert}
 use Rattle.amqp_value_core.specs.Ids.{kind}
 use Rattle.amqp_value_core.specs.Layouts.{fixed}
 use Rattle.amqp_value_core.specs.Outcomes.{Reading, found, more, unknown, malformed, length_field, counted, lack}
@@ -73,3 +75,20 @@ compute_outcome s = outcome_by (meaning (length s)) s
 -- the outcome of reading a payload of the type
 abbrev pub compute_raw_outcome : AMQPType → List ℕ → Reading
 compute_raw_outcome type b = raw_outcome_by (meaning (length b)) type b
+
+-- ---- bytes, as the worked examples write them
+
+-- the value of a digit, `0` to `9` or `a` to `f`
+abbrev pub digit : ℕ → ℕ
+digit c = if nat_lt c 97 then c - 48 else c - 87
+
+-- what the rest of a notation denotes, outside quotes or within them
+abbrev pub noted : List ℕ → Bool → List ℕ
+noted [] _ = []
+noted (c ∷ s) true = elim (nat_eq c 39) [ true ↦ noted s false | false ↦ c ∷ noted s true ]
+noted (c ∷ []) false = []
+noted (c ∷ d ∷ s) false = elim (nat_eq c 39) [ true ↦ noted (d ∷ s) true | false ↦ elim (nat_eq c 32) [ true ↦ noted (d ∷ s) false | false ↦ (16 * digit c + digit d) ∷ noted s false ] ]
+
+-- two digits are a byte, an ASCII string between quotes is its bytes, and spaces denote nothing
+abbrev pub hex : String → List ℕ
+hex s = noted (codes s) false

@@ -2,7 +2,7 @@
 use Rattle.std.specs.Prelude.{ℕ, ◌*◌, ◌≤◌, ◌≡◌, ◌↔◌, IsTrue, List, length}
 use Rattle.amqp_value_core.specs.Values.{Tree, readable, depth, count}
 use Rattle.amqp_value_core.specs.Grammar.{Wire}
-use Rattle.amqp_value_core.specs.Inputs.{IsBytes}
+use Rattle.amqp_value_core.specs.Bytes.{IsBytes}
 use Rattle.amqp_value_core.specs.Texts.{text, size, Fits}
 use Rattle.amqp_value_core.specs.Canonical.{Canon}
 

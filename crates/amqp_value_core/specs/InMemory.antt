@@ -3,7 +3,7 @@ use Rattle.std.specs.Prelude.{ℕ, ◌^◌, ◌<◌}
 use Rattle.amqp_value_core.specs.declared.types.amqp_type.AMQPType.{AMQPType}
 use Rattle.amqp_value_core.specs.declared.types.amqp_type.AMQPType.TheVariants as amqp
 use Rattle.amqp_value_core.specs.Values.{Scalar, number, decimal, Tree, scalar, short, array, table, Trees, no_trees, tree, Entries, no_entries, entry, ComesBefore}
-use Rattle.amqp_value_core.specs.Strings.{IsShort}
+use Rattle.amqp_value_core.specs.Bytes.{IsShort}
 
 -- n can be the bits of a number of the type; no value in memory has the type LongLongUInt, which is read
 -- as a LongLongInt

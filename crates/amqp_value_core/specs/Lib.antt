@@ -5,33 +5,29 @@
 
 -- which byte denotes which type (44 lines)
 pub mod Ids
--- which bytes a short string may have (3 lines)
-pub mod Strings
+-- which lists are bytes and short strings, and what an input has (13 lines)
+pub mod Bytes
 -- what a value is, without its place in memory (74 lines)
 pub mod Values
 -- payloads of fixed width (35 lines)
 pub mod Layouts
--- a table as a finite map: what is found at a key, and what pairs mean (17 lines)
+-- a table as a finite map: what is found at a key, what pairs mean, and what an insertion changes
+-- (23 lines)
 pub mod Maps
 -- which bytes are an encoding of which value (20 lines)
 pub mod Grammar
--- what reading any bytes results in: a value, more bytes that are needed, or an error (49 lines)
+-- what reading any bytes results in: a value, more bytes that are needed, or an error; also if more
+-- bytes follow, and of what was written (64 lines)
 pub mod Outcomes
--- what reading results in if more bytes follow, and of what was written (13 lines)
-pub mod Readings
--- what a value is written as (33 lines)
+-- what a value is written as (37 lines)
 pub mod Texts
 -- which encoding is the canonical one, determined by its bytes alone (19 lines)
 pub mod Canonical
 -- which trees are values in memory (29 lines)
 pub mod InMemory
--- the bytes that an input has (4 lines)
-pub mod Inputs
 -- the words of the headline about sizes and about what is written (12 lines)
 pub mod Headline
--- what numbers, long strings and byte arrays are viewed as (8 lines)
-pub mod Contents
--- the tree that a value in memory denotes (25 lines)
+-- the tree that a value in memory denotes (33 lines)
 pub mod View
 -- ---- what other contracts cite
 
@@ -39,30 +35,21 @@ pub mod View
 pub mod Names
 -- the errors for a string that is too long
 pub mod Short
--- prefixes of lists of bytes
-pub mod Prefix
--- an input in two parts
-pub mod Splits
--- a value's type and its payload apart: what reading a payload results in
-pub mod Payloads
 -- encodings in which containers nest at most that deep
 pub mod Nesting
--- entries with one more
-pub mod Inserting
--- values that are stored without an allocation
-pub mod NeedsNoAlloc
--- values in memory
+-- arrays and tables in memory, and values that are stored without an allocation
 pub mod Containers
+-- a table that is lent: what becomes of it if a call fails
 pub mod Lending
+-- when two values are equal
 pub mod Equality
+-- the laws of `PartialEq`
 pub mod Decided
+-- what a value of a given type has inside
 pub mod Getters
+-- which value a JSON value is
 pub mod Json
 -- ---- what only proofs and worked examples use
 
--- what holds of all that are in a container
-pub mod Members
 -- the outcomes as a function; law `outcome_computes`
 pub mod Decode
--- bytes as a person writes them
-pub mod Hexadecimal

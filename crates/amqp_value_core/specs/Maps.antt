@@ -1,7 +1,8 @@
--- A table is a finite map: what is found at a key.
+-- A table is a finite map: what is found at a key, what pairs mean, and what an insertion changes.
 use Rattle.std.specs.Prelude.{ℕ, Bool, false, ◌||◌, ◌≡◌, Option, Some, None, List, nat_eq, if◌then◌else◌}
 use Rattle.std.specs.Option.{option_or}
-use Rattle.std.specs.Cmp.Lexicographic.{pointwise}
+use Rattle.std.specs.Cmp.Lexicographic.{pointwise, slice_cmp}
+use Rattle.std.specs.Ordering.{nat_cmp, match_ordering}
 use Rattle.amqp_value_core.specs.Values.{Tree, Entries, no_entries, entry, ComesBefore}
 
 -- whether two keys are the same bytes
@@ -34,3 +35,16 @@ IsRising (entry k v es) = ComesBefore k es × IsRising es
 pub record Mean (ps es : Entries) : Type 0 where
   pub rising : IsRising es
   pub last : (k : List ℕ) → value_at k es ≡ last_at k ps
+
+-- ---- what `FieldTable::insert` does
+
+-- the entries, with v at k: an equal key takes the value, and a new one goes to its place in the
+-- order
+abbrev pub insert : List ℕ → Tree → Entries → Entries
+insert k v no_entries = entry k v no_entries
+insert k v (entry j u es) = match_ordering (slice_cmp nat_cmp k j) (entry k v (entry j u es)) (entry j v es) (entry j u (insert k v es))
+
+-- the entries, with pairs put one after another: of equal keys the last pair's value stays
+abbrev pub insert_all : Entries → Entries → Entries
+insert_all es no_entries = es
+insert_all es (entry k v ps) = insert_all (insert k v es) ps

@@ -3,10 +3,10 @@ use Rattle.std.specs.Prelude.{ℕ, suc, ◌+◌, ◌-◌, ◌<◌, ◌≡◌, Op
 use Rattle.std.specs.Int.{Width, w8, w32, byte_len, from_be_bytes}
 use Rattle.amqp_value_core.specs.declared.types.amqp_type.AMQPType.{AMQPType}
 use Rattle.amqp_value_core.specs.declared.types.amqp_type.AMQPType.TheVariants as amqp
-use Rattle.amqp_value_core.specs.Values.{Tree}
+use Rattle.amqp_value_core.specs.Values.{Tree, short, readable}
 use Rattle.amqp_value_core.specs.Ids.{kind}
 use Rattle.amqp_value_core.specs.Layouts.{Layout, fixed}
-use Rattle.amqp_value_core.specs.Grammar.{Wire}
+use Rattle.amqp_value_core.specs.Grammar.{Wire, Raw}
 
 pub data Reading : Type 0 where
   -- a value, and the bytes after its encoding
@@ -84,6 +84,10 @@ pub data OutcomeBy (P : List ℕ → Tree → Type 0) : List ℕ → Reading →
 abbrev pub Outcome : List ℕ → Reading → Type 0
 Outcome s o = OutcomeBy Wire s o
 
+-- reading a payload of the type from s results in o
+abbrev pub RawOutcome : AMQPType → List ℕ → Reading → Type 0
+RawOutcome type s o = RawOutcomeBy (Raw type) type s o
+
 -- the types whose payloads have a length field
 abbrev pub HasLength : AMQPType → Type 0
 HasLength amqp.ShortString = Unit {0}
@@ -101,3 +105,27 @@ RawHeavy type s = HasLength type × (lack type s ≡ 0) × (0 < counted (length_
 abbrev pub Heavy : List ℕ → Type 0
 Heavy [] = ⊥
 Heavy (c ∷ b) = MatchOption (kind c) ⊥ (λ type. RawHeavy type b)
+
+-- ---- what reading results in if more bytes follow, and of what was written
+
+-- the outcome if t follows, and is less than what is still needed (`StillWaits`)
+abbrev pub with_more : Reading → List ℕ → Reading
+with_more (found v rest) t = found v (rest ++ t)
+with_more (more n) t = more (n - length t)
+with_more unknown t = unknown
+with_more malformed t = malformed
+
+-- if more bytes are needed, t has fewer
+abbrev pub StillWaits : Reading → List ℕ → Type 0
+StillWaits (more n) t = length t < n
+StillWaits _ t = Unit {0}
+
+-- what a value is rejected as that isn't readable: a short string for its type tag, which isn't read,
+-- and a container with one inside for its body, which isn't encodings one after another
+abbrev pub unread : Tree → Reading
+unread (short s) = unknown
+unread _ = malformed
+
+-- what reading results in of what was written for v, with `rest` after it: v again if v is readable
+abbrev pub read_back : Tree → List ℕ → Reading
+read_back v rest = if readable v then found v rest else unread v

@@ -36,6 +36,13 @@ text v = after_id v (payload v)
 abbrev pub size : Tree → ℕ
 size v = length (text v)
 
+-- how many bytes an array's values have, and a table's entries with their keys
+abbrev pub body_size : Trees → ℕ
+body_size vs = length (body vs)
+
+abbrev pub pairs_size : Entries → ℕ
+pairs_size es = length (pairs es)
+
 -- each length in four bytes fits its field: that of the value, and of each in it
 abbrev mutual
   pub Fits : Tree → Type 0

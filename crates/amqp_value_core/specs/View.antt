@@ -1,14 +1,33 @@
 -- The tree that an `AMQPValue` denotes: its variant, with each content as its number or its bytes, and
 -- each value in it as its tree, in the order of the array or of the table's keys.
-use Rattle.std.specs.Prelude.{map}
+use Rattle.std.specs.Prelude.{ℕ, List, map}
 use Rattle.std.specs.Int.{w8, w16, w32, w64, cast_unsigned}
+use Rattle.amqp_value_core.specs.declared.types.float.Float.{Float}
+use Rattle.amqp_value_core.specs.declared.types.double.Double.{Double}
+use Rattle.amqp_value_core.specs.declared.types.long_string.LongString.{LongString}
+use Rattle.amqp_value_core.specs.declared.types.byte_array.ByteArray.{ByteArray}
 use Rattle.amqp_value_core.specs.declared.types.amqp_type.AMQPType.TheVariants as amqp
 use Rattle.amqp_value_core.specs.declared.types.field_array.FieldArray.{FieldArray}
 use Rattle.amqp_value_core.specs.declared.types.field_table.FieldTable.{FieldTable}
 use Rattle.amqp_value_core.specs.declared.value.AMQPValue.{AMQPValue, fold-AMQPValue}
 use Rattle.amqp_value_core.specs.declared.value.AMQPValue.TheOpen.{AMQPValue-F, FieldArray-F, FieldTable-F}
 use Rattle.amqp_value_core.specs.Values.{boolean, number, decimal, void, Tree, scalar, short, long, octets, array, table, Trees, trees_of, Entries, entries_of}
-use Rattle.amqp_value_core.specs.Contents.{float_bits, double_bits, long_bytes, octets_of}
+
+-- the bits of a Float, as a number of 32 bits
+abbrev pub float_bits : Float → ℕ
+float_bits f = f.bits
+
+-- the bits of a Double, as a number of 64 bits
+abbrev pub double_bits : Double → ℕ
+double_bits f = f.bits
+
+-- the bytes of a long string
+abbrev pub long_bytes : LongString → List ℕ
+long_bytes s = s.bytes.items
+
+-- the bytes of a byte array
+abbrev pub octets_of : ByteArray → List ℕ
+octets_of a = a.bytes.items
 
 -- one level, with each value inside already viewed as its tree
 abbrev pub view_step : AMQPValue-F Tree Trees Entries → Tree

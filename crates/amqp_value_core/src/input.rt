@@ -1,8 +1,7 @@
 //! The inputs of parsers.
 
 ghost use Rattle.std.specs.Prelude.{◌≡◌, ◌<◌, ◌≤◌, List, ℕ, length, slice_index, take, drop};
-ghost use Rattle.amqp_value_core.specs.Prefix.{IsPrefix};
-ghost use Rattle.amqp_value_core.specs.Inputs.{IsBytes};
+ghost use Rattle.amqp_value_core.specs.Bytes.{IsPrefix, IsBytes};
 
 mod split;
 
@@ -61,7 +60,7 @@ pub struct SliceInput<'a> {
 }
 
 impl<'a> SliceInput<'a> {
-    ghost use Rattle.amqp_value_core.specs.Inputs.{slice_bytes};
+    ghost use Rattle.amqp_value_core.specs.Bytes.{slice_bytes};
 
     /// Makes an input of all bytes of a slice. Doesn't copy or allocate.
     pub fn new(slice: &'a [u8]) -> Self
@@ -80,7 +79,7 @@ impl<'a> SliceInput<'a> {
 }
 
 impl<'a> ParsableInput for SliceInput<'a> {
-    ghost use Rattle.amqp_value_core.specs.Inputs.{slice_bytes};
+    ghost use Rattle.amqp_value_core.specs.Bytes.{slice_bytes};
 
     ghost bytes = { slice_bytes };
 

@@ -7,21 +7,18 @@
 ghost use Rattle.std.specs.Prelude.{◌≡◌, ◌↔◌, ◌+◌, ℕ, List, ◌∷◌, ◌++◌, length, IsTrue, Some, ◌≢◌, ◌≤◌, ◌*◌, is_some, ◌-◌};
 ghost use Rattle.amqp_value_core.specs.declared.types.amqp_type.AMQPType.{AMQPType};
 ghost use Rattle.amqp_value_core.specs.Values.{Scalar, Tree, scalar, short, long, octets, array, table, Trees, no_trees, tree, Entries, no_entries, entry, scalar_type, type_of, readable, depth, count};
-ghost use Rattle.amqp_value_core.specs.Inserting.{insert, insert_all};
+ghost use Rattle.amqp_value_core.specs.Maps.{insert, insert_all, has_key, value_at, last_at, IsRising};
 ghost use Rattle.amqp_value_core.specs.Layouts.{width_of};
-ghost use Rattle.amqp_value_core.specs.Payloads.{RawOutcome};
+ghost use Rattle.amqp_value_core.specs.Outcomes.{RawOutcome, read_back, StillWaits, with_more, Reading, Outcome, Heavy, RawHeavy, found, malformed};
 ghost use Rattle.amqp_value_core.specs.Texts.{payload, text, size, Fits};
 ghost use Rattle.amqp_value_core.specs.Grammar.{Wire, Raw};
 ghost use Rattle.amqp_value_core.specs.Nesting.{WireWithin, OutcomeWithin, nesting};
 ghost use Rattle.amqp_value_core.specs.InMemory.{IsValue};
-ghost use Rattle.amqp_value_core.specs.Readings.{read_back, StillWaits, with_more};
 ghost use Rattle.amqp_value_core.specs.Ids.{kind};
-ghost use Rattle.amqp_value_core.specs.Inputs.{IsBytes};
-ghost use Rattle.amqp_value_core.specs.Outcomes.{Reading, Outcome, Heavy, RawHeavy, found, malformed};
+ghost use Rattle.amqp_value_core.specs.Bytes.{IsBytes};
 ghost use Rattle.amqp_value_core.specs.Decode.{compute_outcome, compute_raw_outcome, meaning, outcome_by};
 ghost use Rattle.amqp_value_core.specs.Canonical.{Canon};
 ghost use Rattle.amqp_value_core.specs.Headline.{IsCanonical, IsWritableIn, IsShortest, TellsApart};
-ghost use Rattle.amqp_value_core.specs.Maps.{has_key, value_at, last_at, IsRising};
 ghost use Rattle.amqp_value_core.specs.declared.types.amqp_type.AMQPType.TheVariants as amqp;
 
 /// A list begins with at most one encoding, and that encoding has one meaning. So no encoding is a

@@ -1,7 +1,7 @@
 -- What is printed of an outcome.
 use Rattle.std.proofs.Common.{◌≡◌, ◌<◌, ℕ, suc, Some, None, List, [], ◌∷◌, cond, slice_index, Fits, w8, inl, inr, ap, sym, ◌∙◌}
 use Rattle.std.proofs.lemmas.Bool.{cases_lt, le-ltb, lt-ltb}
-use Rattle.amqp_value_core.specs.Inputs.{IsBytes}
+use Rattle.amqp_value_core.specs.Bytes.{IsBytes}
 use Rattle.amqp_value_core.specs.Outcomes.{Reading, more, unknown, malformed, Outcome, Heavy}
 use Rattle.amqp_value_core.specs.Decode.{compute_outcome, outcome_by, meaning}
 use Rattle.amqp_value_core.proofs.GrammarLaws.{outcome_is, within_is}

@@ -7,7 +7,7 @@ use Rattle.amqp_value_core.specs.declared.value.AMQPValue.{AMQPValue}
 use Rattle.amqp_value_core.specs.Values.{Tree}
 use Rattle.amqp_value_core.specs.View.{view}
 use Rattle.amqp_value_core.specs.Nesting.{WireWithin}
-use Rattle.amqp_value_core.specs.Inputs.{IsBytes}
+use Rattle.amqp_value_core.specs.Bytes.{IsBytes}
 use Rattle.amqp_value_core.specs.Outcomes.{Reading, found, more, unknown, malformed, no_byte}
 use Rattle.amqp_value_core.proofs.Bytes.{bytes_after}
 use Rattle.amqp_value_core.proofs.GrammarLaws.{wire_of, length-wire, one_reading, prefix_within, wire_found_within}

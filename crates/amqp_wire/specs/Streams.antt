@@ -3,7 +3,7 @@ use Rattle.std.specs.Prelude.{◌≡◌, ◌≤◌, ◌<◌, ℕ, zero, suc, Boo
 use Rattle.hex.specs.Hex.{encode_lower}
 use Rattle.amqp_value_core.specs.Values.{Tree}
 use Rattle.amqp_value_core.specs.Nesting.{WireWithin}
-use Rattle.amqp_value_core.specs.Inputs.{IsBytes}
+use Rattle.amqp_value_core.specs.Bytes.{IsBytes}
 use Rattle.amqp_value_core.specs.Outcomes.{Reading, found, more, unknown, malformed}
 use Rattle.amqp_value_core.specs.Texts.{text}
 use Rattle.amq_protocol_types.specs.declared.parsing.limits.Limits.{Limits}

@@ -2,7 +2,7 @@
 
 ghost use Rattle.std.specs.Prelude.{◌≡◌, ◌<◌, ◌^◌, ◌∷◌, ◌++◌, [], true, false, codes, OnOk, OnErr, IfOk, IfSome, string_bytes};
 ghost use Rattle.std.specs.Io.KnownBytes.{Appends};
-ghost use Rattle.amqp_value_core.specs.Inputs.{IsBytes};
+ghost use Rattle.amqp_value_core.specs.Bytes.{IsBytes};
 ghost use Rattle.amqp_value_core.specs.Texts.{size, Fits};
 ghost use Rattle.amqp_value_core.specs.View.{view};
 ghost use Rattle.amq_protocol_types.specs.stream.Readers.{kept, has_failed, limits_of};

@@ -4,9 +4,7 @@ use Rattle.std.specs.Option.{IfSome}
 use Rattle.amqp_value_core.specs.Values.{Tree}
 use Rattle.amqp_value_core.specs.Texts.{text, payload}
 use Rattle.amqp_value_core.specs.InMemory.{IsValue}
-use Rattle.amqp_value_core.specs.Outcomes.{Outcome}
-use Rattle.amqp_value_core.specs.Payloads.{RawOutcome}
-use Rattle.amqp_value_core.specs.Readings.{read_back}
+use Rattle.amqp_value_core.specs.Outcomes.{Outcome, RawOutcome, read_back}
 use Rattle.amqp_value_core.specs.Headline.{IsShortest, TellsApart, IsCanonical}
 use Rattle.amqp_value_core.specs.declared.types.amqp_type.AMQPType.{AMQPType}
 use Rattle.amqp_value_core.specs.Grammar.{Wire, Raw}

@@ -1,6 +1,6 @@
 -- Pairs on their way into a table.
 use Rattle.amqp_value_core.specs.Values.{Entries, no_entries}
-use Rattle.amqp_value_core.specs.Inserting.{insert_all}
+use Rattle.amqp_value_core.specs.Maps.{insert_all}
 use Rattle.amqp_value_core.specs.Containers.{entries, table_view}
 use Rattle.amq_protocol_types.specs.declared.parsing.pairs.TableBuilder.{TableBuilder}
 use Rattle.amq_protocol_types.specs.declared.parsing.pairs.TableBuilder.TheVariants.{Few, Many}

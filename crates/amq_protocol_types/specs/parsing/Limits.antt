@@ -4,9 +4,8 @@ use Rattle.amqp_value_core.specs.Values.{Tree, readable, depth}
 use Rattle.amqp_value_core.specs.Grammar.{Wire}
 use Rattle.amqp_value_core.specs.Headline.{IsWritableIn}
 use Rattle.amqp_value_core.specs.Nesting.{WireWithin, OutcomeWithin}
-use Rattle.amqp_value_core.specs.Inputs.{IsBytes}
-use Rattle.amqp_value_core.specs.Outcomes.{Reading, found, more, unknown, malformed, Outcome, Heavy}
-use Rattle.amqp_value_core.specs.Readings.{StillWaits, with_more}
+use Rattle.amqp_value_core.specs.Bytes.{IsBytes}
+use Rattle.amqp_value_core.specs.Outcomes.{Reading, found, more, unknown, malformed, Outcome, Heavy, StillWaits, with_more}
 use Rattle.amqp_value_core.specs.Texts.{text, size, Fits}
 use Rattle.amqp_value_core.specs.InMemory.{IsValue}
 use Rattle.amq_protocol_types.specs.declared.parsing.errors.Err.TheVariants.{Incomplete, Error, Failure}

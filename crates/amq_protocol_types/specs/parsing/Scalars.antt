@@ -3,8 +3,7 @@ use Rattle.std.specs.Prelude.{ℕ, List, Result, MatchResult}
 use Rattle.std.specs.Int.{Width}
 use Rattle.amqp_value_core.specs.declared.types.amqp_type.AMQPType.{AMQPType}
 use Rattle.amqp_value_core.specs.Values.{Scalar, scalar, number}
-use Rattle.amqp_value_core.specs.Payloads.{RawOutcome}
-use Rattle.amqp_value_core.specs.Outcomes.{found}
+use Rattle.amqp_value_core.specs.Outcomes.{RawOutcome, found}
 use Rattle.amq_protocol_types.specs.parsing.Refusals.{Refusal}
 use Rattle.amq_protocol_types.specs.parsing.ParseResults.{IsRefusal}
 use Rattle.amq_protocol_types.specs.parsing.PayloadResults.{OnlyLacks, IsNumberRead, IsCutPayload}

@@ -5,7 +5,7 @@ ghost use Rattle.std.specs.Int.{w8, w16, w32, w64, to_be_bytes, cast_unsigned};
 ghost use Rattle.amqp_value_core.specs.Values.{boolean, decimal};
 ghost use Rattle.amqp_value_core.specs.Ids.{id_of};
 ghost use Rattle.amqp_value_core.specs.Layouts.{spelled};
-ghost use Rattle.amqp_value_core.specs.Contents.{float_bits, double_bits};
+ghost use Rattle.amqp_value_core.specs.View.{float_bits, double_bits};
 ghost use Rattle.amq_protocol_types.specs.generation.Contexts.{AppendsThrough, KeepsStart};
 
 use crate::generation::{GenResult, Output, WriteContext};

@@ -2,7 +2,7 @@
 
 ghost use Rattle.std.specs.Prelude.{◌<◌, ◌≤◌, ◌^◌, length};
 ghost use Rattle.amqp_value_core.specs.Grammar.{short_field, long_field};
-ghost use Rattle.amqp_value_core.specs.Contents.{octets_of};
+ghost use Rattle.amqp_value_core.specs.View.{octets_of};
 ghost use Rattle.amq_protocol_types.specs.generation.Outputs.{Writes};
 ghost use Rattle.amq_protocol_types.specs.generation.BufferOutput.{RefusedAsLong};
 ghost use Rattle.amq_protocol_types.specs.generation.Contexts.{state_of, KeepsStart};

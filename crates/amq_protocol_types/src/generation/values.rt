@@ -2,7 +2,7 @@ ghost use Rattle.std.specs.Prelude.{◌+◌, ◌≤◌, ℕ, List, ◌++◌, tru
 ghost use Rattle.amqp_value_core.specs.Values.{array, table};
 ghost use Rattle.amqp_value_core.specs.View.{view};
 ghost use Rattle.amqp_value_core.specs.Containers.{array_view, table_view};
-ghost use Rattle.amqp_value_core.specs.Strings.{IsShort};
+ghost use Rattle.amqp_value_core.specs.Bytes.{IsShort};
 ghost use Rattle.amqp_value_core.specs.Grammar.{short_field};
 ghost use Rattle.amqp_value_core.specs.Texts.{text, Fits, payload};
 ghost use Rattle.amqp_value_core.specs.InMemory.{IsValue};

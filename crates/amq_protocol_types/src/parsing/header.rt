@@ -3,7 +3,7 @@
 ghost use Rattle.std.specs.Prelude.{◌≡◌, ◌≢◌, ◌<◌, ◌≤◌, ◌+◌, None, option_map};
 ghost use Rattle.std.specs.Int.{w32};
 ghost use Rattle.amqp_value_core.specs.Layouts.{fixed};
-ghost use Rattle.amqp_value_core.specs.Inputs.{IsBytes};
+ghost use Rattle.amqp_value_core.specs.Bytes.{IsBytes};
 ghost use Rattle.amqp_value_core.specs.Outcomes.{length_field};
 ghost use Rattle.amq_protocol_types.specs.parsing.Headers.{extent, extent_of, raw_extent, first_of};
 ghost use Rattle.amq_protocol_types.specs.parsing.Limits.{IsHeader};

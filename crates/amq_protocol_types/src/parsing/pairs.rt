@@ -2,7 +2,7 @@
 
 ghost use Rattle.std.specs.Prelude.{◌≡◌, ◌≤◌, IfOk, OnOk, length};
 ghost use Rattle.amqp_value_core.specs.Values.{no_entries};
-ghost use Rattle.amqp_value_core.specs.Inserting.{insert};
+ghost use Rattle.amqp_value_core.specs.Maps.{insert};
 ghost use Rattle.amqp_value_core.specs.View.{view};
 ghost use Rattle.amqp_value_core.specs.Containers.{table_view};
 ghost use Rattle.amq_protocol_types.specs.parsing.Gathering.{kept};

@@ -3,8 +3,8 @@
 ghost use Rattle.std.specs.Prelude.{◌≡◌, Some, IfOk, MatchResult};
 ghost use Rattle.std.specs.Int.{w8, w16, w32, w64, cast_unsigned};
 ghost use Rattle.amqp_value_core.specs.Names.{read_as};
-ghost use Rattle.amqp_value_core.specs.Contents.{float_bits, double_bits};
-ghost use Rattle.amqp_value_core.specs.Inputs.{IsBytes};
+ghost use Rattle.amqp_value_core.specs.View.{float_bits, double_bits};
+ghost use Rattle.amqp_value_core.specs.Bytes.{IsBytes};
 ghost use Rattle.amqp_value_core.specs.Values.{boolean, decimal};
 ghost use Rattle.amq_protocol_types.specs.parsing.ParseResults.{IsRefusal};
 ghost use Rattle.amq_protocol_types.specs.parsing.PayloadResults.{IsType, IsNoType};

@@ -3,9 +3,8 @@
 ghost use Rattle.std.specs.Prelude.{◌≡◌, ◌<◌, length, MatchOption, MatchResult, IfOk, IfErr};
 ghost use Rattle.std.specs.Str.{IsUtf8};
 ghost use Rattle.amqp_value_core.specs.Values.{short, long, octets};
-ghost use Rattle.amqp_value_core.specs.Contents.{long_bytes, octets_of};
-ghost use Rattle.amqp_value_core.specs.Payloads.{RawOutcome};
-ghost use Rattle.amqp_value_core.specs.Outcomes.{RawHeavy, found};
+ghost use Rattle.amqp_value_core.specs.View.{long_bytes, octets_of};
+ghost use Rattle.amqp_value_core.specs.Outcomes.{RawOutcome, RawHeavy, found};
 ghost use Rattle.amq_protocol_types.specs.parsing.ParseResults.{RefusesAs, IsRefusal};
 ghost use Rattle.amq_protocol_types.specs.parsing.PayloadResults.{OnlyLacks, RawRefuses};
 ghost use Rattle.amq_protocol_types.specs.parsing.Bodies.{IsLengthPrefixed, IsCutLengthPrefixed};

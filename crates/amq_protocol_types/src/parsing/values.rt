@@ -3,8 +3,7 @@
 ghost use Rattle.std.specs.Prelude.{◌≡◌, ◌≢◌, ◌<◌, ◌-◌, MatchResult, IfOk, length};
 ghost use Rattle.amqp_value_core.specs.Values.{array, table};
 ghost use Rattle.amqp_value_core.specs.Nesting.{BodyWithin, OutcomeWithin, RawOutcomeWithin};
-ghost use Rattle.amqp_value_core.specs.Outcomes.{Outcome, Heavy, RawHeavy, found};
-ghost use Rattle.amqp_value_core.specs.Payloads.{RawOutcome};
+ghost use Rattle.amqp_value_core.specs.Outcomes.{Outcome, Heavy, RawHeavy, found, RawOutcome};
 ghost use Rattle.amqp_value_core.specs.View.{view};
 ghost use Rattle.amqp_value_core.specs.Containers.{array_view, table_view};
 ghost use Rattle.amqp_value_core.specs.Headline.{IsWritableIn};

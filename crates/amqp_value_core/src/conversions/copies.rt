@@ -4,9 +4,8 @@
 //! entries doesn't allocate.
 
 ghost use Rattle.std.specs.Prelude.{◌≡◌, [], IfOk, IsOk};
-ghost use Rattle.amqp_value_core.specs.NeedsNoAlloc.{NeedsNoAlloc};
+ghost use Rattle.amqp_value_core.specs.Containers.{NeedsNoAlloc, trees, entries, array_items, array_view, table_entries, table_view};
 ghost use Rattle.amqp_value_core.specs.View.{view};
-ghost use Rattle.amqp_value_core.specs.Containers.{trees, entries, array_items, array_view, table_entries, table_view};
 
 use crate::types::{FieldArray, FieldTable, ShortString};
 use crate::value::AMQPValue;

@@ -3,10 +3,9 @@
 
 ghost use Rattle.std.specs.Prelude.{◌≡◌};
 ghost use Rattle.std.specs.Int.{w8, w16, w32, w64, cast_unsigned};
-ghost use Rattle.amqp_value_core.specs.Contents.{float_bits, double_bits, long_bytes, octets_of};
+ghost use Rattle.amqp_value_core.specs.View.{float_bits, double_bits, long_bytes, octets_of, view};
 ghost use Rattle.amqp_value_core.specs.declared.types.amqp_type.AMQPType.TheVariants as amqp;
 ghost use Rattle.amqp_value_core.specs.Values.{boolean, number, decimal, scalar, short, long, octets, array, table};
-ghost use Rattle.amqp_value_core.specs.View.{view};
 ghost use Rattle.amqp_value_core.specs.Containers.{array_view, table_view};
 
 use crate::types::{

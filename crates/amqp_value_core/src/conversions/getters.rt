@@ -13,9 +13,7 @@ impl AMQPValue {
     ghost use Rattle.std.specs.Prelude.{◌≡◌, option_map, is_some};
     ghost use Rattle.std.specs.Int.{w8, w16, w32, w64, cast_unsigned};
     ghost use Rattle.amqp_value_core.specs.declared.types.amqp_type.AMQPType.TheVariants as amqp;
-    ghost use Rattle.amqp_value_core.specs.Contents.{float_bits, double_bits};
-    ghost use Rattle.amqp_value_core.specs.Contents.{long_bytes, octets_of};
-    ghost use Rattle.amqp_value_core.specs.View.{view};
+    ghost use Rattle.amqp_value_core.specs.View.{float_bits, double_bits, long_bytes, octets_of, view};
     ghost use Rattle.amqp_value_core.specs.Containers.{array_view, table_view};
     ghost use Rattle.amqp_value_core.specs.Getters.{truth_in, number_in, decimal_in, short_in, long_in, octets_in, array_in, table_in, is_void};
 

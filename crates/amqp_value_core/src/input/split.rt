@@ -14,7 +14,7 @@ pub struct SplitInput<'a> {
 }
 
 impl<'a> SplitInput<'a> {
-    ghost use Rattle.amqp_value_core.specs.Splits.{split_first, split_second};
+    ghost use Rattle.amqp_value_core.specs.Bytes.{split_first, split_second};
 
     /// Makes an input of two slices. Doesn't copy or allocate. Precondition: a `usize` holds the
     /// sum of their lengths.
@@ -36,8 +36,7 @@ impl<'a> SplitInput<'a> {
 }
 
 impl<'a> ParsableInput for SplitInput<'a> {
-    ghost use Rattle.amqp_value_core.specs.Prefix.{IsPrefix};
-    ghost use Rattle.amqp_value_core.specs.Splits.{split_first, split_second};
+    ghost use Rattle.amqp_value_core.specs.Bytes.{IsPrefix, split_first, split_second};
 
     ghost bytes = { λ s. split_first s ++ split_second s };
 

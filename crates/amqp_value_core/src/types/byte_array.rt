@@ -1,5 +1,5 @@
 ghost use Rattle.std.specs.Prelude.{◌≡◌, [], length, nat_eq, IfOk, IsOk};
-ghost use Rattle.amqp_value_core.specs.Contents.{octets_of};
+ghost use Rattle.amqp_value_core.specs.View.{octets_of};
 
 use serde::{Deserialize, Serialize};
 use std::alloc::{AllocError, Global};
@@ -69,7 +69,7 @@ impl ByteArray {
 }
 
 impl From<Vec<u8>> for ByteArray {
-    ghost use Rattle.amqp_value_core.specs.Contents.{octets_of};
+    ghost use Rattle.amqp_value_core.specs.View.{octets_of};
 
     ghost from_gives = { λ v a. octets_of a ≡ v.items };
 

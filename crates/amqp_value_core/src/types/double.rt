@@ -1,5 +1,5 @@
 ghost use Rattle.std.specs.Prelude.{◌≡◌};
-ghost use Rattle.amqp_value_core.specs.Contents.{double_bits};
+ghost use Rattle.amqp_value_core.specs.View.{double_bits};
 
 /// A floating-point number of 64 bits, stored as its bits (IEEE 754, `binary64`).
 ///

@@ -3,8 +3,7 @@
 ghost use Rattle.std.specs.Prelude.{◌≡◌, ◌≤◌, [], ◌∷◌, length, OnOk, OnErr, IfOk, IfErr, IsOk};
 ghost use Rattle.std.specs.Borrow.{sem};
 ghost use Rattle.amqp_value_core.specs.Values.{no_entries};
-ghost use Rattle.amqp_value_core.specs.Inserting.{insert, insert_all};
-ghost use Rattle.amqp_value_core.specs.Maps.{has_key};
+ghost use Rattle.amqp_value_core.specs.Maps.{insert, insert_all, has_key};
 ghost use Rattle.amqp_value_core.specs.View.{view};
 ghost use Rattle.amqp_value_core.specs.Containers.{entries, named, names, table_entries, table_view};
 ghost use Rattle.amqp_value_core.specs.Short.{AreCopiesRefused, first_too_long};

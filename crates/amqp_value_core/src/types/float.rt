@@ -1,5 +1,5 @@
 ghost use Rattle.std.specs.Prelude.{◌≡◌};
-ghost use Rattle.amqp_value_core.specs.Contents.{float_bits};
+ghost use Rattle.amqp_value_core.specs.View.{float_bits};
 
 /// A floating-point number of 32 bits, stored as its bits (IEEE 754, `binary32`).
 ///

@@ -1,5 +1,5 @@
 ghost use Rattle.std.specs.Prelude.{◌≡◌, [], length, nat_eq, IfOk, IsOk};
-ghost use Rattle.amqp_value_core.specs.Contents.{long_bytes};
+ghost use Rattle.amqp_value_core.specs.View.{long_bytes};
 
 use bstr::BStr;
 use serde::{Deserialize, Serialize};
@@ -82,7 +82,7 @@ impl LongString {
 }
 
 impl From<Vec<u8>> for LongString {
-    ghost use Rattle.amqp_value_core.specs.Contents.{long_bytes};
+    ghost use Rattle.amqp_value_core.specs.View.{long_bytes};
 
     ghost from_gives = { λ v s. long_bytes s ≡ v.items };
 
@@ -93,7 +93,7 @@ impl From<Vec<u8>> for LongString {
 
 impl From<String> for LongString {
     ghost use Rattle.std.specs.Prelude.{string_bytes};
-    ghost use Rattle.amqp_value_core.specs.Contents.{long_bytes};
+    ghost use Rattle.amqp_value_core.specs.View.{long_bytes};
 
     ghost from_gives = { λ t s. long_bytes s ≡ string_bytes t };
 

@@ -2,7 +2,7 @@ ghost use Rattle.std.specs.Hash as fed;
 ghost use Rattle.std.specs.Cmp.Rules.{hashing};
 ghost use Rattle.std.proofs.Common.{rules};
 ghost use Rattle.std.specs.Prelude.{◌≡◌, ◌≤◌, ◌<◌, length, string_bytes, Some, IfOk, IfErr, IsOk, OnOk, OnErr};
-ghost use Rattle.amqp_value_core.specs.Strings.{IsShort};
+ghost use Rattle.amqp_value_core.specs.Bytes.{IsShort};
 ghost use Rattle.amqp_value_core.specs.Short.{IsTooLong, IsCopyRefused, refused_length, too_long_text};
 
 use crate::types::MAX_SHORT_STRING_LENGTH;

@@ -8,19 +8,15 @@ ghost use Rattle.std.specs.Prelude.{◌≡◌, List, [], ◌∷◌, ◌++◌, tr
 ghost use Rattle.std.specs.Str.{byte};
 ghost use Rattle.std.specs.Int.{w8, w16, w32, w64, cast_unsigned};
 ghost use Rattle.amqp_value_core.specs.Values.{boolean, number, decimal, void, scalar, short, long, octets, array, trees_of, no_trees, table, entries_of, no_entries, depth, count, readable, ComesBefore};
-ghost use Rattle.amqp_value_core.specs.Inserting.{insert};
-ghost use Rattle.amqp_value_core.specs.Maps.{has_key, value_at, Mean};
+ghost use Rattle.amqp_value_core.specs.Maps.{insert, has_key, value_at, Mean};
 ghost use Rattle.amqp_value_core.specs.Ids.{kind, id_of};
 ghost use Rattle.amqp_value_core.specs.Names.{read_as};
-ghost use Rattle.amqp_value_core.specs.Outcomes.{found, more, unknown, malformed, Outcome, Heavy, RawHeavy};
-ghost use Rattle.amqp_value_core.specs.Payloads.{RawOutcome};
-ghost use Rattle.amqp_value_core.specs.Readings.{with_more, StillWaits};
+ghost use Rattle.amqp_value_core.specs.Outcomes.{found, more, unknown, malformed, Outcome, Heavy, RawHeavy, RawOutcome, with_more, StillWaits};
 ghost use Rattle.amqp_value_core.specs.Headline.{IsWritableIn};
-ghost use Rattle.amqp_value_core.specs.Decode.{compute_outcome, compute_raw_outcome};
+ghost use Rattle.amqp_value_core.specs.Decode.{compute_outcome, compute_raw_outcome, hex};
 ghost use Rattle.amqp_value_core.specs.Texts.{text, size};
 ghost use Rattle.amqp_value_core.specs.Canonical.{Canon};
 ghost use Rattle.amqp_value_core.specs.InMemory.{IsValue};
-ghost use Rattle.amqp_value_core.specs.Hexadecimal.{hex};
 
 use amqp_value_core::types::AMQPType;
 

@@ -1,7 +1,7 @@
 //! Worked examples: what some flags are packed to, and some bytes unpacked to.
 
 ghost use Rattle.std.specs.Prelude.{◌≡◌, true, false, [], ◌∷◌, codes};
-ghost use Rattle.amqp_value_core.specs.Hexadecimal.{hex};
+ghost use Rattle.amqp_value_core.specs.Decode.{hex};
 ghost use Rattle.amq_protocol_types.specs.flags.Flags.{pack, unpack};
 
 /// Flags are packed eight to a byte, the first one's bit the lowest, and the bits left over are 0.

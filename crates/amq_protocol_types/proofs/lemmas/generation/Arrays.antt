@@ -6,9 +6,8 @@ use Rattle.amqp_value_core.specs.Values.{array}
 use Rattle.amqp_value_core.specs.Grammar.{long_field}
 use Rattle.amqp_value_core.specs.View.{view}
 use Rattle.amqp_value_core.specs.Containers.{trees}
-use Rattle.amqp_value_core.specs.Texts.{text, body, Fits}
+use Rattle.amqp_value_core.specs.Texts.{text, body, Fits, AllFit}
 use Rattle.amqp_value_core.specs.InMemory.{IsValue, AreValues}
-use Rattle.amqp_value_core.specs.Members.{AllFit}
 use Rattle.amq_protocol_types.specs.declared.generation.error.GenError.{GenError}
 use Rattle.amq_protocol_types.specs.generation.Outputs.{OutputState, Writes}
 use Rattle.amq_protocol_types.specs.generation.BufferOutput.{IsConsistentOutput, TruncatesTo, PatchesLength}

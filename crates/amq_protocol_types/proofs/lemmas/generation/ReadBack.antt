@@ -4,8 +4,7 @@ use Rattle.amqp_value_core.specs.declared.types.amqp_type.AMQPType.TheVariants a
 use Rattle.amqp_value_core.specs.Values.{Tree, Trees, Entries, array, table}
 use Rattle.amqp_value_core.specs.Texts.{text, payload, Fits}
 use Rattle.amqp_value_core.specs.InMemory.{IsValue}
-use Rattle.amqp_value_core.specs.Readings.{read_back}
-use Rattle.amqp_value_core.specs.Outcomes.{Outcome}
+use Rattle.amqp_value_core.specs.Outcomes.{read_back, Outcome}
 use Rattle.amqp_value_core.proofs.GrammarLaws.{reading_back, value_to_raw, is_canonical}
 use Rattle.amq_protocol_types.specs.declared.generation.error.GenError.{GenError}
 use Rattle.amq_protocol_types.specs.generation.Written.{IsReadBackAndCanonical, IsPayloadReadBack}

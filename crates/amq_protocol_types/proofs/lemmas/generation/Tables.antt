@@ -6,12 +6,11 @@ use Rattle.std.specs.List.Sorted.{IsStrictlySortedBy}
 use Rattle.std.specs.Map.{keys_of}
 use Rattle.amqp_value_core.specs.declared.value.AMQPValue.{AMQPValue}
 use Rattle.amqp_value_core.specs.Values.{Tree, table}
-use Rattle.amqp_value_core.specs.Strings.{IsShort}
+use Rattle.amqp_value_core.specs.Bytes.{IsShort}
 use Rattle.amqp_value_core.specs.Grammar.{short_field, long_field}
 use Rattle.amqp_value_core.specs.View.{view}
 use Rattle.amqp_value_core.specs.Containers.{entries}
-use Rattle.amqp_value_core.specs.Texts.{text, pairs, Fits}
-use Rattle.amqp_value_core.specs.Members.{EntriesFit}
+use Rattle.amqp_value_core.specs.Texts.{text, pairs, Fits, EntriesFit}
 use Rattle.amqp_value_core.specs.InMemory.{IsValue, AreEntries}
 use Rattle.amq_protocol_types.specs.declared.generation.error.GenError.{GenError}
 use Rattle.amq_protocol_types.specs.generation.Outputs.{OutputState, Writes}

@@ -3,8 +3,7 @@ use Rattle.std.proofs.Common.{◌≡◌, ℕ, zero, suc, ◌+◌, ◌<◌, ◌�
 use Rattle.amqp_value_core.specs.declared.value.AMQPValue.{AMQPValue}
 use Rattle.amqp_value_core.specs.declared.types.amqp_type.AMQPType.{AMQPType}
 use Rattle.amqp_value_core.specs.Values.{Tree, scalar, short, long, octets, array, table, type_of}
-use Rattle.amqp_value_core.specs.Texts.{payload, text, body, Fits}
-use Rattle.amqp_value_core.specs.Members.{AllFit}
+use Rattle.amqp_value_core.specs.Texts.{payload, text, body, Fits, AllFit}
 use Rattle.amqp_value_core.specs.Ids.{id_of}
 use Rattle.amqp_value_core.specs.View.{view}
 use Rattle.amqp_value_core.specs.Containers.{trees}

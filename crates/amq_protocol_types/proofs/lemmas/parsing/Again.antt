@@ -5,7 +5,7 @@ use Rattle.amqp_value_core.specs.Layouts.{fixed}
 use Rattle.amqp_value_core.specs.Grammar.{Wire, wire}
 use Rattle.amqp_value_core.specs.Headline.{IsWritableIn}
 use Rattle.amqp_value_core.specs.Texts.{text}
-use Rattle.amqp_value_core.specs.Inputs.{IsBytes}
+use Rattle.amqp_value_core.specs.Bytes.{IsBytes}
 use Rattle.amqp_value_core.specs.Outcomes.{found, length_field}
 use Rattle.amqp_value_core.proofs.Bytes.{bytes_before}
 use Rattle.amqp_value_core.proofs.GrammarLaws.{wire_of, prefix_within, bounded_wire, wire_found_within, text_within, text_again, depth_within, bounds, injective, extent-raw}

@@ -4,9 +4,8 @@ use Rattle.amqp_value_core.specs.declared.types.amqp_type.AMQPType.{AMQPType}
 use Rattle.amqp_value_core.specs.Ids.{kind}
 use Rattle.amqp_value_core.specs.Layouts.{fixed}
 use Rattle.amqp_value_core.specs.Nesting.{WireWithin}
-use Rattle.amqp_value_core.specs.Inputs.{IsBytes}
-use Rattle.amqp_value_core.specs.Outcomes.{Reading, more, unknown, malformed, length_field}
-use Rattle.amqp_value_core.specs.Readings.{StillWaits, with_more}
+use Rattle.amqp_value_core.specs.Bytes.{IsBytes}
+use Rattle.amqp_value_core.specs.Outcomes.{Reading, more, unknown, malformed, length_field, StillWaits, with_more}
 use Rattle.amqp_value_core.specs.Decode.{outcome_by, meaning, compute_outcome}
 use Rattle.amqp_value_core.proofs.GrammarLaws.{outcome_holds, outcome_is, within_holds, one_outcome_within, more_bytes_within, deep_enough}
 use Rattle.amq_protocol_types.specs.declared.parsing.errors.Err.TheVariants.{Error}

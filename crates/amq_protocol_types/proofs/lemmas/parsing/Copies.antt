@@ -3,7 +3,7 @@ use Rattle.std.proofs.Common.{◌≡◌, ℕ, ◌≤◌, List, ◌++◌, length,
 use Rattle.std.proofs.lemmas.List.{append-nil, nil_from_length, length-append, length-take}
 use Rattle.std.specs.Str.{IsUtf8, IsAscii}
 use Rattle.std.proofs.lemmas.Str.{IsUtf8-from_ascii}
-use Rattle.amqp_value_core.specs.Prefix.{IsPrefix}
+use Rattle.amqp_value_core.specs.Bytes.{IsPrefix}
 
 -- what is ASCII is UTF-8
 pub ascii_is_utf8 : (s : List ℕ) → IsAscii s → IsUtf8 s

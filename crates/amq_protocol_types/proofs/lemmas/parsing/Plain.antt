@@ -7,8 +7,7 @@ use Rattle.amqp_value_core.specs.Values.{Tree}
 use Rattle.amqp_value_core.specs.Grammar.{Raw}
 use Rattle.amqp_value_core.specs.Nesting.{RawWithin, within_plain, RawOutcomeWithin}
 use Rattle.amqp_value_core.specs.View.{view}
-use Rattle.amqp_value_core.specs.Outcomes.{Reading, found, RawHeavy}
-use Rattle.amqp_value_core.specs.Payloads.{RawOutcome}
+use Rattle.amqp_value_core.specs.Outcomes.{Reading, found, RawHeavy, RawOutcome}
 use Rattle.amqp_value_core.proofs.GrammarLaws.{raw_of, raw_outcome_same, raw_unlimited}
 use Rattle.amq_protocol_types.specs.declared.parsing.errors.ErrorKind.TheVariants.{Eof}
 use Rattle.amq_protocol_types.specs.parsing.Refusals.{Refusal}

@@ -2,9 +2,8 @@
 use Rattle.std.proofs.Common.{◌≡◌, ◌<◌, ◌≤◌, ◌∙◌, ℕ, suc, List, [], ◌∷◌, length, Option, ap, sym, subst, arith}
 use Rattle.amqp_value_core.specs.declared.types.amqp_type.AMQPType.{AMQPType}
 use Rattle.amqp_value_core.specs.Values.{Tree}
-use Rattle.amqp_value_core.specs.Outcomes.{Reading, more, unknown, malformed, OutcomeBy, no_byte, no_tag, needs_more, Outcome, RawHeavy, Heavy}
+use Rattle.amqp_value_core.specs.Outcomes.{Reading, more, unknown, malformed, OutcomeBy, no_byte, no_tag, needs_more, Outcome, RawHeavy, Heavy, RawOutcome}
 use Rattle.amqp_value_core.specs.Nesting.{WireWithin, OutcomeWithin}
-use Rattle.amqp_value_core.specs.Payloads.{RawOutcome}
 use Rattle.amq_protocol_types.specs.declared.parsing.errors.Err.TheVariants.{Incomplete, Error, Failure}
 use Rattle.amq_protocol_types.specs.declared.parsing.errors.Needed.{Needed}
 use Rattle.amq_protocol_types.specs.declared.parsing.errors.Needed.TheVariants.{Unknown, Size}

@@ -3,13 +3,11 @@ use Rattle.std.proofs.Common.{◌≡◌, ◌<◌, ◌≤◌, ℕ, List, ◌++◌
 use Rattle.std.proofs.lemmas.List.{nil_from_length}
 use Rattle.amqp_value_core.specs.declared.types.amqp_type.AMQPType.TheVariants as amqp
 use Rattle.amqp_value_core.specs.Values.{Tree, short, Entries, no_entries, entry}
-use Rattle.amqp_value_core.specs.Inserting.{insert, insert_all}
-use Rattle.amqp_value_core.specs.Strings.{IsShort}
+use Rattle.amqp_value_core.specs.Maps.{insert, insert_all, Mean}
+use Rattle.amqp_value_core.specs.Bytes.{IsShort}
 use Rattle.amqp_value_core.specs.Grammar.{short_field, Wire, Raw, raw_short, TableBody, no_pairs, pair}
 use Rattle.amqp_value_core.specs.Nesting.{PairsWithin, within_no_pairs, within_pair, OutcomeWithin}
-use Rattle.amqp_value_core.specs.Outcomes.{Reading, found, more, unknown, malformed, Heavy}
-use Rattle.amqp_value_core.specs.Payloads.{RawOutcome}
-use Rattle.amqp_value_core.specs.Maps.{Mean}
+use Rattle.amqp_value_core.specs.Outcomes.{Reading, found, more, unknown, malformed, Heavy, RawOutcome}
 use Rattle.amqp_value_core.proofs.GrammarLaws.{wire_of, pairs_of, one_key, one_reading, one_outcome_within, one_raw_outcome, raw_found, wire_found_within, prefix_within, put_mean}
 use Rattle.amq_protocol_types.specs.declared.parsing.errors.Err.TheVariants.{Incomplete, Error, Failure}
 use Rattle.amq_protocol_types.specs.declared.parsing.errors.Needed.TheVariants.{Unknown, Size}

@@ -5,9 +5,8 @@ use Rattle.amqp_value_core.specs.declared.types.amqp_type.AMQPType.TheVariants a
 use Rattle.amqp_value_core.specs.declared.value.AMQPValue.{AMQPValue}
 use Rattle.amqp_value_core.specs.Names.{read_as}
 use Rattle.amqp_value_core.specs.Grammar.{Wire}
-use Rattle.amqp_value_core.specs.Payloads.{RawOutcome}
+use Rattle.amqp_value_core.specs.Outcomes.{RawOutcome, Reading, found, more, malformed, Outcome, RawHeavy, Heavy}
 use Rattle.amqp_value_core.specs.View.{view}
-use Rattle.amqp_value_core.specs.Outcomes.{Reading, found, more, malformed, Outcome, RawHeavy, Heavy}
 use Rattle.amqp_value_core.specs.Nesting.{OutcomeWithin, RawOutcomeWithin}
 use Rattle.amqp_value_core.specs.Headline.{IsWritableIn}
 use Rattle.amqp_value_core.proofs.GrammarLaws.{raw_to_value_within, raw_to_value, raw_to_heavy, bounded_found}

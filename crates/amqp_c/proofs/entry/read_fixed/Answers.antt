@@ -3,7 +3,7 @@ use Rattle.std.proofs.lemmas.Result.{err_from_is_err_and}
 use Rattle.amqp_value_core.specs.Values.{scalar}
 use Rattle.amqp_value_core.specs.Outcomes.{Outcome, found}
 use Rattle.amqp_value_core.proofs.GrammarLaws.{raw_to_value}
-use Rattle.amqp_value_core.specs.Inputs.{slice_bytes}
+use Rattle.amqp_value_core.specs.Bytes.{slice_bytes}
 use Rattle.amqp_c.proofs.Prefixes.{found_shorter, lacks_only}
 use Rattle.amqp_c.proofs.entry.read_fixed.Goals as goal
 

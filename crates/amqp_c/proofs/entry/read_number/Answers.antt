@@ -1,9 +1,8 @@
 use Rattle.std.proofs.Common.{sym, subst}
 use Rattle.amqp_value_core.specs.declared.types.amqp_type.AMQPType.{AMQPType}
 use Rattle.amqp_value_core.specs.Values.{scalar, void}
-use Rattle.amqp_value_core.specs.Outcomes.{found}
-use Rattle.amqp_value_core.specs.Payloads.{RawOutcome}
-use Rattle.amqp_value_core.specs.Inputs.{slice_bytes}
+use Rattle.amqp_value_core.specs.Outcomes.{found, RawOutcome}
+use Rattle.amqp_value_core.specs.Bytes.{slice_bytes}
 use Rattle.amq_protocol_types.proofs.ParsingLaws.{void_found}
 use Rattle.amqp_c.proofs.entry.read_number.Goals as goal
 

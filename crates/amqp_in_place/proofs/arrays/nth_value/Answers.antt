@@ -1,5 +1,5 @@
 use Rattle.std.proofs.Common.{rules, ◌≡◌, ◌-◌, suc, subst, arith}
-use Rattle.amqp_value_core.specs.Inputs.{slice_bytes}
+use Rattle.amqp_value_core.specs.Bytes.{slice_bytes}
 use Rattle.amqp_in_place.proofs.Lookups.{IsAmongLeft, among-start, among-step, among-here, among-end}
 use Rattle.amqp_in_place.proofs.Places.{nothing_before, value_left}
 use Rattle.amqp_in_place.proofs.arrays.nth_value.Goals as goal

@@ -1,6 +1,6 @@
 use Rattle.std.proofs.Common.{sym, subst, rules, arith}
 use Rattle.std.specs.Str.{IsUtf8}
-use Rattle.amqp_value_core.specs.Inputs.{slice_bytes}
+use Rattle.amqp_value_core.specs.Bytes.{slice_bytes}
 use Rattle.amqp_in_place.specs.Canonicals.{IsAbove, IsFirstSpelling}
 use Rattle.amqp_in_place.proofs.HeadLemmas.{body_shorter}
 use Rattle.amqp_in_place.proofs.Stepping.{never_refused}

@@ -1,5 +1,5 @@
 use Rattle.std.proofs.Common.{None, length, ◌+◌, ◌*◌, ◌≤◌}
-use Rattle.amqp_value_core.specs.Inputs.{slice_bytes}
+use Rattle.amqp_value_core.specs.Bytes.{slice_bytes}
 use Rattle.amqp_in_place.specs.Canonicals.{CanonValues, CanonEntries}
 use Rattle.amqp_in_place.proofs.HeadLemmas.{body_size}
 use Rattle.amqp_in_place.proofs.canonical.+canonical.Given as goal

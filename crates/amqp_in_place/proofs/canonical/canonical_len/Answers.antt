@@ -1,5 +1,5 @@
 use Rattle.std.proofs.Common.{ℕ, ◌-◌, List, length, sym, ap, subst, arith}
-use Rattle.amqp_value_core.specs.Inputs.{IsBytes, slice_bytes}
+use Rattle.amqp_value_core.specs.Bytes.{IsBytes, slice_bytes}
 use Rattle.amq_protocol_types.specs.parsing.Limits.{IsHeader}
 use Rattle.amqp_in_place.specs.Canonicals.{CanonPrefix}
 use Rattle.amqp_in_place.proofs.Canonicals.{canon_len, prefix_of_len, len_header, rest_shorter}

@@ -1,4 +1,4 @@
-use Rattle.amqp_value_core.specs.Inputs.{slice_bytes}
+use Rattle.amqp_value_core.specs.Bytes.{slice_bytes}
 use Rattle.amqp_in_place.proofs.HeadLemmas.{head_result}
 use Rattle.amqp_in_place.proofs.head.read_head.Goals as goal
 

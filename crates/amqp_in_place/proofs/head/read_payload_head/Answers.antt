@@ -2,9 +2,8 @@ use Rattle.std.proofs.Common.{rules}
 use Rattle.std.specs.Int.{w64, cast_signed, cast_unsigned}
 use Rattle.amqp_value_core.specs.declared.types.amqp_type.AMQPType.TheVariants as amqp
 use Rattle.amqp_value_core.specs.Values.{number, scalar}
-use Rattle.amqp_value_core.specs.Payloads.{RawOutcome}
-use Rattle.amqp_value_core.specs.Inputs.{slice_bytes}
-use Rattle.amqp_value_core.specs.Outcomes.{found}
+use Rattle.amqp_value_core.specs.Outcomes.{RawOutcome, found}
+use Rattle.amqp_value_core.specs.Bytes.{slice_bytes}
 use Rattle.amq_protocol_types.proofs.ParsingLaws.{long_found, octets_found, void_found, unsigned_outcome}
 use Rattle.amqp_in_place.proofs.head.read_payload_head.Goals as goal
 

@@ -1,5 +1,5 @@
 use Rattle.std.proofs.Common.{length, ◌+◌, ◌*◌}
-use Rattle.amqp_value_core.specs.Inputs.{slice_bytes}
+use Rattle.amqp_value_core.specs.Bytes.{slice_bytes}
 use Rattle.amqp_in_place.specs.Paths.{content}
 use Rattle.amqp_in_place.proofs.Measuring.{ValuesSoFar, PairsSoFar}
 use Rattle.amqp_in_place.proofs.measure.+measurer.Given as goal

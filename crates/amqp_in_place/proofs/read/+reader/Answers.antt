@@ -1,8 +1,8 @@
 use Rattle.std.proofs.Common.{[], ◌∷◌, ◌++◌, subst, sym, rules, arith}
 use Rattle.std.specs.Str.{IsUtf8}
 use Rattle.amqp_value_core.specs.Values.{no_entries, trees_of}
-use Rattle.amqp_value_core.specs.Inserting.{insert}
-use Rattle.amqp_value_core.specs.Inputs.{slice_bytes}
+use Rattle.amqp_value_core.specs.Maps.{insert}
+use Rattle.amqp_value_core.specs.Bytes.{slice_bytes}
 use Rattle.amq_protocol_types.proofs.ParsingLaws.{ArrayBodyRead-step, ArrayBodyRead-end, rest_shorter, TableBodyRead-start, TableBodyRead-step, TableBodyRead-end, key_shorter}
 use Rattle.amqp_in_place.proofs.HeadLemmas.{key_found, key_refused, head_read, head_bad, body_shorter}
 use Rattle.amqp_in_place.proofs.Reading.{bad_value, bad_pair, bad_key, no_key_there}

@@ -1,6 +1,6 @@
 use Rattle.std.proofs.Common.{List, length, ◌+◌, ◌*◌}
 use Rattle.amqp_value_core.specs.Values.{Tree, Entries}
-use Rattle.amqp_value_core.specs.Inputs.{slice_bytes}
+use Rattle.amqp_value_core.specs.Bytes.{slice_bytes}
 use Rattle.amq_protocol_types.proofs.ParsingLaws.{ArrayBodyRead, TableBodyRead}
 use Rattle.amqp_in_place.proofs.HeadLemmas.{body_size}
 use Rattle.amqp_in_place.proofs.read.+reader.Given as goal

@@ -4,7 +4,7 @@ use Rattle.amqp_value_core.specs.Values.{Tree, table}
 use Rattle.amqp_value_core.specs.Nesting.{OutcomeWithin}
 use Rattle.amqp_value_core.specs.Grammar.{long_field}
 use Rattle.amqp_value_core.specs.Outcomes.{found, malformed}
-use Rattle.amqp_value_core.specs.Inputs.{slice_bytes}
+use Rattle.amqp_value_core.specs.Bytes.{slice_bytes}
 use Rattle.amq_protocol_types.specs.parsing.Untagged.{tagged, UntaggedWithin}
 use Rattle.amqp_in_place.specs.declared.head.Head.TheVariants as head
 use Rattle.amqp_in_place.proofs.HeadLemmas.{head_read, head_bad}

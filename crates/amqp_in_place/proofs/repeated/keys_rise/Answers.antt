@@ -1,5 +1,5 @@
 use Rattle.std.proofs.Common.{rules}
-use Rattle.amqp_value_core.specs.Inputs.{slice_bytes}
+use Rattle.amqp_value_core.specs.Bytes.{slice_bytes}
 use Rattle.amqp_in_place.proofs.RepeatedKeys.{KeysAscend-step}
 use Rattle.amqp_in_place.proofs.repeated.keys_rise.Goals as goal
 

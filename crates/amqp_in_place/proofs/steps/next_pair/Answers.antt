@@ -1,6 +1,6 @@
 use Rattle.std.proofs.Common.{◌≡◌, ℕ, List, sym, subst, ◌∙◌, arith}
 use Rattle.std.specs.Str.{IsUtf8}
-use Rattle.amqp_value_core.specs.Inputs.{slice_bytes}
+use Rattle.amqp_value_core.specs.Bytes.{slice_bytes}
 use Rattle.amqp_in_place.specs.Heads.{IsKeyFrame}
 use Rattle.amqp_in_place.proofs.Stepping.{key_there, key_utf8, read_there, meant_there, pair_at_start, pair_given, pairs_after}
 use Rattle.amqp_in_place.proofs.Places.{inside}

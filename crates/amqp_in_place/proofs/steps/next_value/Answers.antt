@@ -1,5 +1,5 @@
 use Rattle.std.proofs.Common.{arith}
-use Rattle.amqp_value_core.specs.Inputs.{slice_bytes}
+use Rattle.amqp_value_core.specs.Bytes.{slice_bytes}
 use Rattle.amqp_in_place.proofs.Stepping.{read_there, meant_there, value_at_start, value_given, values_after}
 use Rattle.amqp_in_place.proofs.Places.{inside}
 use Rattle.amqp_in_place.proofs.steps.next_value.Goals as goal

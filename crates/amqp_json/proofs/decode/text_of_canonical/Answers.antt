@@ -2,7 +2,7 @@ use Rattle.std.proofs.Common.{rules, ◌≡◌, List, ℕ, Option, String, Globa
 use Rattle.amqp_in_place.proofs.Canonicals.{bytes_all}
 use Rattle.amqp_in_place.specs.Places.{IsViewIn}
 use Rattle.amqp_in_place.specs.Refs.{Denotes}
-use Rattle.amqp_value_core.specs.Inputs.{IsBytes}
+use Rattle.amqp_value_core.specs.Bytes.{IsBytes}
 use Rattle.amqp_value_core.specs.Outcomes.{Outcome, found}
 use Rattle.amqp_value_core.specs.Values.{Tree}
 use Rattle.amq_protocol_types.specs.parsing.ParseResults.{IsRefusal}

@@ -1,7 +1,6 @@
 use Rattle.std.proofs.Common.{◌≡◌, true, Ok, take, replicate, ◌++◌}
 use Rattle.amqp_value_core.specs.Containers.{array_items, trees, table_entries}
-use Rattle.amqp_value_core.specs.Texts.{body}
-use Rattle.amqp_value_core.specs.Members.{AllFit}
+use Rattle.amqp_value_core.specs.Texts.{body, AllFit}
 use Rattle.amqp_value_core.specs.InMemory.{AreValues}
 use Rattle.amq_protocol_types.specs.generation.BufferOutput.{IsConsistentOutput}
 use Rattle.amq_protocol_types.specs.generation.Outputs.{Writes}

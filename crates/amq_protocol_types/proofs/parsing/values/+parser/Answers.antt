@@ -7,11 +7,10 @@ use Rattle.amqp_value_core.specs.declared.value.AMQPValue.{the_lemmas}
 use Rattle.amqp_value_core.specs.declared.value.AMQPValue.TheVariants.{FieldArray, FieldTable}
 use Rattle.amqp_value_core.specs.declared.value.AMQPValue.TheVariants as value
 use Rattle.amqp_value_core.specs.Values.{Tree, scalar, void, array, table, no_entries}
-use Rattle.amqp_value_core.specs.Inserting.{insert}
+use Rattle.amqp_value_core.specs.Maps.{insert}
 use Rattle.amqp_value_core.specs.View.{view}
 use Rattle.amqp_value_core.specs.Containers.{array_items, array_view, entries, table_view}
-use Rattle.amqp_value_core.specs.Outcomes.{found}
-use Rattle.amqp_value_core.specs.Payloads.{RawOutcome}
+use Rattle.amqp_value_core.specs.Outcomes.{found, RawOutcome}
 use Rattle.amq_protocol_types.specs.parsing.Gathering.{kept}
 use Rattle.amq_protocol_types.proofs.lemmas.parsing.Bodies.{ArrayBodyRead-start, ArrayBodyRead-step, ArrayBodyRead-end, ArrayBodyRead-refused, rest_shorter}
 use Rattle.amq_protocol_types.proofs.lemmas.parsing.TableBodies.{TableBodyRead-start, TableBodyRead-step, TableBodyRead-end, TableBodyRead-bad_key, TableBodyRead-bad_value, key_shorter}

@@ -1,4 +1,4 @@
-use Rattle.amqp_value_core.specs.Inputs.{slice_bytes}
+use Rattle.amqp_value_core.specs.Bytes.{slice_bytes}
 use Rattle.amqp_in_place.specs.Refs.{array_body}
 use Rattle.amqp_in_place.proofs.Lookups.{nth_means, nth_is_written, nth_is_view}
 use Rattle.amqp_in_place.proofs.refs.ArrayRef.get.Goals as goal

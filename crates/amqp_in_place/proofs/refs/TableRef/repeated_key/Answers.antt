@@ -1,5 +1,5 @@
 use Rattle.std.proofs.Common.{rules, arith}
-use Rattle.amqp_value_core.specs.Inputs.{slice_bytes}
+use Rattle.amqp_value_core.specs.Bytes.{slice_bytes}
 use Rattle.amqp_in_place.specs.Refs.{table_body}
 use Rattle.amqp_in_place.proofs.RepeatedKeys.{rising_once, KeysAreSeen-step}
 use Rattle.amqp_in_place.proofs.refs.TableRef.repeated_key.Goals as goal

@@ -1,5 +1,5 @@
 use Rattle.std.proofs.Common.{List, ℕ, ◌<◌, length, subst, arith}
-use Rattle.amqp_value_core.specs.Inputs.{slice_bytes}
+use Rattle.amqp_value_core.specs.Bytes.{slice_bytes}
 use Rattle.amq_protocol_types.specs.parsing.ParseResults.{IsRefusal}
 use Rattle.amq_protocol_types.specs.parsing.Bodies.{IsNoTable}
 use Rattle.amqp_value_core.specs.Containers.{table_view}

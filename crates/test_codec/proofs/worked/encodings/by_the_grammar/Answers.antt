@@ -2,7 +2,7 @@ use Rattle.std.proofs.Common.{rules}
 use Rattle.std.specs.Str.{is_utf8, chars}
 use lib.Utf8.{encode}
 use Rattle.amqp_value_core.specs.declared.types.amqp_type.AMQPType.TheVariants as amqp
-use Rattle.amqp_value_core.specs.Hexadecimal.{hex}
+use Rattle.amqp_value_core.specs.Decode.{hex}
 use Rattle.amqp_value_core.proofs.GrammarLaws.{outcome_holds, raw_outcome_holds}
 use Rattle.test_codec.proofs.worked.encodings.by_the_grammar.Goals as goal
 

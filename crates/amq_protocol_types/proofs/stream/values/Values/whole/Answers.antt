@@ -2,7 +2,7 @@ use Rattle.std.proofs.Common.{◌≡◌, ◌++◌, ◌∙◌, List, ℕ, [], ap,
 use Rattle.amqp_value_core.specs.View.{view}
 use Rattle.amqp_value_core.specs.Nesting.{WireWithin, OutcomeWithin}
 use Rattle.amqp_value_core.specs.Outcomes.{found}
-use Rattle.amqp_value_core.specs.Inputs.{slice_bytes}
+use Rattle.amqp_value_core.specs.Bytes.{slice_bytes}
 use Rattle.amqp_value_core.proofs.GrammarLaws.{prefix_within}
 use Rattle.amq_protocol_types.specs.stream.Readers.{kept}
 use Rattle.amq_protocol_types.proofs.lemmas.parsing.Waits.{nothing_after, kept_within}

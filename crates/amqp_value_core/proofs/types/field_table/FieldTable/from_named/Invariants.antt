@@ -1,6 +1,6 @@
 use Rattle.std.proofs.Common.{◌≡◌, ◌≤◌, length}
 use Rattle.amqp_value_core.specs.Values.{no_entries}
-use Rattle.amqp_value_core.specs.Inserting.{insert_all}
+use Rattle.amqp_value_core.specs.Maps.{insert_all}
 use Rattle.amqp_value_core.specs.Containers.{entries, named, names, table_view}
 use Rattle.amqp_value_core.specs.Short.{first_too_long}
 use Rattle.amqp_value_core.proofs.types.field_table.FieldTable.from_named.Given as goal
