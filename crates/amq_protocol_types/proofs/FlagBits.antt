@@ -11,7 +11,7 @@ use Rattle.std.proofs.lemmas.List.FromFn.{length-map-range_with_len, get_or-map-
 use Rattle.std.proofs.lemmas.List.{take_more, take_all, take_min, drop_min, at_drop_more, map_more, map-append, get_or-map, length-map, length-take-le, take_at, drop_at, drop-drop, get_or-take, get_or-drop}
 use Rattle.std.specs.Int.{bit_at}
 use Rattle.amqp_value_core.specs.Maps.{same_bytes}
-use Rattle.amq_protocol_types.specs.flags.Flags.{Flag, listed, names_of, values_of, flag_named, bytes_for, number_of, packed, pack, bit_of, bits, unpack, AreFlagsReadBack}
+use Rattle.amq_protocol_types.specs.Flags.{Flag, listed, names_of, values_of, flag_named, bytes_for, number_of, packed, pack, bit_of, bits, unpack, AreFlagsReadBack}
 
 -- the next flag decides, or the flags after it do
 pub named_more : (name : List ℕ) (fs : List (String Global × Bool)) (i : ℕ) (f : String Global × Bool) (b : Bool) → i < length fs → f ≡ get_or fs i f → b ≡ same_bytes (string_bytes f.0) name

@@ -13,7 +13,7 @@ use Rattle.amq_protocol_types.specs.generation.BufferOutput.{IsConsistentOutput,
 use Rattle.amq_protocol_types.specs.generation.Lengths.{OnlyAppends, IsReserved, AppendsWithLength, RefusesWithLength}
 use Rattle.amq_protocol_types.specs.generation.Contexts.{start_of, state_of}
 use Rattle.amq_protocol_types.specs.declared.generation.context.WriteContext.{WriteContext}
-use Rattle.amq_protocol_types.proofs.lemmas.generation.Capacities.{nothing_appended, reported_back, prefix_overwritten}
+use Rattle.amq_protocol_types.proofs.Capacities.{nothing_appended, reported_back, prefix_overwritten}
 
 -- the position counts what was appended
 pub counted : (a b : Option (List ℕ)) (n m : ℕ) (xs : List ℕ) → IsSome a → IfSome a (λ put. length put ≡ n) → IsSome b → IfSome b (λ put. length put ≡ m) → Appends a b xs → m ≡ n + length xs

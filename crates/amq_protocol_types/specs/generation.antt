@@ -1,3 +1,5 @@
+-- What writing does.
+
 -- what an output is viewed as, and what each call does to that (33 lines)
 pub mod Outputs
 -- what a `WriteContext` is viewed as (10 lines)
@@ -6,9 +8,7 @@ pub mod Contexts
 pub mod Written
 -- what a buffer's calls do to it
 pub mod BufferOutput
--- the other outputs
-pub mod Slices
-pub mod Vectors
-pub mod Devices
+-- what a slice, a vector and a device are viewed as
+pub mod OutputViews
 -- lengths of what is written
 pub mod Lengths

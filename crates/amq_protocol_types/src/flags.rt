@@ -1,7 +1,7 @@
 //! Flags: named booleans, packed eight to a byte as in AMQP's method arguments.
 
 ghost use Rattle.std.specs.Prelude.{◌≡◌, ◌<◌, ◌≤◌, ◌++◌, ◌∷◌, [], map, length, string_bytes, IfOk, OnOk, OnErr};
-ghost use Rattle.amq_protocol_types.specs.flags.Flags.{listed, flags_of, values_of, flag_named, number_of, pack, unpack};
+ghost use Rattle.amq_protocol_types.specs.Flags.{listed, flags_of, values_of, flag_named, number_of, pack, unpack};
 
 pub mod laws;
 

@@ -1,5 +1,6 @@
--- Reading as a function and as a relation are the same.
-use Rattle.std.proofs.Common.{ℕ, ◌≡◌, ◌↔◌, sym, subst, Option, Some, None, List, [], ◌∷◌, ◌++◌, length, arith, length-append}
+-- Reading as a function and as a relation are the same, so payloads of fixed width, long strings and
+-- byte arrays are never malformed.
+use Rattle.std.proofs.Common.{ℕ, ◌≡◌, ◌↔◌, sym, subst, Option, Some, None, List, [], ◌∷◌, ◌++◌, length, arith, length-append, suc, zero, ◌≢◌, refl}
 use Rattle.std.specs.Prelude.{MatchOption}
 use Rattle.amqp_value_core.specs.declared.types.amqp_type.AMQPType.{AMQPType}
 use Rattle.amqp_value_core.specs.Values.{Tree}
@@ -9,11 +10,13 @@ use Rattle.amqp_value_core.specs.Nesting.{WireWithin, RawWithin, OutcomeWithin}
 use Rattle.amqp_value_core.specs.Bytes.{IsBytes}
 use Rattle.amqp_value_core.specs.Outcomes.{Reading, found, more, unknown, malformed, lack, OutcomeBy, Outcome, RawOutcome}
 use Rattle.amqp_value_core.specs.Decode.{outcome_by, meaning, compute_outcome, compute_raw_outcome}
-use Rattle.amqp_value_core.proofs.Found.{found_wire, found_raw}
+use Rattle.amqp_value_core.proofs.Found.{found_wire, found_raw, by_layout, by_lack}
 use Rattle.amqp_value_core.proofs.Limited.{one_outcome_within}
 use Rattle.amqp_value_core.proofs.Outcomes.{NeedsMoreOr, PrefixBy, raw_from_cases, NeedsMoreOr-weaker, from_cases, one_outcome, one_raw_outcome}
 use Rattle.amqp_value_core.proofs.Nests.{nesting-le, raw_nesting-le, wire_of, raw_of, wire_within, raw_within}
 use Rattle.amqp_value_core.proofs.Sound.{PrefixOrError, WireEnds, raw_ends, wire_ends, means_spelled}
+use Rattle.amqp_value_core.specs.declared.types.amqp_type.AMQPType.TheVariants as amqp
+use Rattle.amqp_value_core.specs.Layouts.{fixed}
 
 -- an encoding at the start is the outcome
 outcome_at : (s w rest : List ℕ) (v : Tree) → Wire w v → s ≡ w ++ rest → compute_outcome s ≡ found v rest
@@ -87,3 +90,25 @@ within_holds d s bytes = outcome_by_ends d (WireWithin d) s (outcome_by (meaning
 pub within_is : (d : ℕ) (s : List ℕ) (o : Reading) → IsBytes s → OutcomeWithin d s o ↔ (o ≡ outcome_by (meaning d) s)
 within_is d s o bytes =
     (λ x. one_outcome_within d s o (outcome_by (meaning d) s) x (within_holds d s bytes), λ is. subst (OutcomeWithin d s) (sym is) (within_holds d s bytes))
+
+abbrev IsNotMalformed : Reading → Type 0
+IsNotMalformed malformed = ⊥
+IsNotMalformed _ = Unit {0}
+
+-- each complete payload has a value
+by_layout_not_malformed : (n : ℕ) (type : AMQPType) (b : List ℕ) → type ≢ amqp.ShortString → type ≢ amqp.FieldArray → type ≢ amqp.FieldTable
+    → IsNotMalformed (by_layout (fixed type) (meaning n) type b)
+by_layout_not_malformed n amqp.ShortString b no_short no_array no_table = absurd (no_short refl)
+by_layout_not_malformed n amqp.FieldArray b no_short no_array no_table = absurd (no_array refl)
+by_layout_not_malformed n amqp.FieldTable b no_short no_array no_table = absurd (no_table refl)
+by_layout_not_malformed n _ b no_short no_array no_table = tt
+
+by_lack_not_malformed : (k n : ℕ) (type : AMQPType) (b : List ℕ) → IsNotMalformed (by_layout (fixed type) (meaning n) type b) → IsNotMalformed (by_lack k (meaning n) type b)
+by_lack_not_malformed zero n type b here = here
+by_lack_not_malformed (suc k) n type b here = tt
+
+pub never_malformed : (type : AMQPType) (s : List ℕ) → IsBytes s → type ≢ amqp.ShortString → type ≢ amqp.FieldArray → type ≢ amqp.FieldTable
+    → RawOutcome type s malformed → ⊥
+never_malformed type s bytes no_short no_array no_table here =
+    let is : malformed ≡ compute_raw_outcome type s = (raw_outcome_is type s malformed bytes).0 here in
+    subst IsNotMalformed (sym is) (by_lack_not_malformed (lack type s) (length s) type s (by_layout_not_malformed (length s) type s no_short no_array no_table))

@@ -1,8 +1,8 @@
--- Bytes: parts of some bytes are bytes, and the numbers that they encode are as small as their
--- width.
-use Rattle.std.proofs.Common.{ℕ, suc, zero, ◌<◌, ◌^◌, sym, subst, List, [], ◌∷◌, ◌++◌, get_or, take, drop, arith}
-use Rattle.std.proofs.lemmas.List.{take-append-drop}
+-- Lists of bytes: their parts, the numbers that they encode, prefixes, and two lists as one.
+use Rattle.std.proofs.Common.{ℕ, suc, zero, ◌<◌, ◌^◌, sym, subst, List, [], ◌∷◌, ◌++◌, get_or, take, drop, arith, ◌≡◌, ◌≤◌, length, refl, ap, ◌∙◌, take-append-drop, Option, Some, ◌-◌, min, rules, length-append}
+use Rattle.std.proofs.lemmas.List.{take-append-drop, take_at, take-append-le, same_lists, places}
 use Rattle.std.specs.Int.{w8, w16, w32, w64, from_be_bytes}
+use Rattle.std.proofs.lemmas.Option.{same_Some}
 use Rattle.amqp_value_core.specs.Bytes.{IsBytes}
 
 -- a part of some bytes is bytes
@@ -44,3 +44,49 @@ below_8 s bytes =
 pub bytes_join : (s t : List ℕ) → IsBytes s → IsBytes t → IsBytes (s ++ t)
 bytes_join [] t first second = second
 bytes_join (c ∷ s) t first second = (first.0, bytes_join s t first.1 second)
+
+-- ---- prefixes
+
+-- two prefixes of one list that are as long are one, and so are the rests
+pub same_prefixes : (a b x y : List ℕ) → length a ≡ length b → a ++ x ≡ b ++ y → (a ≡ b) × (x ≡ y)
+same_prefixes [] [] x y len e = (refl, e)
+same_prefixes [] (d ∷ b) x y len e = absurd (omega arith)
+same_prefixes (c ∷ a) [] x y len e = absurd (omega arith)
+same_prefixes (c ∷ a) (d ∷ b) x y len e =
+    let rest = same_prefixes a b x y (omega arith) (cc) in
+    (cc, rest.1)
+
+-- a prefix of a joined list that is no longer than its first part is a prefix of that part
+pub prefix_inside : (s t b rest : List ℕ) → s ++ t ≡ b ++ rest → length b ≤ length s → s ≡ b ++ drop (length b) s
+prefix_inside s t b rest e le =
+    let prefix : take (length b) s ≡ b = sym (take-append-le (length b) s t le) ∙ (ap (take (length b)) e ∙ take_at b rest (length b) refl) in
+    sym (take-append-drop (length b) s) ∙ ap (λ (p : List ℕ). p ++ drop (length b) s) prefix
+
+-- what an option holds is one thing
+pub one_held : {A : Type 0} (o : Option A) (x y : A) → o ≡ Some x → o ≡ Some y → x ≡ y
+one_held o x y d e = same_Some x y (sym d ∙ e)
+
+-- ---- two lists as one
+
+-- what is left of both after the first n is what is left of each
+drop_both : (n : ℕ) (xs ys : List ℕ) → drop n xs ++ drop (n - length xs) ys ≡ drop n (xs ++ ys)
+drop_both zero xs ys =
+    let none : 0 - length xs ≡ 0 = omega arith in
+    ap (λ k. xs ++ drop k ys) none
+drop_both (suc n) [] ys =
+    let all : suc n - 0 ≡ suc n = omega arith in
+    ap (λ k. drop k ys) all
+drop_both (suc n) (x ∷ xs) ys =
+    let fewer : suc n - suc (length xs) ≡ n - length xs = omega arith in
+    ap (λ k. drop n xs ++ drop k ys) fewer ∙ drop_both n xs ys
+
+-- what is left of a list from place a on, if that is n or its end
+left_from : (n a : ℕ) (xs : List ℕ) → a ≡ min n (length xs) → take (length xs - a) (drop a xs) ≡ drop n xs
+left_from n a xs e = same_lists _ _ (search (rules, places)) (λ n d l. grind (arith, places))
+
+-- so what is left of each makes what is left of both
+pub both_left : (n a b : ℕ) (xs ys : List ℕ) → a ≡ min n (length xs) → b ≡ n - length xs → n ≤ length (xs ++ ys) → take (length xs - a) (drop a xs) ++ take (length ys - b) (drop b ys) ≡ drop n (xs ++ ys)
+both_left n a b xs ys e f few =
+    let size = length-append xs ys in
+    let rest = left_from b b ys (omega arith) in
+    (λ i. left_from n a xs e i ++ (rest ∙ ap (λ k. drop k ys) f) i) ∙ drop_both n xs ys

@@ -1,6 +1,6 @@
-mod Ends
+-- Lemmas on lines and streams. A folder is for a module of src/, and has the proofs of its functions.
+
+mod Faults
 mod Outcomes
-mod Prefixes
-mod Sources
-mod Capacities
+mod Output
 mod Streams

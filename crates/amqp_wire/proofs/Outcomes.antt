@@ -13,8 +13,7 @@ use Rattle.amq_protocol_types.specs.parsing.Refusals.{Refusal}
 use Rattle.amq_protocol_types.specs.parsing.ParseResults.{IsRefusal}
 use Rattle.amq_protocol_types.specs.parsing.Headers.{extent}
 use Rattle.amq_protocol_types.specs.parsing.Limits.{Within, RefusesWithin}
-use Rattle.amqp_wire.specs.Lines.{said, said_within, read_within}
-use Rattle.amqp_wire.specs.Refusals.{IsSaid}
+use Rattle.amqp_wire.specs.Lines.{said, said_within, read_within, IsSaid}
 
 -- what a slice of bytes shows are bytes
 pub bytes_fit : (s : List ℕ) → ((i : ℕ) → Fits w8 (slice_index s i)) → IsBytes s

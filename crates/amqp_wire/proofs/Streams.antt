@@ -20,10 +20,9 @@ use Rattle.amq_protocol_types.specs.parsing.Headers.{extent}
 use Rattle.amq_protocol_types.specs.parsing.Limits.{Within}
 use Rattle.amq_protocol_types.specs.stream.Readers.{IsOutcomeOfAll}
 use Rattle.amq_protocol_types.proofs.ParsingLaws.{wire_extent}
-use Rattle.amqp_wire.specs.Lines.{read_within, AppendsTextPrefix}
-use Rattle.amqp_wire.specs.Refusals.{kind_name}
+use Rattle.amqp_wire.specs.Lines.{read_within, AppendsTextPrefix, kind_name}
 use Rattle.amqp_wire.specs.Streams.{value_line, last_line, stream_step, stream_text, BeginsWith, BeginsNone, AreStreamValues, value_lines, HasLines, LeavesAfterValues, IsLine}
-use Rattle.amqp_wire.proofs.Prefixes.{IsOutputUpTo, written_more, written_part}
+use Rattle.amqp_wire.proofs.Output.{IsOutputUpTo, written_more, written_part}
 use Rattle.amqp_wire.proofs.Outcomes.{read_is, read_holds, too_large}
 
 -- ---- what is at the start

@@ -1,5 +1,8 @@
-pub mod Ends
-pub mod Faults
+-- The definitions by which contracts of this program are stated.
+
+-- the lines of a text, and what is printed of each
 pub mod Lines
-pub mod Refusals
+-- the lines of a stream
 pub mod Streams
+-- what ends a run before its last line
+pub mod Faults

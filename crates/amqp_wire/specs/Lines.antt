@@ -1,4 +1,4 @@
--- The lines that are written for the lines that are read.
+-- The lines that are written for the lines that are read, also for an error of a parser.
 use Rattle.std.specs.Prelude.{◌≡◌, ℕ, Option, Some, None, IfSome, List, [], ◌∷◌, ◌++◌, length, map, codes, nat_lt, if◌then◌else◌, Result, Ok, Err}
 use Rattle.std.specs.Fmt.{decimal}
 use Rattle.std.specs.Io.KnownBytes.{Appends}
@@ -13,6 +13,11 @@ use Rattle.amq_protocol_types.specs.parsing.Headers.{extent}
 use Rattle.amq_protocol_types.specs.declared.parsing.limits.Limits.{Limits}
 use Rattle.amqp_wire.specs.declared.line.Form.{Form}
 use Rattle.amqp_wire.specs.declared.line.Form.TheVariants as form
+use Rattle.amq_protocol_types.specs.parsing.Refusals.{Refusal}
+use Rattle.amq_protocol_types.specs.declared.parsing.errors.Err.TheVariants.{Incomplete, Error, Failure}
+use Rattle.amq_protocol_types.specs.declared.parsing.errors.Needed.TheVariants.{Unknown, Size}
+use Rattle.amq_protocol_types.specs.declared.parsing.errors.ErrorKind.{ErrorKind}
+use Rattle.amq_protocol_types.specs.declared.parsing.errors.ErrorKind.TheVariants.{MapOpt, MapRes, Eof, OutOfMemory, TooLarge}
 
 -- what is printed of a value after which n bytes are left: its canonical encoding in hexadecimal, n
 abbrev pub said_of_value : Tree → ℕ → List ℕ
@@ -76,3 +81,23 @@ AppendsResult printed input old new = IfSome input (λ xs. Appends old new (prin
 -- or by a prefix of it
 abbrev pub AppendsResultPrefix : (List ℕ → List ℕ) → Option (List ℕ) → Option (List ℕ) → Option (List ℕ) → Type 0
 AppendsResultPrefix printed input old new = IfSome input (λ xs. AppendsTextPrefix old new (printed xs))
+
+-- the name of a kind
+abbrev pub kind_name : ErrorKind → List ℕ
+kind_name MapOpt = codes "MapOpt"
+kind_name MapRes = codes "MapRes"
+kind_name Eof = codes "Eof"
+kind_name OutOfMemory = codes "OutOfMemory"
+kind_name TooLarge = codes "TooLarge"
+
+-- a string describes an error; no string means that memory ran out
+abbrev pub IsSaid : Refusal → List ℕ → Type 0
+IsSaid (Incomplete Unknown) t = ⊥
+IsSaid (Incomplete (Size n)) t = t ≡ codes "more " ++ decimal n
+IsSaid (Error kind) t = t ≡ codes "refused " ++ kind_name kind
+IsSaid (Failure kind) t = ⊥
+
+-- a parser returns how many more bytes are needed
+abbrev pub IsKnownRefusal : Refusal → Type 0
+IsKnownRefusal (Incomplete Unknown) = ⊥
+IsKnownRefusal _ = Unit {0}

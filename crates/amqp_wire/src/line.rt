@@ -6,8 +6,7 @@ ghost use Rattle.amqp_value_core.specs.Headline.{IsWritableIn};
 ghost use Rattle.amqp_value_core.specs.View.{view};
 ghost use Rattle.amqp_value_core.specs.Texts.{text, size, Fits};
 ghost use Rattle.hex.specs.Hex.{encode_lower};
-ghost use Rattle.amqp_wire.specs.Lines.{line_by, read_within, said, said_in, said_of_value, said_within};
-ghost use Rattle.amqp_wire.specs.Refusals.{kind_name, IsSaid, IsKnownRefusal};
+ghost use Rattle.amqp_wire.specs.Lines.{line_by, read_within, said, said_in, said_of_value, said_within, kind_name, IsSaid, IsKnownRefusal};
 
 use amq_protocol_types::AMQPValue;
 use amq_protocol_types::generation::{SliceOutput, WriteContext, gen_value};

@@ -5,7 +5,7 @@ ghost use Rattle.std.specs.Io.{ReadsAtMost};
 ghost use Rattle.std.specs.Io.KnownBytes.{Consumes, IsAtEnd, ReadConsumes};
 ghost use Rattle.std.specs.IoError.{error_kind};
 ghost use Rattle.amq_protocol_types.specs.stream.Sources.{SourceReaches, SourceStops};
-ghost use Rattle.amqp_wire.specs.Ends.{SourceContinues, EndsRead};
+ghost use Rattle.amqp_wire.specs.Faults.{SourceContinues, EndsRead};
 
 use crate::fault::WireFault;
 use amq_protocol_types::stream::Source;

@@ -2,7 +2,7 @@
 
 ghost use Rattle.std.specs.Prelude.{◌<◌, OnOk, OnErr, length};
 ghost use Rattle.std.specs.Io.KnownBytes.{Appends, IsAtEnd};
-ghost use Rattle.amqp_wire.specs.Ends.{EndsResults, EndsLines, EndsWrite};
+ghost use Rattle.amqp_wire.specs.Faults.{EndsResults, EndsLines, EndsWrite};
 ghost use Rattle.amqp_wire.specs.Lines.{output, output_by, output_within, said_in, AppendsTextPrefix, AppendsResult, AppendsResultPrefix};
 
 use crate::fault::WireFault;

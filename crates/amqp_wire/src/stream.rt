@@ -6,9 +6,8 @@ ghost use Rattle.amqp_value_core.specs.Bytes.{IsBytes};
 ghost use Rattle.amqp_value_core.specs.Texts.{size, Fits};
 ghost use Rattle.amqp_value_core.specs.View.{view};
 ghost use Rattle.amq_protocol_types.specs.stream.Readers.{kept, has_failed, limits_of};
-ghost use Rattle.amqp_wire.specs.Ends.{EndsRead, EndsRun};
-ghost use Rattle.amqp_wire.specs.Lines.{AppendsTextPrefix};
-ghost use Rattle.amqp_wire.specs.Refusals.{kind_name};
+ghost use Rattle.amqp_wire.specs.Faults.{EndsRead, EndsRun};
+ghost use Rattle.amqp_wire.specs.Lines.{AppendsTextPrefix, kind_name};
 ghost use Rattle.amqp_wire.specs.Streams.{value_line, stream_text, HasLines, LeavesAfterValues, IsLine};
 
 use crate::fault::WireFault;

@@ -94,7 +94,7 @@ struct Recorder {
 
 impl Output for Recorder {
     ghost use Rattle.std.specs.Prelude.{true};
-    ghost use Rattle.amq_protocol_types.specs.generation.Vectors.{seen_vector};
+    ghost use Rattle.amq_protocol_types.specs.generation.OutputViews.{seen_vector};
 
     ghost is_buffer = { true };
 

@@ -1,11 +1,15 @@
--- What reading a container returns on its way: a length-prefixed field, and its body's entries.
+-- What reading a container returns on its way: a length-prefixed field, its body's entries, and pairs
+-- that are gathered.
 use Rattle.std.specs.Prelude.{ℕ, ◌<◌, ◌^◌, ◌≡◌, List, ◌++◌, length}
 use Rattle.std.specs.Int.{w32}
-use Rattle.amqp_value_core.specs.Values.{Trees, Entries}
+use Rattle.amqp_value_core.specs.Values.{Trees, Entries, no_entries}
 use Rattle.amqp_value_core.specs.Grammar.{long_field}
-use Rattle.amqp_value_core.specs.Maps.{Mean}
+use Rattle.amqp_value_core.specs.Maps.{Mean, insert_all}
 use Rattle.amqp_value_core.specs.Nesting.{BodyWithin, PairsWithin}
 use Rattle.amqp_value_core.specs.Outcomes.{Reading, more, malformed, frame_lack}
+use Rattle.amqp_value_core.specs.Containers.{entries, table_view}
+use Rattle.amq_protocol_types.specs.declared.parsing.pairs.TableBuilder.{TableBuilder}
+use Rattle.amq_protocol_types.specs.declared.parsing.pairs.TableBuilder.TheVariants.{Few, Many}
 
 -- bytes after their length in four bytes are read from s, and `rest` is left
 pub record IsLengthPrefixed (s body rest : List ℕ) : Type 0 where
@@ -30,3 +34,8 @@ IsTable depth s es = (ps : Entries) × PairsWithin depth s ps × Mean ps es
 abbrev pub IsNoTable : ℕ → List ℕ → Reading → Type 0
 IsNoTable depth s malformed = (ps : Entries) → PairsWithin depth s ps → ⊥
 IsNoTable depth s _ = ⊥
+
+-- what the pairs so far result in: those that are in the table, or those that were gathered
+abbrev pub kept : TableBuilder → Entries
+kept (Few table) = table_view table
+kept (Many pairs) = insert_all no_entries (entries pairs.items)

@@ -1,14 +1,15 @@
--- What the parsers of one type return.
-use Rattle.std.specs.Prelude.{ℕ, ◌<◌, ◌-◌, ◌≡◌, Some, None, List, [], ◌∷◌, ◌++◌, length}
+-- What the parsers of one type return, and those of types of fixed width.
+use Rattle.std.specs.Prelude.{ℕ, ◌<◌, ◌-◌, ◌≡◌, Some, None, List, [], ◌∷◌, ◌++◌, length, Result, MatchResult}
 use Rattle.std.specs.Int.{Width, byte_len, to_be_bytes}
 use Rattle.amqp_value_core.specs.declared.types.amqp_type.AMQPType.{AMQPType}
 use Rattle.amqp_value_core.specs.declared.types.amqp_type.AMQPType.TheVariants as amqp
 use Rattle.amqp_value_core.specs.Ids.{kind}
-use Rattle.amqp_value_core.specs.Outcomes.{Reading, more, unknown, malformed, RawHeavy, RawOutcome}
+use Rattle.amqp_value_core.specs.Outcomes.{Reading, more, unknown, malformed, RawHeavy, RawOutcome, found}
 use Rattle.amq_protocol_types.specs.declared.parsing.errors.ErrorKind.{ErrorKind}
 use Rattle.amq_protocol_types.specs.declared.parsing.errors.ErrorKind.TheVariants.{MapRes, Eof}
 use Rattle.amq_protocol_types.specs.parsing.Refusals.{Refusal}
-use Rattle.amq_protocol_types.specs.parsing.ParseResults.{RefusesAs}
+use Rattle.amq_protocol_types.specs.parsing.ParseResults.{RefusesAs, IsRefusal}
+use Rattle.amqp_value_core.specs.Values.{Scalar, scalar, number}
 
 -- a parser may return the error, if its only errors are that more bytes are needed, and that an
 -- allocation failed
@@ -41,3 +42,21 @@ IsNumberRead w s n rest = s ≡ to_be_bytes w n ++ rest
 -- a number of the width isn't all there, and that many more bytes are needed
 abbrev pub IsCutPayload : Width → List ℕ → Reading → Type 0
 IsCutPayload w s o = (length s < byte_len w) × (o ≡ more (byte_len w - length s))
+
+-- the result is the unsigned number of the first bytes, big-endian, and what is left after them; or
+-- more bytes are needed, and it counts how many
+abbrev pub ReadsUnsigned : {I : Type 0} → Width → (I → List ℕ) → I → Result (I × ℕ) Refusal → Type 0
+ReadsUnsigned w bytes i result = MatchResult result
+    (λ x. IsNumberRead w (bytes i) x.1 (bytes x.0))
+    (IsRefusal (IsCutPayload w (bytes i)) ⊥)
+
+-- the result is what a payload of the type at the start means, as viewed by `shown`, and what is
+-- left after it; or more bytes are needed, and it counts how many
+abbrev pub ReadsScalar : {I T : Type 0} → AMQPType → (T → Scalar) → (I → List ℕ) → I → Result (I × T) Refusal → Type 0
+ReadsScalar type shown bytes i result = MatchResult result
+    (λ x. RawOutcome type (bytes i) (found (scalar (shown x.1)) (bytes x.0)))
+    (OnlyLacks (RawOutcome type (bytes i)) ⊥)
+
+-- so it is with a number, which is viewed as its bits
+abbrev pub ReadsNumber : {I T : Type 0} → AMQPType → (T → ℕ) → (I → List ℕ) → I → Result (I × T) Refusal → Type 0
+ReadsNumber type bits bytes i result = ReadsScalar type (λ n. number type (bits n)) bytes i result

@@ -4,7 +4,7 @@
 
 ghost use Rattle.std.specs.Prelude.{◌≡◌, ◌==◌, ◌<◌, ◌≤◌, ◌+◌, ◌/◌, ◌%◌, Bool, false, ℕ, List, length, slice_index, slice_index_or};
 ghost use Rattle.std.specs.Int.{bit_at};
-ghost use Rattle.amq_protocol_types.specs.flags.Flags.{Flag, names_of, values_of, pack, unpack};
+ghost use Rattle.amq_protocol_types.specs.Flags.{Flag, names_of, values_of, pack, unpack};
 
 /// Flag number n is bit n % 8, counted from the lowest, of byte n / 8. The bits left over are 0,
 /// and there are no more bytes than the flags need.

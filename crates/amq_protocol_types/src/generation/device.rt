@@ -1,6 +1,6 @@
 ghost use Rattle.std.specs.Prelude.{◌≡◌, length, false, IsOk};
 ghost use Rattle.amq_protocol_types.specs.generation.BufferOutput.{AppendsBytes, PromisesCapacity};
-ghost use Rattle.amq_protocol_types.specs.generation.Devices.{seen_device, device_of, AppendsToDevice};
+ghost use Rattle.amq_protocol_types.specs.generation.OutputViews.{seen_device, device_of, AppendsToDevice};
 
 use crate::generation::{GenError, GenResult, Output};
 use std::io::Write;

@@ -3,7 +3,7 @@
 ghost use Rattle.std.specs.Prelude.{⊤};
 ghost use Rattle.amq_protocol_types.specs.generation.Outputs.{Writes};
 ghost use Rattle.amq_protocol_types.specs.generation.Contexts.{state_of, KeepsStart};
-ghost use Rattle.amq_protocol_types.specs.flags.Flags.{flags_of, values_of, pack, AreFlagsReadBack};
+ghost use Rattle.amq_protocol_types.specs.Flags.{flags_of, values_of, pack, AreFlagsReadBack};
 
 use crate::flags::{AMQPFlags, byte_of};
 use crate::generation::{GenResult, Output, WriteContext};

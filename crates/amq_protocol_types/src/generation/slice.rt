@@ -1,5 +1,5 @@
 ghost use Rattle.std.specs.Prelude.{◌≡◌, []};
-ghost use Rattle.amq_protocol_types.specs.generation.Slices.{seen_slice};
+ghost use Rattle.amq_protocol_types.specs.generation.OutputViews.{seen_slice};
 
 use crate::generation::{BackToTheBuffer, GenError, GenResult, Output};
 use std::marker::Model;
@@ -14,7 +14,7 @@ pub struct SliceOutput<'a> {
 
 impl<'a> Model for SliceOutput<'a> {
     ghost use Rattle.std.specs.Prelude.{◌≤◌, take, drop, length};
-    ghost use Rattle.amq_protocol_types.specs.generation.Slices.{Sliced};
+    ghost use Rattle.amq_protocol_types.specs.generation.OutputViews.{Sliced};
 
     ghost Value = { Sliced };
 

@@ -1,7 +1,7 @@
 ghost use Rattle.std.specs.Prelude.{◌≡◌, ◌+◌, ⊤, true, IfOk, IfErr, length, replicate};
 ghost use Rattle.amq_protocol_types.specs.generation.BufferOutput.{AppendsBytes, PromisesCapacity, outcome_of};
 ghost use Rattle.amq_protocol_types.specs.generation.Outputs.{Writes};
-ghost use Rattle.amq_protocol_types.specs.generation.Vectors.{seen_vector};
+ghost use Rattle.amq_protocol_types.specs.generation.OutputViews.{seen_vector};
 ghost use Rattle.amq_protocol_types.specs.declared.generation.error.GenError.TheVariants.{OutOfMemory};
 
 use crate::generation::{BackToTheBuffer, GenError, GenResult, Output};

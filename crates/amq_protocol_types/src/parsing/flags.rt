@@ -2,7 +2,7 @@
 
 ghost use Rattle.std.specs.Prelude.{MatchResult, map, length};
 ghost use Rattle.amq_protocol_types.specs.parsing.ParseResults.{IsRefusal};
-ghost use Rattle.amq_protocol_types.specs.flags.Flags.{flags_of, AreFlagsRead, AreFlagsCut, AreFlagsHeavy};
+ghost use Rattle.amq_protocol_types.specs.Flags.{flags_of, AreFlagsRead, AreFlagsCut, AreFlagsHeavy};
 
 use super::errors::{ParserResult, lacks};
 use super::traits::ParsableInput;

@@ -93,7 +93,7 @@ pub fn value_len<I: ParsableInput>(i: I) -> usize
 
 /// Reads the type tag and the length of a value that may have at most `frame` bytes, the type tag
 /// included. It takes constant time and doesn't allocate.
-#[tactic(auto, using(crate::proofs::lemmas::parsing::Whole::whole_by_header))]
+#[tactic(auto, using(crate::proofs::Extents::whole_by_header))]
 #[inline(always)]
 pub fn header_of<I: ParsableInput>(i: I, frame: u32) -> Header
     ensures header { IsHeader frame (I.bytes i) result }

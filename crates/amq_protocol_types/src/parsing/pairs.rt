@@ -5,7 +5,7 @@ ghost use Rattle.amqp_value_core.specs.Values.{no_entries};
 ghost use Rattle.amqp_value_core.specs.Maps.{insert};
 ghost use Rattle.amqp_value_core.specs.View.{view};
 ghost use Rattle.amqp_value_core.specs.Containers.{table_view};
-ghost use Rattle.amq_protocol_types.specs.parsing.Gathering.{kept};
+ghost use Rattle.amq_protocol_types.specs.parsing.Bodies.{kept};
 
 use super::scalars::parse_long_uint;
 use super::traits::ParsableInput;

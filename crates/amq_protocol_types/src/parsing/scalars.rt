@@ -7,8 +7,7 @@ ghost use Rattle.amqp_value_core.specs.View.{float_bits, double_bits};
 ghost use Rattle.amqp_value_core.specs.Bytes.{IsBytes};
 ghost use Rattle.amqp_value_core.specs.Values.{boolean, decimal};
 ghost use Rattle.amq_protocol_types.specs.parsing.ParseResults.{IsRefusal};
-ghost use Rattle.amq_protocol_types.specs.parsing.PayloadResults.{IsType, IsNoType};
-ghost use Rattle.amq_protocol_types.specs.parsing.Scalars.{ReadsUnsigned, ReadsScalar, ReadsNumber};
+ghost use Rattle.amq_protocol_types.specs.parsing.PayloadResults.{IsType, IsNoType, ReadsUnsigned, ReadsScalar, ReadsNumber};
 
 use super::errors::{ErrorKind, ParserResult, error_of_kind, lacks};
 use super::traits::ParsableInput;

@@ -95,7 +95,7 @@ pub fn parse_raw_value<I: ParsableInput>(
 #[cycle(parser)]
 #[inline(always)]
 // The tactic names the lemma that the errors of most arms share.
-#[tactic(auto, using(crate::proofs::lemmas::parsing::Plain::plain_lacks))]
+#[tactic(auto, using(crate::proofs::Payloads::plain_lacks))]
 fn payload_within<I: ParsableInput>(
     alloc: Global,
     amqp_type: AMQPType,

@@ -42,7 +42,7 @@ pub fn parse_value_within<I: ParsableInput>(
 }
 
 // Reads a value once its header shows that it is complete, and within the limit `frame`.
-#[tactic(auto, using(crate::proofs::lemmas::parsing::Refused::unknown_within, crate::proofs::lemmas::parsing::Waits::lacks_within))]
+#[tactic(auto, using(crate::proofs::Refusals::unknown_within, crate::proofs::MissingBytes::lacks_within))]
 fn read_within<I: ParsableInput>(alloc: Global, i: I, limits: Limits) -> ParserResult<I, AMQPValue>
     ensures within { MatchResult result
         (λ x. Within limits (I.bytes i) (found (view x.1) (I.bytes x.0)))

@@ -59,7 +59,7 @@ impl Values {
     }
 
     // Reads until the value is complete, or isn't one.
-    #[tactic(auto, using(crate::proofs::lemmas::parsing::Refused::unknown_within))]
+    #[tactic(auto, using(crate::proofs::Refusals::unknown_within))]
     fn read_value<R: Source>(&mut self, reader: &mut R) -> Result<Option<AMQPValue>, StreamError>
         requires not_failed { has_failed self.old ≡ false }
         ensures outcome { ReadsOutcome R.Source self.old reader.old result self.new reader.new }
@@ -87,7 +87,7 @@ impl Values {
     }
 
     // The value that is retained completely.
-    #[tactic(auto, using(crate::proofs::lemmas::parsing::Refused::whole_asks_none))]
+    #[tactic(auto, using(crate::proofs::Refusals::whole_asks_none))]
     fn whole(&mut self) -> Result<Option<AMQPValue>, StreamError>
         requires not_failed { has_failed self.old ≡ false }
         requires whole { IsWholeValue (kept self.old) }

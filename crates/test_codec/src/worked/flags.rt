@@ -2,7 +2,7 @@
 
 ghost use Rattle.std.specs.Prelude.{◌≡◌, true, false, [], ◌∷◌, codes};
 ghost use Rattle.amqp_value_core.specs.Decode.{hex};
-ghost use Rattle.amq_protocol_types.specs.flags.Flags.{pack, unpack};
+ghost use Rattle.amq_protocol_types.specs.Flags.{pack, unpack};
 
 /// Flags are packed eight to a byte, the first one's bit the lowest, and the bits left over are 0.
 pub fn packed_flags()

@@ -1,5 +1,5 @@
 use Rattle.std.proofs.Common.{◌≡◌, ◌<◌, ◌^◌, take}
-use Rattle.amq_protocol_types.specs.flags.Flags.{listed, values_of, number_of}
+use Rattle.amq_protocol_types.specs.Flags.{listed, values_of, number_of}
 use Rattle.amq_protocol_types.proofs.flags.byte_of.Given as goal
 
 -- the number of the flags so far

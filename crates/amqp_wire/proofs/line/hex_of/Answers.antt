@@ -1,7 +1,7 @@
 use Rattle.std.proofs.Common.{◌≡◌, Some, rules}
 use Rattle.amqp_value_core.specs.View.{view}
-use Rattle.amq_protocol_types.specs.generation.Slices.{seen_slice}
-use Rattle.amqp_wire.proofs.Capacities.{has_capacity}
+use Rattle.amq_protocol_types.specs.generation.OutputViews.{seen_slice}
+use Rattle.amqp_wire.proofs.Output.{has_capacity}
 use Rattle.amqp_wire.proofs.line.hex_of.Goals as goal
 
 pub unwrap-requires : goal.unwrap-requires

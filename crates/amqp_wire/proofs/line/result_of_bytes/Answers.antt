@@ -4,8 +4,7 @@ use Rattle.amqp_value_core.specs.Outcomes.{Outcome, Heavy, found}
 use Rattle.amqp_value_core.specs.Decode.{compute_outcome}
 use Rattle.amqp_value_core.specs.View.{view}
 use Rattle.amq_protocol_types.specs.parsing.ParseResults.{IsRefusal}
-use Rattle.amqp_wire.specs.Lines.{said, said_of_value}
-use Rattle.amqp_wire.specs.Refusals.{IsSaid}
+use Rattle.amqp_wire.specs.Lines.{said, said_of_value, IsSaid}
 use Rattle.amqp_wire.proofs.Outcomes.{said_of_outcome, said_of_refusal}
 use Rattle.amqp_wire.proofs.line.result_of_bytes.Goals as goal
 

@@ -3,8 +3,7 @@ use Rattle.std.proofs.lemmas.Result.{IfOk-weaker}
 use Rattle.amqp_value_core.specs.Outcomes.{found}
 use Rattle.amqp_value_core.specs.View.{view}
 use Rattle.amq_protocol_types.specs.parsing.Limits.{RefusesWithin}
-use Rattle.amqp_wire.specs.Lines.{read_within, said_within, said_of_value}
-use Rattle.amqp_wire.specs.Refusals.{IsSaid}
+use Rattle.amqp_wire.specs.Lines.{read_within, said_within, said_of_value, IsSaid}
 use Rattle.amqp_wire.proofs.Outcomes.{said_of_within, said_of_limited}
 use Rattle.amqp_wire.proofs.line.result_within.Goals as goal
 

@@ -3,7 +3,7 @@ use Rattle.std.proofs.KnownBytes.{Keeps-refl, Keeps-trans}
 use Rattle.std.specs.IoError.{error_kind}
 use Rattle.std.specs.declared.io.ErrorKind.TheVariants as kind
 use Rattle.amq_protocol_types.specs.stream.Sources.SourceReaches.{here, there}
-use Rattle.amqp_wire.proofs.Sources.{goes_on}
+use Rattle.amqp_wire.proofs.Faults.{goes_on}
 use Rattle.amqp_wire.proofs.read.read_again.Goals as goal
 
 pub calls-init : goal.calls-init

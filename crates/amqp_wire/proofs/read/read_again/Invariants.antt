@@ -1,6 +1,6 @@
 use Rattle.std.specs.Io.KnownBytes.{Keeps}
 use Rattle.amq_protocol_types.specs.stream.Sources.{SourceReaches}
-use Rattle.amqp_wire.specs.Ends.{SourceContinues}
+use Rattle.amqp_wire.specs.Faults.{SourceContinues}
 use Rattle.amqp_wire.proofs.read.read_again.Given as goal
 
 -- no byte is gone, and each call was interrupted

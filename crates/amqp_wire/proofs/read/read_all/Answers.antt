@@ -2,10 +2,9 @@ use Rattle.std.proofs.Common.{rules, subst, sym}
 use Rattle.std.specs.Io.KnownBytes.{Consumes}
 use Rattle.std.proofs.KnownBytes.{Consumes-nil}
 use Rattle.amq_protocol_types.specs.stream.Sources.SourceReaches.{here}
-use Rattle.amq_protocol_types.proofs.StreamLaws.{reaches_on}
-use Rattle.amqp_wire.specs.Ends.{SourceContinues}
-use Rattle.amqp_wire.proofs.Ends.{ends_part}
-use Rattle.amqp_wire.proofs.Sources.{consumed_more}
+use Rattle.amq_protocol_types.proofs.SourceReads.{reaches_on}
+use Rattle.amqp_wire.specs.Faults.{SourceContinues}
+use Rattle.amqp_wire.proofs.Faults.{ends_part, consumed_more}
 use Rattle.amqp_wire.proofs.read.read_all.Goals as goal
 
 pub reads-init : goal.reads-init

@@ -1,7 +1,7 @@
 use Rattle.std.proofs.Common.{◌-◌, ◌^◌, vec_len}
 use Rattle.std.specs.Io.KnownBytes.{Consumes}
 use Rattle.amq_protocol_types.specs.stream.Sources.{SourceReaches}
-use Rattle.amqp_wire.specs.Ends.{SourceContinues}
+use Rattle.amqp_wire.specs.Faults.{SourceContinues}
 use Rattle.amqp_wire.proofs.read.read_all.Given as goal
 
 -- the bytes are all that came, with no error but of calls that were interrupted

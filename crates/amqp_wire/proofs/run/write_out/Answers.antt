@@ -1,6 +1,6 @@
 use Rattle.std.proofs.Common.{rules}
 use Rattle.amq_protocol_types.specs.stream.Sources.SourceReaches.{here, there}
-use Rattle.amqp_wire.proofs.Prefixes.{written_prefix}
+use Rattle.amqp_wire.proofs.Output.{written_prefix}
 use Rattle.amqp_wire.proofs.run.write_out.Goals as goal
 
 pub writes-init : goal.writes-init

@@ -1,7 +1,7 @@
 use Rattle.std.proofs.Common.{length}
 use Rattle.amq_protocol_types.specs.stream.Sources.{SourceReaches}
-use Rattle.amqp_wire.specs.Ends.{SinkAccepts}
-use Rattle.amqp_wire.proofs.Prefixes.{IsOutputUpTo}
+use Rattle.amqp_wire.specs.Faults.{SinkAccepts}
+use Rattle.amqp_wire.proofs.Output.{IsOutputUpTo}
 use Rattle.amqp_wire.proofs.run.write_out.Given as goal
 
 -- all that is gone from the bytes was appended, with no error of the sink

@@ -1,9 +1,9 @@
 use Rattle.std.proofs.Common.{◌∙◌, rules}
 use Rattle.amq_protocol_types.specs.stream.Sources.SourceReaches.{here}
-use Rattle.amq_protocol_types.proofs.StreamLaws.{reaches_on}
-use Rattle.amqp_wire.proofs.Ends.{results_end}
+use Rattle.amq_protocol_types.proofs.SourceReads.{reaches_on}
+use Rattle.amqp_wire.proofs.Faults.{results_end}
 use Rattle.amqp_wire.specs.Lines.{said_in}
-use Rattle.amqp_wire.proofs.Prefixes.{written_more, written_part, first_result}
+use Rattle.amqp_wire.proofs.Output.{written_more, written_part, first_result}
 use Rattle.amqp_wire.proofs.run.write_results.Goals as goal
 
 pub returns-in_err-write_out-clause-err : goal.returns-in_err-write_out-clause-err

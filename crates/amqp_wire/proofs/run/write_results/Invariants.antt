@@ -1,7 +1,7 @@
 use Rattle.amqp_wire.specs.Lines.{said_in, lines_by, output_by}
 use Rattle.amq_protocol_types.specs.stream.Sources.{SourceReaches}
-use Rattle.amqp_wire.specs.Ends.{SinkAccepts}
-use Rattle.amqp_wire.proofs.Prefixes.{IsOutputUpTo}
+use Rattle.amqp_wire.specs.Faults.{SinkAccepts}
+use Rattle.amqp_wire.proofs.Output.{IsOutputUpTo}
 use Rattle.amqp_wire.proofs.run.write_results.Given as goal
 
 -- all but the results of the lines that are left was appended, with no error of the sink

@@ -1,9 +1,9 @@
 use Rattle.std.proofs.Common.{◌≡◌, ◌∷◌, ◌++◌, [], Ok, Err, true, false, codes, subst, rules}
 use Rattle.amqp_value_core.specs.View.{view}
 use Rattle.amq_protocol_types.specs.stream.Readers.{kept, limits_of, IsOutcomeOf, IsOutcomeOfAll}
-use Rattle.amqp_wire.specs.Refusals.{kind_name}
+use Rattle.amqp_wire.specs.Lines.{kind_name}
 use Rattle.amqp_wire.specs.Streams.{value_line}
-use Rattle.amqp_wire.proofs.Capacities.{read_fits}
+use Rattle.amqp_wire.proofs.Output.{read_fits}
 use Rattle.amqp_wire.proofs.Streams.{line_is, value_line_is, cut_line_is, refused_line_is}
 use Rattle.amqp_wire.proofs.stream.next_line.Goals as goal
 

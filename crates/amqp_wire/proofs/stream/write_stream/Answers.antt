@@ -3,8 +3,8 @@ use Rattle.std.specs.Option.{IfSome}
 use Rattle.std.specs.Io.KnownBytes.{Appends}
 use Rattle.amqp_value_core.specs.Bytes.{IsBytes}
 use Rattle.amq_protocol_types.specs.stream.Sources.SourceReaches.{here}
-use Rattle.amq_protocol_types.proofs.StreamLaws.{reaches_on}
-use Rattle.amqp_wire.proofs.Ends.{ends_read, ends_write}
+use Rattle.amq_protocol_types.proofs.SourceReads.{reaches_on}
+use Rattle.amqp_wire.proofs.Faults.{ends_read, ends_write}
 use Rattle.amqp_wire.specs.Lines.{AppendsTextPrefix}
 use Rattle.amqp_wire.specs.Streams.{stream_text}
 use Rattle.amqp_wire.proofs.Streams.{Progress, LineIs, on_err, on_last, on_last_left, on_end_left, on_more}

@@ -1,7 +1,7 @@
 use Rattle.std.proofs.Common.{◌≡◌, [], false}
 use Rattle.amq_protocol_types.specs.stream.Readers.{kept, has_failed, limits_of}
 use Rattle.amq_protocol_types.specs.stream.Sources.{SourceReaches}
-use Rattle.amqp_wire.specs.Ends.{SinkAccepts}
+use Rattle.amqp_wire.specs.Faults.{SinkAccepts}
 use Rattle.amqp_wire.proofs.Streams.{Progress}
 use Rattle.amqp_wire.proofs.stream.write_stream.Given as goal
 

@@ -1,5 +1,5 @@
 use Rattle.std.proofs.Common.{◌≡◌, take}
-use Rattle.amq_protocol_types.specs.flags.Flags.{listed, flags_of}
+use Rattle.amq_protocol_types.specs.Flags.{listed, flags_of}
 use Rattle.amq_protocol_types.proofs.flags.AMQPFlags.clone.Given as goal
 
 -- the flags so far were copied

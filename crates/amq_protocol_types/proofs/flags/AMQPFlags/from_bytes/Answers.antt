@@ -1,5 +1,5 @@
 use Rattle.std.proofs.Common.{string_bytes, arith, rules}
-use Rattle.amq_protocol_types.specs.flags.Flags.{flags_of}
+use Rattle.amq_protocol_types.specs.Flags.{flags_of}
 use Rattle.amq_protocol_types.proofs.FlagBits.{next_flag, all_unpacked, some_flag}
 use Rattle.amq_protocol_types.proofs.flags.AMQPFlags.from_bytes.Goals as goal
 use Rattle.amq_protocol_types.proofs.flags.AMQPFlags.from_bytes.Goals.{else-loop-n-test, then-loop-n-test+then-n-input_len}

@@ -1,5 +1,5 @@
 use Rattle.std.proofs.Common.{◌≡◌, map, take}
-use Rattle.amq_protocol_types.specs.flags.Flags.{flags_of, unpack}
+use Rattle.amq_protocol_types.specs.Flags.{flags_of, unpack}
 use Rattle.amq_protocol_types.proofs.flags.AMQPFlags.from_bytes.Given as goal
 
 -- the flags so far are the first of all

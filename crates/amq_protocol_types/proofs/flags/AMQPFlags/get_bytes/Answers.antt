@@ -1,6 +1,6 @@
 use Rattle.std.proofs.Common.{◌∷◌, [], ◌++◌, ap, sym, ◌∙◌, append_assoc}
 use Rattle.std.specs.Slice.Iter.{chunks_rest}
-use Rattle.amq_protocol_types.specs.flags.Flags.{listed, values_of, pack}
+use Rattle.amq_protocol_types.specs.Flags.{listed, values_of, pack}
 use Rattle.amq_protocol_types.proofs.FlagBits.{flags_chunk}
 use Rattle.amq_protocol_types.proofs.flags.AMQPFlags.get_bytes.Goals as goal
 

@@ -1,6 +1,6 @@
 use Rattle.std.proofs.Common.{◌≡◌, ◌++◌}
 use Rattle.std.specs.Slice.Iter.{chunks_rest, chunks_size}
-use Rattle.amq_protocol_types.specs.flags.Flags.{listed, values_of, pack}
+use Rattle.amq_protocol_types.specs.Flags.{listed, values_of, pack}
 use Rattle.amq_protocol_types.proofs.flags.AMQPFlags.get_bytes.Given as goal
 
 -- the bytes so far, and those of the flags that are left

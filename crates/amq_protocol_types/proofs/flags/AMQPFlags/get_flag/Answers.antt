@@ -1,6 +1,6 @@
 use Rattle.std.proofs.Common.{true, false, sym, ◌∙◌, ap}
 use Rattle.amqp_value_core.specs.Maps.{same_bytes}
-use Rattle.amq_protocol_types.specs.flags.Flags.{listed, flag_named}
+use Rattle.amq_protocol_types.specs.Flags.{listed, flag_named}
 use Rattle.amq_protocol_types.proofs.FlagBits.{named_more}
 use Rattle.amq_protocol_types.proofs.flags.AMQPFlags.get_flag.Goals as goal
 

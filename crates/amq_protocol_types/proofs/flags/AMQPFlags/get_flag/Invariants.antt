@@ -1,5 +1,5 @@
 use Rattle.std.proofs.Common.{◌≡◌, drop}
-use Rattle.amq_protocol_types.specs.flags.Flags.{listed, flag_named}
+use Rattle.amq_protocol_types.specs.Flags.{listed, flag_named}
 use Rattle.amq_protocol_types.proofs.flags.AMQPFlags.get_flag.Given as goal
 
 -- the flags that are left decide

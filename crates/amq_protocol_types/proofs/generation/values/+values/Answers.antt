@@ -2,13 +2,10 @@ use Rattle.std.proofs.Common.{◌++◌, sym, ap, ◌∙◌, arith}
 use Rattle.amqp_value_core.specs.View.{view}
 use Rattle.amqp_value_core.specs.Grammar.{short_field}
 use Rattle.amqp_value_core.specs.Texts.{text, Fits}
-use Rattle.amq_protocol_types.proofs.Taken.{values_next}
-use Rattle.amq_protocol_types.proofs.lemmas.generation.Arrays.{value_refused, array_closed, array_value}
-use Rattle.amq_protocol_types.proofs.lemmas.generation.Tables.{none_put, one_more_put, key_taken_back, entry_refused, table_closed, table_value}
-use Rattle.amq_protocol_types.proofs.lemmas.generation.Texts.{text_of, longer_by_id, body_next, fit_next}
-use Rattle.amq_protocol_types.proofs.lemmas.generation.Steps.{lengths_of, both_put, refused, by_buffer}
-use Rattle.amq_protocol_types.proofs.lemmas.generation.WhatWasRead.{writes_payload_read}
-use Rattle.amq_protocol_types.proofs.lemmas.generation.ReadBack.{array_read_back, table_read_back}
+use Rattle.amq_protocol_types.proofs.Arrays.{values_next, value_refused, array_closed, array_value, text_of, longer_by_id, body_next, fit_next}
+use Rattle.amq_protocol_types.proofs.Tables.{none_put, one_more_put, key_taken_back, entry_refused, table_closed, table_value}
+use Rattle.amq_protocol_types.proofs.Steps.{lengths_of, both_put, refused, by_buffer}
+use Rattle.amq_protocol_types.proofs.ReadBack.{writes_payload_read, array_read_back, table_read_back}
 use Rattle.amqp_value_core.specs.Containers.{array_items, array_view, table_view}
 use Rattle.amq_protocol_types.proofs.generation.values.+values.Goals as goal
 

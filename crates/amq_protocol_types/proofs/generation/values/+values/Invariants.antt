@@ -5,7 +5,7 @@ use Rattle.amqp_value_core.specs.InMemory.{AreValues}
 use Rattle.amq_protocol_types.specs.generation.BufferOutput.{IsConsistentOutput}
 use Rattle.amq_protocol_types.specs.generation.Outputs.{Writes}
 use Rattle.amq_protocol_types.specs.generation.Contexts.{start_of, state_of}
-use Rattle.amq_protocol_types.proofs.lemmas.generation.Tables.{HasPutEntries}
+use Rattle.amq_protocol_types.proofs.Tables.{HasPutEntries}
 use Rattle.amq_protocol_types.proofs.generation.values.+values.Given as goal
 
 abbrev pub invariant-gen_field_array-loop-v : goal.invariant-gen_field_array-loop-v

@@ -1,8 +1,7 @@
 use Rattle.amqp_value_core.specs.View.{view}
 use Rattle.amqp_value_core.proofs.GrammarLaws.{is_shortest, injective}
-use Rattle.amq_protocol_types.proofs.lemmas.generation.ReadBack.{written}
-use Rattle.amq_protocol_types.proofs.lemmas.generation.WhatWasRead.{writes_what_was_read}
-use Rattle.amq_protocol_types.proofs.lemmas.generation.Steps.{lengths_of}
+use Rattle.amq_protocol_types.proofs.ReadBack.{written, writes_what_was_read}
+use Rattle.amq_protocol_types.proofs.Steps.{lengths_of}
 use Rattle.amq_protocol_types.proofs.generation.values.gen_value.Goals as goal
 
 pub returns-clause-fits_input_size : goal.returns-clause-fits_input_size

@@ -1,5 +1,5 @@
 use Rattle.std.proofs.Common.{arith}
-use Rattle.amq_protocol_types.proofs.lemmas.parsing.Refused.{no_type_unknown}
+use Rattle.amq_protocol_types.proofs.Refusals.{no_type_unknown}
 use Rattle.amq_protocol_types.proofs.parsing.header.header_of.Goals as goal
 
 pub returns-in_default-clause-header : goal.returns-in_default-clause-header

@@ -1,5 +1,5 @@
 use Rattle.std.proofs.Common.{arith}
-use Rattle.amq_protocol_types.proofs.lemmas.parsing.Payloads.{WidthReadsBack-8, boolean_found}
+use Rattle.amq_protocol_types.proofs.Payloads.{WidthReadsBack-8, boolean_found}
 use Rattle.amq_protocol_types.proofs.parsing.scalars.parse_boolean.Goals as goal
 
 pub returns : goal.returns

@@ -1,7 +1,7 @@
 use Rattle.std.proofs.Common.{refl, arith}
 use Rattle.std.specs.Int.{w32}
 use Rattle.amqp_value_core.specs.declared.types.amqp_type.AMQPType.TheVariants as amqp
-use Rattle.amq_protocol_types.proofs.lemmas.parsing.Payloads.{WidthReadsBack-32, number_found}
+use Rattle.amq_protocol_types.proofs.Payloads.{WidthReadsBack-32, number_found}
 use Rattle.amq_protocol_types.proofs.parsing.scalars.parse_float.Goals as goal
 
 pub returns : goal.returns

@@ -2,7 +2,7 @@ use Rattle.std.proofs.Common.{refl, arith}
 use Rattle.std.specs.Int.{w64}
 use Rattle.std.proofs.lemmas.Int.{of_z-to_z}
 use Rattle.amqp_value_core.specs.declared.types.amqp_type.AMQPType.TheVariants as amqp
-use Rattle.amq_protocol_types.proofs.lemmas.parsing.Payloads.{WidthReadsBack-64, signed_found}
+use Rattle.amq_protocol_types.proofs.Payloads.{WidthReadsBack-64, signed_found}
 use Rattle.amq_protocol_types.proofs.parsing.scalars.parse_long_long_int.Goals as goal
 
 pub returns : goal.returns

@@ -2,7 +2,7 @@ use Rattle.std.proofs.Common.{refl, arith, rules}
 use Rattle.std.specs.Int.{w8}
 use Rattle.amqp_value_core.specs.declared.types.amqp_type.AMQPType.TheVariants as amqp
 use Rattle.amq_protocol_types.specs.parsing.PayloadResults.{IsNumberRead}
-use Rattle.amq_protocol_types.proofs.lemmas.parsing.Payloads.{WidthReadsBack-8, number_found}
+use Rattle.amq_protocol_types.proofs.Payloads.{WidthReadsBack-8, number_found}
 use Rattle.amq_protocol_types.proofs.parsing.scalars.parse_short_short_uint.Goals as goal
 
 pub returns-clause-payload : goal.returns-clause-payload

@@ -1,4 +1,4 @@
-use Rattle.amq_protocol_types.proofs.lemmas.parsing.Frames.{octets_found}
+use Rattle.amq_protocol_types.proofs.Frames.{octets_found}
 use Rattle.amq_protocol_types.proofs.parsing.strings.parse_byte_array.Goals as goal
 
 pub returns : goal.returns

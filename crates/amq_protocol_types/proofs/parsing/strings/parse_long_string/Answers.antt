@@ -1,4 +1,4 @@
-use Rattle.amq_protocol_types.proofs.lemmas.parsing.Frames.{long_found}
+use Rattle.amq_protocol_types.proofs.Frames.{long_found}
 use Rattle.amq_protocol_types.proofs.parsing.strings.parse_long_string.Goals as goal
 
 pub returns : goal.returns

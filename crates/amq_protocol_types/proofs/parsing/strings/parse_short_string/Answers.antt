@@ -2,8 +2,7 @@ use Rattle.std.proofs.Common.{◌≡◌, length, take, ap, ◌∙◌, subst, rul
 use Rattle.std.proofs.lemmas.List.{length-take-le}
 use Rattle.std.proofs.lemmas.Result.{err_from_is_err_and}
 use Rattle.std.specs.Str.{IsUtf8}
-use Rattle.amq_protocol_types.proofs.lemmas.parsing.Copies.{whole_taken}
-use Rattle.amq_protocol_types.proofs.lemmas.parsing.Frames.{short_found, short_error}
+use Rattle.amq_protocol_types.proofs.Frames.{whole_taken, short_found, short_error}
 use Rattle.amq_protocol_types.proofs.parsing.strings.parse_short_string.Goals as goal
 use Rattle.amq_protocol_types.proofs.parsing.strings.parse_short_string.Goals.{then-chunk-len+in_ok-copy_by_chunks+in_ok-text, else-chunk-len+in_ok-text-2}
 

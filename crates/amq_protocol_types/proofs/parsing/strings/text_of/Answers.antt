@@ -1,5 +1,5 @@
 use Rattle.std.proofs.Common.{arith}
-use Rattle.amq_protocol_types.proofs.lemmas.parsing.Copies.{ascii_is_utf8}
+use Rattle.amq_protocol_types.proofs.Frames.{ascii_is_utf8}
 use Rattle.amq_protocol_types.proofs.parsing.strings.text_of.Goals as goal
 
 pub from_utf8_unchecked-requires : goal.from_utf8_unchecked-requires

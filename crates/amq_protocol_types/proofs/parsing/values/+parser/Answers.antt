@@ -11,16 +11,14 @@ use Rattle.amqp_value_core.specs.Maps.{insert}
 use Rattle.amqp_value_core.specs.View.{view}
 use Rattle.amqp_value_core.specs.Containers.{array_items, array_view, entries, table_view}
 use Rattle.amqp_value_core.specs.Outcomes.{found, RawOutcome}
-use Rattle.amq_protocol_types.specs.parsing.Gathering.{kept}
-use Rattle.amq_protocol_types.proofs.lemmas.parsing.Bodies.{ArrayBodyRead-start, ArrayBodyRead-step, ArrayBodyRead-end, ArrayBodyRead-refused, rest_shorter}
-use Rattle.amq_protocol_types.proofs.lemmas.parsing.TableBodies.{TableBodyRead-start, TableBodyRead-step, TableBodyRead-end, TableBodyRead-bad_key, TableBodyRead-bad_value, key_shorter}
-use Rattle.amq_protocol_types.proofs.lemmas.parsing.Refused.{no_type_refused}
-use Rattle.amq_protocol_types.proofs.lemmas.parsing.Frames.{array_found, array_refused, array_too_deep, table_found, table_refused, table_too_deep}
+use Rattle.amq_protocol_types.specs.parsing.Bodies.{kept}
+use Rattle.amq_protocol_types.proofs.ArrayBodies.{ArrayBodyRead-start, ArrayBodyRead-step, ArrayBodyRead-end, ArrayBodyRead-refused, rest_shorter}
+use Rattle.amq_protocol_types.proofs.TableBodies.{TableBodyRead-start, TableBodyRead-step, TableBodyRead-end, TableBodyRead-bad_key, TableBodyRead-bad_value, key_shorter}
+use Rattle.amq_protocol_types.proofs.Refusals.{no_type_refused}
+use Rattle.amq_protocol_types.proofs.Payloads.{plain_found, plain_arm, unsigned_refuses, unsigned_outcome, void_found, view-Void}
+use Rattle.amq_protocol_types.proofs.Frames.{array_found, array_refused, array_too_deep, table_found, table_refused, table_too_deep}
 use Rattle.amqp_value_core.specs.Nesting.{RawOutcomeWithin}
-use Rattle.amq_protocol_types.proofs.lemmas.parsing.Plain.{plain_found, plain_arm, unsigned_refuses}
-use Rattle.amq_protocol_types.proofs.lemmas.parsing.Payloads.{unsigned_outcome, void_found}
-use Rattle.amq_protocol_types.proofs.lemmas.parsing.Typed.{typed_result}
-use Rattle.amq_protocol_types.proofs.lemmas.parsing.Views.{view-Void}
+use Rattle.amq_protocol_types.proofs.TaggedValues.{typed_result}
 use Rattle.amq_protocol_types.proofs.parsing.values.+parser.Goals as goal
 
 pub parse_array_body-returns-in-Err : goal.parse_array_body-returns-in-Err

@@ -1,9 +1,9 @@
 use Rattle.std.proofs.Common.{length, map, ◌+◌, ◌*◌}
 use Rattle.amqp_value_core.specs.View.{view}
 use Rattle.amqp_value_core.specs.Containers.{array_items}
-use Rattle.amq_protocol_types.specs.parsing.Gathering.{kept}
-use Rattle.amq_protocol_types.proofs.lemmas.parsing.Bodies.{ArrayBodyRead}
-use Rattle.amq_protocol_types.proofs.lemmas.parsing.TableBodies.{TableBodyRead}
+use Rattle.amq_protocol_types.specs.parsing.Bodies.{kept}
+use Rattle.amq_protocol_types.proofs.ArrayBodies.{ArrayBodyRead}
+use Rattle.amq_protocol_types.proofs.TableBodies.{TableBodyRead}
 use Rattle.amq_protocol_types.proofs.parsing.values.+parser.Given as goal
 
 -- a call has a shorter input than its caller, or as long a one and less to do

@@ -1,7 +1,7 @@
 use Rattle.amqp_value_core.specs.declared.types.amqp_type.AMQPType.TheVariants as amqp
 use Rattle.amqp_value_core.specs.Values.{array}
 use Rattle.amqp_value_core.specs.Containers.{array_view}
-use Rattle.amq_protocol_types.proofs.lemmas.parsing.Plain.{raw_unlimited_result}
+use Rattle.amq_protocol_types.proofs.Payloads.{raw_unlimited_result}
 use Rattle.amq_protocol_types.proofs.parsing.values.parse_field_array.Goals as goal
 
 pub returns : goal.returns

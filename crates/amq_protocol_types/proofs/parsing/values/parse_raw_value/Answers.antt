@@ -1,4 +1,4 @@
-use Rattle.amq_protocol_types.proofs.lemmas.parsing.Plain.{raw_value_result}
+use Rattle.amq_protocol_types.proofs.Payloads.{raw_value_result}
 use Rattle.amq_protocol_types.proofs.parsing.values.parse_raw_value.Goals as goal
 
 pub returns-in_default : goal.returns-in_default

@@ -1,7 +1,7 @@
 use Rattle.std.proofs.lemmas.Result.{err_from_is_err_and}
 use Rattle.amqp_value_core.proofs.GrammarLaws.{more_bytes}
-use Rattle.amq_protocol_types.proofs.lemmas.parsing.Appends.{has_one_outcome}
-use Rattle.amq_protocol_types.proofs.lemmas.parsing.Typed.{value_result, no_value, bounded_result}
+use Rattle.amq_protocol_types.proofs.LimitLaws.{has_one_outcome}
+use Rattle.amq_protocol_types.proofs.TaggedValues.{value_result, no_value, bounded_result}
 use Rattle.amq_protocol_types.proofs.parsing.values.parse_value.Goals as goal
 
 pub returns-in_err-i-clause-outcome : goal.returns-in_err-i-clause-outcome

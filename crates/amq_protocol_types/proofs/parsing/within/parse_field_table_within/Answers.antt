@@ -3,9 +3,8 @@ use Rattle.amqp_value_core.specs.declared.types.amqp_type.AMQPType.TheVariants a
 use Rattle.amqp_value_core.specs.Values.{table}
 use Rattle.amqp_value_core.specs.Containers.{table_view}
 use Rattle.amq_protocol_types.specs.parsing.Untagged.{tagged}
-use Rattle.amq_protocol_types.proofs.lemmas.parsing.Again.{read_result}
-use Rattle.amq_protocol_types.proofs.lemmas.parsing.Appends.{laws_within}
-use Rattle.amq_protocol_types.proofs.lemmas.parsing.Untagged.{payload_within, reads_payloads_back}
+use Rattle.amq_protocol_types.proofs.LimitLaws.{read_result, laws_within}
+use Rattle.amq_protocol_types.proofs.UntaggedContainers.{payload_within, reads_payloads_back}
 use Rattle.amq_protocol_types.proofs.parsing.within.parse_field_table_within.Goals as goal
 
 pub returns-clause-payload : goal.returns-clause-payload

@@ -1,6 +1,5 @@
 use Rattle.amqp_value_core.specs.View.{view}
-use Rattle.amq_protocol_types.proofs.lemmas.parsing.Again.{read_result}
-use Rattle.amq_protocol_types.proofs.lemmas.parsing.Appends.{laws_within}
+use Rattle.amq_protocol_types.proofs.LimitLaws.{read_result, laws_within}
 use Rattle.amq_protocol_types.proofs.parsing.within.parse_value_within.Goals as goal
 
 pub returns-clause-laws : goal.returns-clause-laws

@@ -2,7 +2,7 @@ use Rattle.std.proofs.Common.{refl, arith}
 use Rattle.amqp_value_core.specs.declared.types.amqp_type.AMQPType.TheVariants as amqp
 use Rattle.amqp_value_core.specs.Values.{table}
 use Rattle.amqp_value_core.specs.Containers.{table_view}
-use Rattle.amq_protocol_types.proofs.lemmas.parsing.Untagged.{untagged_result}
+use Rattle.amq_protocol_types.proofs.UntaggedContainers.{untagged_result}
 use Rattle.amq_protocol_types.proofs.parsing.within.read_table_within.Goals as goal
 
 pub returns-clause-within : goal.returns-clause-within

@@ -1,4 +1,4 @@
-use Rattle.amq_protocol_types.proofs.lemmas.generation.Slices.{fill_before}
+use Rattle.amq_protocol_types.proofs.Slices.{fill_before}
 use Rattle.amq_protocol_types.proofs.generation.slice.SliceOutputBackToTheBuffer.fill.Goals as goal
 
 pub returns : goal.returns

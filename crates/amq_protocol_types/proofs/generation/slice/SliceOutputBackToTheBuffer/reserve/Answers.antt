@@ -1,6 +1,6 @@
 use Rattle.std.proofs.Common.{rules, arith}
 use Rattle.std.proofs.lemmas.List.{length-replicate}
-use Rattle.amq_protocol_types.proofs.lemmas.generation.Slices.{put_next}
+use Rattle.amq_protocol_types.proofs.Slices.{put_next}
 use Rattle.amq_protocol_types.proofs.generation.slice.SliceOutputBackToTheBuffer.reserve.Goals as goal
 
 pub returns-clause-written : goal.returns-clause-written

@@ -1,5 +1,5 @@
 use Rattle.std.proofs.Common.{refl, arith}
-use Rattle.amq_protocol_types.proofs.lemmas.generation.Slices.{put_next}
+use Rattle.amq_protocol_types.proofs.Slices.{put_next}
 use Rattle.amq_protocol_types.proofs.generation.slice.SliceOutputOutput.put.Goals as goal
 
 pub returns : goal.returns

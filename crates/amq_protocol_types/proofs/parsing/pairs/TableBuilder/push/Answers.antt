@@ -1,5 +1,5 @@
 use Rattle.std.proofs.Common.{arith}
-use Rattle.amq_protocol_types.proofs.lemmas.parsing.Gathered.{one_more}
+use Rattle.amq_protocol_types.proofs.TableBodies.{one_more}
 use Rattle.amq_protocol_types.proofs.parsing.pairs.TableBuilder.push.Goals as goal
 
 pub returns-in_ok-push-in-Many : goal.returns-in_ok-push-in-Many

@@ -1,7 +1,6 @@
 use Rattle.std.proofs.Common.{take, drop, sym, subst, arith, rules}
-use Rattle.amq_protocol_types.proofs.lemmas.stream.Fillings.{length_after, still_kept, read_on}
+use Rattle.amq_protocol_types.proofs.SourceReads.{length_after, still_kept, read_on, kept_by}
 use Rattle.amq_protocol_types.specs.stream.Sources.SourceReaches.{here, there}
-use Rattle.amq_protocol_types.proofs.lemmas.stream.Calls.{kept_by}
 use Rattle.amq_protocol_types.proofs.stream.pending.Pending.fill_from.Goals as goal
 
 pub returns-in-Ok-clause-ok : goal.returns-in-Ok-clause-ok

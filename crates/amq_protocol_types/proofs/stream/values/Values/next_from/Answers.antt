@@ -1,7 +1,7 @@
 use Rattle.std.proofs.Common.{rules}
 use Rattle.amq_protocol_types.proofs.ParsingLaws.{kept_within}
 use Rattle.amq_protocol_types.specs.stream.Sources.SourceReaches.{here}
-use Rattle.amq_protocol_types.proofs.lemmas.stream.AllHeld.{outcome_of_all}
+use Rattle.amq_protocol_types.proofs.ReaderOutcomes.{outcome_of_all}
 use Rattle.amq_protocol_types.proofs.stream.values.Values.next_from.Goals as goal
 
 pub returns : goal.returns

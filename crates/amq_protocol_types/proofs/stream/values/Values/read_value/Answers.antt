@@ -1,8 +1,7 @@
 use Rattle.std.proofs.Common.{rules, ℕ, refl}
 use Rattle.amq_protocol_types.specs.stream.Readers.{kept}
 use Rattle.amq_protocol_types.specs.stream.Sources.SourceReaches.{here}
-use Rattle.amq_protocol_types.proofs.lemmas.stream.Calls.{reaches_on, kept_by, kept_error}
-use Rattle.amq_protocol_types.proofs.lemmas.stream.Comes.{filled_waits, joined, reads_outcome}
+use Rattle.amq_protocol_types.proofs.SourceReads.{reaches_on, kept_by, kept_error, filled_waits, joined, reads_outcome}
 use Rattle.amq_protocol_types.proofs.stream.values.Values.read_value.Goals as goal
 
 pub invariant_of-self-in-Lacks-clause-waiting : goal.invariant_of-self-in-Lacks-clause-waiting

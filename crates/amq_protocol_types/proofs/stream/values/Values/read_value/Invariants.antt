@@ -1,7 +1,7 @@
 use Rattle.std.proofs.Common.{◌≡◌, ◌-◌, false, length}
 use Rattle.amq_protocol_types.specs.stream.Readers.{kept, has_failed}
 use Rattle.amq_protocol_types.specs.stream.Sources.{SourceReaches}
-use Rattle.amq_protocol_types.proofs.lemmas.stream.Comes.{CameSince}
+use Rattle.amq_protocol_types.proofs.SourceReads.{CameSince}
 use Rattle.amq_protocol_types.proofs.stream.values.Values.read_value.Given as goal
 
 -- what came is retained after what was retained, and no call of the reader returned an error

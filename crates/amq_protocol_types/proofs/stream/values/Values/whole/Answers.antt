@@ -5,7 +5,7 @@ use Rattle.amqp_value_core.specs.Outcomes.{found}
 use Rattle.amqp_value_core.specs.Bytes.{slice_bytes}
 use Rattle.amqp_value_core.proofs.GrammarLaws.{prefix_within}
 use Rattle.amq_protocol_types.specs.stream.Readers.{kept}
-use Rattle.amq_protocol_types.proofs.lemmas.parsing.Waits.{nothing_after, kept_within}
+use Rattle.amq_protocol_types.proofs.MissingBytes.{nothing_after, kept_within}
 use Rattle.amq_protocol_types.proofs.stream.values.Values.whole.Goals as goal
 
 pub returns-in-Ok-clause-outcome : goal.returns-in-Ok-clause-outcome

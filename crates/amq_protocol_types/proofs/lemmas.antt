@@ -1,3 +1,0 @@
-pub mod parsing
-pub mod generation
-pub mod stream

@@ -1,9 +1,0 @@
-pub mod Capacities
-pub mod Slices
-pub mod Steps
-pub mod Texts
-pub mod Arrays
-pub mod WhatWasRead
-pub mod ReadBack
-pub mod Tables
-pub mod Puts

@@ -1,4 +1,0 @@
-pub mod Comes
-pub mod AllHeld
-pub mod Calls
-pub mod Fillings
