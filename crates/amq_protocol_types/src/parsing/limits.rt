@@ -1,6 +1,6 @@
 /// The limits on a value's length and nesting.
 ///
-/// For bytes from untrusted peers `Limits { frame: 1_048_576, depth: 64 }` is suitable: RabbitMQ
+/// For bytes from untrusted peers `Limits { frame: 1_048_576, depth: 32 }` is suitable: RabbitMQ
 /// sends frames above its usual `frame_max`, which is 131,072.
 #[derive(Clone, Copy, Debug, PartialEq, Eq)]
 pub struct Limits {
