@@ -1,3 +1,4 @@
+-- Proofs of the goals of `byte_of` that tactics don't close.
 use Rattle.std.proofs.Common.{arith}
 use Rattle.amq_protocol_types.proofs.FlagBits.{next_bit, bit_fits}
 use Rattle.amq_protocol_types.proofs.flags.byte_of.Goals as goal

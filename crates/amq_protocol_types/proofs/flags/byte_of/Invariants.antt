@@ -1,3 +1,4 @@
+-- The invariant of the loop of `byte_of`.
 use Rattle.std.proofs.Common.{◌≡◌, ◌<◌, ◌^◌, take}
 use Rattle.amq_protocol_types.specs.Flags.{listed, values_of, number_of}
 use Rattle.amq_protocol_types.proofs.flags.byte_of.Given as goal

@@ -1,3 +1,4 @@
+-- The invariants of the loops of the functions of the cycle `same`.
 use Rattle.std.proofs.Common.{◌≡◌, ◌+◌, length, drop}
 use Rattle.amqp_value_core.specs.Containers.{trees, entries}
 use Rattle.amqp_value_core.specs.Equality.{same_trees, same_entries}

@@ -1,3 +1,4 @@
+-- Proofs of the goals of `result_within` that tactics don't close.
 use Rattle.std.proofs.Common.{◌≡◌, length, string_bytes, rules}
 use Rattle.std.proofs.lemmas.Result.{IfOk-weaker}
 use Rattle.amqp_value_core.specs.Outcomes.{found}

@@ -1,3 +1,4 @@
+-- Proofs of the goals of `read_again` that tactics don't close.
 use Rattle.std.proofs.Common.{◌≡◌, inl, inr, rules, subst}
 use Rattle.std.proofs.KnownBytes.{Keeps-refl, Keeps-trans}
 use Rattle.std.specs.IoError.{error_kind}

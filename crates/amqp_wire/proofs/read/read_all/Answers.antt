@@ -1,3 +1,4 @@
+-- Proofs of the goals of `read_all` that tactics don't close.
 use Rattle.std.proofs.Common.{rules, subst, sym}
 use Rattle.std.specs.Io.KnownBytes.{Consumes}
 use Rattle.std.proofs.KnownBytes.{Consumes-nil}

@@ -1,3 +1,4 @@
+-- The invariant of the loop of `read_all`.
 use Rattle.std.proofs.Common.{◌-◌, ◌^◌, vec_len}
 use Rattle.std.specs.Io.KnownBytes.{Consumes}
 use Rattle.amq_protocol_types.specs.stream.Sources.{SourceReaches}

@@ -1,3 +1,4 @@
+-- The invariant of the loop of `write_out`.
 use Rattle.std.proofs.Common.{length}
 use Rattle.amq_protocol_types.specs.stream.Sources.{SourceReaches}
 use Rattle.amqp_wire.specs.Faults.{SinkAccepts}

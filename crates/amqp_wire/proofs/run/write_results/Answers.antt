@@ -1,3 +1,4 @@
+-- Proofs of the goals of `write_results` that tactics don't close.
 use Rattle.std.proofs.Common.{◌∙◌, rules}
 use Rattle.amq_protocol_types.specs.stream.Sources.SourceReaches.{here}
 use Rattle.amq_protocol_types.proofs.SourceReads.{reaches_on}

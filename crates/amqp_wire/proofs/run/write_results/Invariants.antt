@@ -1,3 +1,4 @@
+-- The invariant of the loop of `write_results`.
 use Rattle.amqp_wire.specs.Lines.{said_in, lines_by, output_by}
 use Rattle.amq_protocol_types.specs.stream.Sources.{SourceReaches}
 use Rattle.amqp_wire.specs.Faults.{SinkAccepts}

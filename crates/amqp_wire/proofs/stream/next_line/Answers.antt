@@ -1,3 +1,4 @@
+-- Proofs of the goals of `next_line` that tactics don't close.
 use Rattle.std.proofs.Common.{◌≡◌, ◌∷◌, ◌++◌, [], Ok, Err, true, false, codes, subst, rules}
 use Rattle.amqp_value_core.specs.View.{view}
 use Rattle.amq_protocol_types.specs.stream.Readers.{kept, limits_of, IsOutcomeOf, IsOutcomeOfAll}

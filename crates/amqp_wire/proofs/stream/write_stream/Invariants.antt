@@ -1,3 +1,4 @@
+-- The invariant of the loop of `write_stream`.
 use Rattle.std.proofs.Common.{◌≡◌, [], false}
 use Rattle.amq_protocol_types.specs.stream.Readers.{kept, has_failed, limits_of}
 use Rattle.amq_protocol_types.specs.stream.Sources.{SourceReaches}

@@ -1,3 +1,4 @@
+-- The invariant of the loop of `AMQPFlags::clone`.
 use Rattle.std.proofs.Common.{◌≡◌, take}
 use Rattle.amq_protocol_types.specs.Flags.{listed, flags_of}
 use Rattle.amq_protocol_types.proofs.flags.AMQPFlags.clone.Given as goal

@@ -1,3 +1,4 @@
+-- Proofs of the goals of `AMQPFlags::from_bytes` that tactics don't close.
 use Rattle.std.proofs.Common.{string_bytes, arith, rules}
 use Rattle.amq_protocol_types.specs.Flags.{flags_of}
 use Rattle.amq_protocol_types.proofs.FlagBits.{next_flag, all_unpacked, some_flag}

@@ -1,3 +1,4 @@
+-- Proofs of the goals of `AMQPFlags::get_bytes` that tactics don't close.
 use Rattle.std.proofs.Common.{◌∷◌, [], ◌++◌, ap, sym, ◌∙◌, append_assoc}
 use Rattle.std.specs.Slice.Iter.{chunks_rest}
 use Rattle.amq_protocol_types.specs.Flags.{listed, values_of, pack}

@@ -1,3 +1,4 @@
+-- The invariant of the loop of `AMQPFlags::get_bytes`.
 use Rattle.std.proofs.Common.{◌≡◌, ◌++◌}
 use Rattle.std.specs.Slice.Iter.{chunks_rest, chunks_size}
 use Rattle.amq_protocol_types.specs.Flags.{listed, values_of, pack}

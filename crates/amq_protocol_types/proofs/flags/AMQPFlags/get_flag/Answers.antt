@@ -1,3 +1,4 @@
+-- Proofs of the goals of `AMQPFlags::get_flag` that tactics don't close.
 use Rattle.std.proofs.Common.{true, false, sym, ◌∙◌, ap}
 use Rattle.amqp_value_core.specs.Maps.{same_bytes}
 use Rattle.amq_protocol_types.specs.Flags.{listed, flag_named}

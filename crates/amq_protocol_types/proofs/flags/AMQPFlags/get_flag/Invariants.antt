@@ -1,3 +1,4 @@
+-- The invariant of the loop of `AMQPFlags::get_flag`.
 use Rattle.std.proofs.Common.{◌≡◌, drop}
 use Rattle.amq_protocol_types.specs.Flags.{listed, flag_named}
 use Rattle.amq_protocol_types.proofs.flags.AMQPFlags.get_flag.Given as goal

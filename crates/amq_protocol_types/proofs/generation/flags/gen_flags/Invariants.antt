@@ -1,3 +1,4 @@
+-- The invariant of the loop of `gen_flags`.
 use Rattle.std.proofs.Common.{◌≡◌, ◌++◌, List, ℕ, length}
 use Rattle.std.specs.Slice.Iter.{chunks_rest, chunks_size}
 use Rattle.amq_protocol_types.specs.generation.Contexts.{start_of, state_of}

@@ -1,3 +1,4 @@
+-- Proofs of the goals of the functions of the cycle `values` that tactics don't close.
 use Rattle.std.proofs.Common.{◌++◌, sym, ap, ◌∙◌, arith}
 use Rattle.amqp_value_core.specs.View.{view}
 use Rattle.amqp_value_core.specs.Grammar.{short_field}

@@ -1,3 +1,4 @@
+-- The invariants of the loops of the functions of the cycle `values`.
 use Rattle.std.proofs.Common.{◌≡◌, true, Ok, take, replicate, ◌++◌}
 use Rattle.amqp_value_core.specs.Containers.{array_items, trees, table_entries}
 use Rattle.amqp_value_core.specs.Texts.{body, AllFit}

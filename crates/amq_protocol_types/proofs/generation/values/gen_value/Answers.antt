@@ -1,3 +1,4 @@
+-- Proofs of the goals of `gen_value` that tactics don't close.
 use Rattle.amqp_value_core.specs.View.{view}
 use Rattle.amqp_value_core.proofs.GrammarLaws.{is_shortest, injective}
 use Rattle.amq_protocol_types.proofs.ReadBack.{written, writes_what_was_read}

@@ -1,3 +1,4 @@
+-- The invariant of the loop of `copy_by_chunks`.
 use Rattle.std.proofs.Common.{◌≡◌, ◌++◌, length}
 use Rattle.amq_protocol_types.proofs.parsing.bytes.copy_by_chunks.Given as goal
 

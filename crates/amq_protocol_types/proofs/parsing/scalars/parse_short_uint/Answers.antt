@@ -1,3 +1,4 @@
+-- Proofs of the goals of `parse_short_uint` that tactics don't close.
 use Rattle.std.proofs.Common.{refl, arith, rules}
 use Rattle.std.specs.Int.{w16}
 use Rattle.amqp_value_core.specs.declared.types.amqp_type.AMQPType.TheVariants as amqp

@@ -1,3 +1,4 @@
+-- Proofs of the goals of `parse_short_string` that tactics don't close.
 use Rattle.std.proofs.Common.{◌≡◌, length, take, ap, ◌∙◌, subst, rules, arith}
 use Rattle.std.proofs.lemmas.List.{length-take-le}
 use Rattle.std.proofs.lemmas.Result.{err_from_is_err_and}

@@ -1,3 +1,4 @@
+-- Proofs of the goals of the functions of the cycle `parser` that tactics don't close.
 use Rattle.std.proofs.Common.{◌≡◌, [], ◌∷◌, ◌++◌, sym, ap, subst, rules, arith, map}
 use Rattle.std.specs.Int.{w8, w16, w32, w64, cast_signed, cast_unsigned}
 use Rattle.std.proofs.lemmas.List.{map_push}

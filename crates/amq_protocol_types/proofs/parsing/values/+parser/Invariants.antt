@@ -1,3 +1,4 @@
+-- The invariants of the loops of the functions of the cycle `parser`.
 use Rattle.std.proofs.Common.{length, map, ◌+◌, ◌*◌}
 use Rattle.amqp_value_core.specs.View.{view}
 use Rattle.amqp_value_core.specs.Containers.{array_items}

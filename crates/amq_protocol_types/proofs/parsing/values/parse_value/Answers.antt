@@ -1,3 +1,4 @@
+-- Proofs of the goals of `parse_value` that tactics don't close.
 use Rattle.std.proofs.lemmas.Result.{err_from_is_err_and}
 use Rattle.amqp_value_core.proofs.GrammarLaws.{more_bytes}
 use Rattle.amq_protocol_types.proofs.LimitLaws.{has_one_outcome}

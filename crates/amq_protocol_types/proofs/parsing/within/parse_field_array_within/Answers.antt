@@ -1,3 +1,4 @@
+-- Proofs of the goals of `parse_field_array_within` that tactics don't close.
 use Rattle.std.proofs.Common.{refl, arith}
 use Rattle.amqp_value_core.specs.declared.types.amqp_type.AMQPType.TheVariants as amqp
 use Rattle.amqp_value_core.specs.Values.{array}

@@ -1,3 +1,4 @@
+-- The invariants of the loops of the functions of the cycle `copies`.
 use Rattle.std.proofs.Common.{◌≡◌, List, ◌++◌, take, map}
 use Rattle.amqp_value_core.specs.View.{view}
 use Rattle.amqp_value_core.specs.Containers.{array_items, entries, table_view}

@@ -1,3 +1,4 @@
+-- Proofs of the goals of `AMQPValue::eq` that tactics don't close.
 use Rattle.std.proofs.Common.{sym, ◌∙◌}
 use Rattle.amqp_value_core.specs.View.{view}
 use Rattle.amqp_value_core.specs.Decided.{tree_decides}

@@ -1,3 +1,4 @@
+-- Proofs of the goals of `FieldTable::eq` that tactics don't close.
 use Rattle.std.proofs.Common.{◌≡◌, sym, ◌∙◌, rules}
 use Rattle.amqp_value_core.specs.Containers.{table_view}
 use Rattle.amqp_value_core.specs.Equality.{same_entries}

@@ -1,3 +1,4 @@
+-- Proofs of the goals of `SliceOutput::reserve` that tactics don't close.
 use Rattle.std.proofs.Common.{rules, arith}
 use Rattle.std.proofs.lemmas.List.{length-replicate}
 use Rattle.amq_protocol_types.proofs.Slices.{put_next}

@@ -1,3 +1,4 @@
+-- Proofs of the goals of `Pending::fill_from` that tactics don't close.
 use Rattle.std.proofs.Common.{take, drop, sym, subst, arith, rules}
 use Rattle.amq_protocol_types.proofs.SourceReads.{length_after, still_kept, read_on, kept_by}
 use Rattle.amq_protocol_types.specs.stream.Sources.SourceReaches.{here, there}

@@ -1,3 +1,4 @@
+-- Proofs of the goals of `Values::next_from` that tactics don't close.
 use Rattle.std.proofs.Common.{rules}
 use Rattle.amq_protocol_types.proofs.ParsingLaws.{kept_within}
 use Rattle.amq_protocol_types.specs.stream.Sources.SourceReaches.{here}

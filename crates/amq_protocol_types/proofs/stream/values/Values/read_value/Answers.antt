@@ -1,3 +1,4 @@
+-- Proofs of the goals of `Values::read_value` that tactics don't close.
 use Rattle.std.proofs.Common.{rules, ℕ, refl}
 use Rattle.amq_protocol_types.specs.stream.Readers.{kept}
 use Rattle.amq_protocol_types.specs.stream.Sources.SourceReaches.{here}

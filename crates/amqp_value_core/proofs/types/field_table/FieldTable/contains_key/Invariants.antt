@@ -1,3 +1,4 @@
+-- The invariant of the loop of `FieldTable::contains_key`.
 use Rattle.std.proofs.Common.{◌≡◌}
 use Rattle.amqp_value_core.specs.Maps.{has_key}
 use Rattle.amqp_value_core.specs.Containers.{entries}

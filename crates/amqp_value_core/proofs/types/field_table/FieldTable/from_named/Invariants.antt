@@ -1,3 +1,4 @@
+-- The invariant of the loop of `FieldTable::from_named`.
 use Rattle.std.proofs.Common.{◌≡◌, ◌≤◌, length}
 use Rattle.amqp_value_core.specs.Values.{no_entries}
 use Rattle.amqp_value_core.specs.Maps.{insert_all}

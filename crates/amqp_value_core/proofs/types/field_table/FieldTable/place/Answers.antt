@@ -1,3 +1,4 @@
+-- Proofs of the goals of `FieldTable::place` that tactics don't close.
 use Rattle.std.proofs.Common.{◌≡◌, ◌∷◌, [], List, ℕ, Ordering, Less, Equal, Greater, refl, ap, ◌∙◌}
 use Rattle.std.specs.BTreeMap.{insert_entry}
 use Rattle.std.specs.Cmp.Lexicographic.{slice_cmp}

@@ -1,3 +1,4 @@
+-- Proofs of the goals of `ShortStringError::fmt` that tactics don't close.
 use Rattle.std.proofs.Common.{◌≡◌, [], ◌∷◌, refl, ap, ◌++◌, List, ℕ}
 use Rattle.std.specs.Fmt.{decimal, digits}
 use Rattle.std.specs.Prelude.{codes}
