@@ -1,6 +1,6 @@
 -- Lists of bytes: their parts, the numbers that they encode, prefixes, and two lists as one.
 use Rattle.std.proofs.Common.{ℕ, suc, zero, ◌<◌, ◌^◌, sym, subst, List, [], ◌∷◌, ◌++◌, get_or, take, drop, arith, ◌≡◌, ◌≤◌, length, refl, ap, ◌∙◌, take-append-drop, Option, Some, ◌-◌, min, rules, length-append}
-use Rattle.std.proofs.lemmas.List.{take-append-drop, take_at, take-append-le, same_lists, places}
+use Rattle.std.proofs.lemmas.List.{take_at, take-append-le, same_lists, places}
 use Rattle.std.specs.Int.{w8, w16, w32, w64, from_be_bytes}
 use Rattle.std.proofs.lemmas.Option.{same_Some}
 use Rattle.amqp_value_core.specs.Bytes.{IsBytes}

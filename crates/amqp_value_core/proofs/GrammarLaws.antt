@@ -12,8 +12,7 @@ pub use Rattle.amqp_value_core.proofs.Outcomes.{NeedsMoreOr, PrefixBy, RawPrefix
 -- the outcome as a function: its cases by what is first
 pub use Rattle.amqp_value_core.proofs.Found.{and_others, and_pairs}
 -- and that no payload but a short string, an array or a table is malformed
-pub use Rattle.amqp_value_core.proofs.Whole.{never_malformed}
-pub use Rattle.amqp_value_core.proofs.Agreement.{outcome_holds, outcome_is, raw_outcome_holds, raw_outcome_is}
+pub use Rattle.amqp_value_core.proofs.Agreement.{never_malformed, outcome_holds, outcome_is, raw_outcome_holds, raw_outcome_is}
 -- tables as finite maps, and what pairs mean
 pub use Rattle.amqp_value_core.proofs.Tables.{put_found, put_other, key_has_value, last_stays, option_or-assoc, option_or-none, pairs_rise, rising_pairs, same_tables, entries_rise, put_mean, mean_put, rising_mean, of_mean, one_mean}
 -- what an encoding bounds, what is read from it, and that the canonical one is a shortest

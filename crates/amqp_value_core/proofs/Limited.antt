@@ -6,7 +6,7 @@ use Rattle.amqp_value_core.specs.Ids.{kind}
 use Rattle.amqp_value_core.specs.Grammar.{Wire, Raw}
 use Rattle.amqp_value_core.specs.Outcomes.{Reading, found, more, unknown, malformed, lack, RawOutcomeBy, OutcomeBy, no_byte, no_tag, needs_more, at_start, not_at_start, Outcome, RawOutcome, StillWaits, with_more}
 use Rattle.amqp_value_core.specs.Nesting.{WireWithin, within_wire, RawWithin, OutcomeWithin, RawOutcomeWithin}
-use Rattle.amqp_value_core.proofs.Prefixes.{one_held}
+use Rattle.amqp_value_core.proofs.Bytes.{one_held}
 use Rattle.amqp_value_core.proofs.Headers.{lack-raw}
 use Rattle.amqp_value_core.proofs.MoreBytes.{more_raw_bytes_by, more_bytes_by}
 use Rattle.amqp_value_core.proofs.Outcomes.{PrefixBy, HasOnePrefix, raw_whole_by, prefix_found, raw_to_value_by, value_to_raw_by, one_outcome_by}

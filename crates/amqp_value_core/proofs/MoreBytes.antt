@@ -6,7 +6,7 @@ use Rattle.amqp_value_core.specs.Values.{Tree}
 use Rattle.amqp_value_core.specs.Ids.{kind}
 use Rattle.amqp_value_core.specs.Grammar.{Wire, Raw}
 use Rattle.amqp_value_core.specs.Outcomes.{Reading, found, more, unknown, malformed, lack, RawOutcomeBy, OutcomeBy, no_byte, no_tag, needs_more, at_start, not_at_start, Outcome, RawOutcome, with_more, StillWaits}
-use Rattle.amqp_value_core.proofs.Prefixes.{prefix_inside}
+use Rattle.amqp_value_core.proofs.Bytes.{prefix_inside}
 use Rattle.amqp_value_core.proofs.Headers.{extent, extent-whole, extent-append, extent-raw, lack-whole, lack-append}
 use Rattle.amqp_value_core.proofs.Outcomes.{NeedsMoreOr, PrefixBy, raw_from_cases, raw_to_cases, raw_whole_by, value_to_raw, raw_to_value}
 

@@ -5,7 +5,7 @@ use Rattle.amqp_value_core.specs.Values.{Tree}
 use Rattle.amqp_value_core.specs.Ids.{kind}
 use Rattle.amqp_value_core.specs.Grammar.{Wire, wire, Raw}
 use Rattle.amqp_value_core.specs.Outcomes.{Reading, found, more, unknown, malformed, lack, RawOutcomeBy, OutcomeBy, no_byte, no_tag, needs_more, at_start, not_at_start, Outcome, RawHeavy, Heavy, RawOutcome}
-use Rattle.amqp_value_core.proofs.Prefixes.{one_held}
+use Rattle.amqp_value_core.proofs.Bytes.{one_held}
 use Rattle.amqp_value_core.proofs.Headers.{lack-raw}
 use Rattle.amqp_value_core.proofs.Unique.{one_reading, one_raw_reading}
 

@@ -12,7 +12,7 @@ use Rattle.amqp_value_core.specs.Nesting.{RawWithin, within_plain, within_array,
 use Rattle.amqp_value_core.specs.Texts.{text, body, pairs, Fits, AllFit, EntriesFit}
 use Rattle.amqp_value_core.specs.InMemory.{IsValue, AreValues, AreEntries}
 use Rattle.amqp_value_core.specs.Outcomes.{unread, read_back, counted, found, malformed, lack, no_tag, Outcome}
-use Rattle.amqp_value_core.proofs.Prefixes.{same_prefixes}
+use Rattle.amqp_value_core.proofs.Bytes.{same_prefixes}
 use Rattle.amqp_value_core.proofs.Headers.{counted-long_field, lack_of-long_field}
 use Rattle.amqp_value_core.proofs.Unique.{one_prefix, one_key}
 use Rattle.amqp_value_core.proofs.Outcomes.{RawPrefix, raw_of_wire, raw_whole, raw_to_value, wire_found}

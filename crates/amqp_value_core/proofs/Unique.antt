@@ -5,7 +5,7 @@ use Rattle.amqp_value_core.specs.Values.{Tree, scalar, short, long, octets, arra
 use Rattle.amqp_value_core.specs.Ids.{kind}
 use Rattle.amqp_value_core.specs.Layouts.{Layout, fixed}
 use Rattle.amqp_value_core.specs.Grammar.{short_field, long_field, Wire, wire, Raw, raw_fixed, raw_short, raw_long, raw_octets, raw_array, raw_table, ArrayBody, no_values, value, TableBody, no_pairs, pair}
-use Rattle.amqp_value_core.proofs.Prefixes.{same_prefixes, one_held}
+use Rattle.amqp_value_core.proofs.Bytes.{same_prefixes, one_held}
 use Rattle.amqp_value_core.proofs.Headers.{extent, extent-raw}
 use Rattle.amqp_value_core.proofs.Tables.{one_mean}
 

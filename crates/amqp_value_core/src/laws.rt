@@ -236,7 +236,7 @@ pub fn limits_on_depth()
 
 /// A payload of fixed width, a long string and a byte array are never malformed: once all of the
 /// bytes are there, they have a value.
-#[tactic(auto, using(crate::proofs::Whole::never_malformed))]
+#[tactic(auto, using(crate::proofs::Agreement::never_malformed))]
 pub fn never_malformed()
     ensures { (type : AMQPType) (s : List ℕ) → IsBytes s
         → type ≢ amqp.ShortString → type ≢ amqp.FieldArray → type ≢ amqp.FieldTable

@@ -1,4 +1,5 @@
-use Rattle.amqp_value_core.proofs.Splits.{both_left}
+-- Proofs of the goals of `SplitInput::take_from` that tactics don't close.
+use Rattle.amqp_value_core.proofs.Bytes.{both_left}
 use Rattle.amqp_value_core.proofs.input.split.SplitInputParsableInput.take_from.Goals as goal
 
 pub returns-clause-bytes : goal.returns-clause-bytes
