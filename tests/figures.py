@@ -26,7 +26,7 @@ DEFAULTS = {
         r"`--max-bytes`; (?P<bytes>\d+) \| `--depth`; (?P<depth>\d+), at most 1000 ",
         r"`AMQPV_MAX_BYTES`; (?P<bytes>\d+) \| `AMQPV_MAX_DEPTH`; (?P<depth>\d+) ",
     ],
-    "crates/amq_protocol_types/src/parsing/limits.rt": [r"frame: (?P<bytes>[\d_]+), depth: (?P<depth>\d+)"],
+    "crates/amq_protocol_types/src/parsing/within.rt": [r"frame: (?P<bytes>[\d_]+), depth: (?P<depth>\d+)"],
     "crates/amqp_show/src/arguments.rt": [
         r"const MAX_BYTES: u32 = (?P<bytes>[\d_]+);",
         r"const DEPTH: u32 = (?P<depth>\d+);",

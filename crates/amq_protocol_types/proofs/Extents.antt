@@ -14,7 +14,7 @@ use Rattle.amqp_value_core.specs.Nesting.{OutcomeWithin}
 use Rattle.amqp_value_core.specs.Grammar.{Wire, wire}
 use Rattle.amq_protocol_types.specs.declared.parsing.errors.Err.TheVariants.{Failure}
 use Rattle.amq_protocol_types.specs.declared.parsing.errors.ErrorKind.{ErrorKind}
-use Rattle.amq_protocol_types.specs.declared.parsing.limits.Limits.{Limits}
+use Rattle.amq_protocol_types.specs.declared.parsing.within.Limits.{Limits}
 use Rattle.amq_protocol_types.specs.parsing.Limits.{Within, RefusesWithin}
 
 pub extent_cut : (w : Width) (b : List ℕ) → length b < byte_len w → extent_of None w b ≡ byte_len w

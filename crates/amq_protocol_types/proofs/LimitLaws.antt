@@ -9,7 +9,7 @@ use Rattle.amqp_value_core.specs.Bytes.{IsBytes}
 use Rattle.amqp_value_core.specs.Outcomes.{found, length_field, Reading, more, unknown, malformed, StillWaits, with_more}
 use Rattle.amqp_value_core.proofs.Bytes.{bytes_before}
 use Rattle.amqp_value_core.proofs.GrammarLaws.{wire_of, prefix_within, bounded_wire, wire_found_within, text_within, text_again, depth_within, bounds, injective, extent-raw, outcome_holds, outcome_is, within_holds, one_outcome_within, more_bytes_within, deep_enough}
-use Rattle.amq_protocol_types.specs.declared.parsing.limits.Limits.{Limits}
+use Rattle.amq_protocol_types.specs.declared.parsing.within.Limits.{Limits}
 use Rattle.amq_protocol_types.specs.parsing.Refusals.{Refusal}
 use Rattle.amq_protocol_types.specs.parsing.Headers.{raw_extent, extent_at, extent, wanted_at, wanted}
 use Rattle.amq_protocol_types.specs.parsing.Limits.{Within, RefusesWithin, IsReadAgain, ReadsBack, IsShortestWithin, TellsApartWithin, IsReadWithin, HasOneOutcomeWithin, KeepsOutcomeWithin, LawsWithin}

@@ -10,7 +10,7 @@ use Rattle.amqp_value_core.specs.Ids.{kind}
 use Rattle.amqp_value_core.specs.Layouts.{Layout, fixed}
 use Rattle.amqp_value_core.specs.Grammar.{Wire}
 use Rattle.amqp_value_core.specs.Nesting.{WireWithin, OutcomeWithin}
-use Rattle.amq_protocol_types.specs.declared.parsing.limits.Limits.{Limits}
+use Rattle.amq_protocol_types.specs.declared.parsing.within.Limits.{Limits}
 use Rattle.amq_protocol_types.specs.parsing.Refusals.{lacks}
 use Rattle.amq_protocol_types.specs.parsing.Limits.{RefusesWithin}
 use Rattle.amqp_value_core.specs.Outcomes.{found, more, length_field, lack_of, lack, OutcomeBy, no_byte, needs_more}

@@ -10,7 +10,7 @@ use Rattle.amqp_value_core.proofs.GrammarLaws.{wire_of, wire_found_within}
 use Rattle.amq_protocol_types.specs.declared.stream.error.StreamError.TheVariants as stream
 use Rattle.amq_protocol_types.specs.declared.stream.source.Source.{Ghosts}
 use Rattle.amq_protocol_types.specs.declared.stream.values.Values.{Values}
-use Rattle.amq_protocol_types.specs.declared.parsing.limits.Limits.{Limits}
+use Rattle.amq_protocol_types.specs.declared.parsing.within.Limits.{Limits}
 use Rattle.amq_protocol_types.specs.parsing.Limits.{Within}
 use Rattle.amq_protocol_types.specs.stream.Readers.{NextResult, IsOutcomeOf, IsOutcomeOfAll, ReadsOutcome, kept, limits_of}
 use Rattle.amq_protocol_types.proofs.LimitLaws.{wire_extent, refused_append}

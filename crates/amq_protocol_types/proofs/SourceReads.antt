@@ -12,7 +12,7 @@ use Rattle.amq_protocol_types.specs.stream.Sources.{SourceReaches, KeepsKind, Is
 use Rattle.amq_protocol_types.specs.stream.Sources.SourceReaches.{here, there}
 use Rattle.amq_protocol_types.specs.declared.stream.source.Source.{Ghosts}
 use Rattle.amq_protocol_types.specs.declared.stream.values.Values.{Values}
-use Rattle.amq_protocol_types.specs.declared.parsing.limits.Limits.{Limits}
+use Rattle.amq_protocol_types.specs.declared.parsing.within.Limits.{Limits}
 use Rattle.amq_protocol_types.specs.stream.Readers.{NextResult, IsOutcomeOf, ReadsOutcome, kept, limits_of}
 use Rattle.amq_protocol_types.specs.parsing.Headers.{extent, wanted, IsWaiting}
 use Rattle.amq_protocol_types.proofs.MissingBytes.{waits_more}

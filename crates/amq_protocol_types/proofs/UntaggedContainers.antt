@@ -10,7 +10,7 @@ use Rattle.amqp_value_core.proofs.GrammarLaws.{raw_to_value_within, value_to_raw
 use Rattle.amq_protocol_types.specs.declared.parsing.errors.Err.TheVariants.{Incomplete, Error, Failure}
 use Rattle.amq_protocol_types.specs.declared.parsing.errors.Needed.TheVariants.{Unknown, Size}
 use Rattle.amq_protocol_types.specs.declared.parsing.errors.ErrorKind.TheVariants.{MapOpt, MapRes, Eof, OutOfMemory, TooLarge}
-use Rattle.amq_protocol_types.specs.declared.parsing.limits.Limits.{Limits}
+use Rattle.amq_protocol_types.specs.declared.parsing.within.Limits.{Limits}
 use Rattle.amq_protocol_types.specs.parsing.Refusals.{Refusal}
 use Rattle.amq_protocol_types.specs.parsing.ParseResults.{IsRefusal}
 use Rattle.amq_protocol_types.specs.parsing.Headers.{raw_extent, extent_at, extent}

@@ -9,11 +9,9 @@ mod bytes;
 pub(crate) mod errors;
 mod flags;
 pub mod header;
-mod limits;
 mod pairs;
 mod scalars;
 mod strings;
-pub mod traits;
 pub(crate) mod values;
 mod within;
 
@@ -23,7 +21,6 @@ pub use errors::{
     Err, ErrorKind, Needed, ParserError, ParserErrors, ParserResult, error_of_kind, lacks,
 };
 pub use flags::parse_flags;
-pub use limits::Limits;
 pub use scalars::{
     parse_boolean, parse_decimal_value, parse_double, parse_float, parse_id, parse_long_int,
     parse_long_long_int, parse_long_long_uint, parse_long_uint, parse_short_int,
@@ -34,4 +31,10 @@ pub use values::{
     parse_array_body, parse_field_array, parse_field_table, parse_raw_value, parse_table_body,
     parse_value,
 };
-pub use within::{parse_field_array_within, parse_field_table_within, parse_value_within};
+pub use within::{Limits, parse_field_array_within, parse_field_table_within, parse_value_within};
+
+/// The traits and inputs that the parsers are generic over.
+pub mod traits {
+    pub use crate::parsing::errors::Needed;
+    pub use amqp_value_core::input::{ParsableInput, SliceInput, SplitInput};
+}

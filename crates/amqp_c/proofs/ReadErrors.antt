@@ -9,7 +9,7 @@ use Rattle.amqp_value_core.specs.Bytes.{IsBytes}
 use Rattle.amqp_value_core.specs.Outcomes.{unknown, no_tag, Outcome}
 use Rattle.amq_protocol_types.specs.declared.parsing.header.Header.{Header}
 use Rattle.amq_protocol_types.specs.declared.parsing.header.Header.TheVariants as header
-use Rattle.amq_protocol_types.specs.declared.parsing.limits.Limits.{Limits}
+use Rattle.amq_protocol_types.specs.declared.parsing.within.Limits.{Limits}
 use Rattle.amq_protocol_types.specs.parsing.Headers.{extent, wanted, wanted_at}
 use Rattle.amq_protocol_types.specs.parsing.Limits.{IsHeader}
 use Rattle.amq_protocol_types.specs.parsing.Untagged.{tagged}

@@ -7,7 +7,7 @@ use Rattle.amqp_value_core.specs.Grammar.{ArrayBody}
 use Rattle.amqp_value_core.specs.InMemory.{IsScalar}
 use Rattle.amqp_value_core.specs.Outcomes.{found}
 use Rattle.amqp_value_core.specs.Texts.{text}
-use Rattle.amq_protocol_types.specs.declared.parsing.limits.Limits.{Limits}
+use Rattle.amq_protocol_types.specs.declared.parsing.within.Limits.{Limits}
 use Rattle.amq_protocol_types.specs.parsing.Limits.{Within}
 use Rattle.amqp_in_place.specs.Bodies.{HasEntries}
 use Rattle.amqp_c.specs.Scalars.{scalar_bits, scalar_scale}

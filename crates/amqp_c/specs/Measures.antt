@@ -2,7 +2,7 @@
 use Rattle.std.specs.Prelude.{ℕ, ◌≡◌, ◌≤◌, List, length, drop}
 use Rattle.amqp_value_core.specs.Values.{Tree, count, depth}
 use Rattle.amqp_value_core.specs.Outcomes.{found}
-use Rattle.amq_protocol_types.specs.declared.parsing.limits.Limits.{Limits}
+use Rattle.amq_protocol_types.specs.declared.parsing.within.Limits.{Limits}
 use Rattle.amq_protocol_types.specs.parsing.Limits.{Within}
 use Rattle.amqp_in_place.specs.Written.{written}
 use Rattle.amqp_in_place.specs.Measures.{OfEncoding}

@@ -12,7 +12,7 @@ use Rattle.amqp_value_core.specs.Texts.{text, size, payload, Fits}
 use Rattle.amqp_value_core.specs.Values.{Tree, type_of}
 use Rattle.amqp_value_core.proofs.Bytes.{bytes_before}
 use Rattle.amqp_value_core.proofs.GrammarLaws.{canon_is_text, prefix_within, bounded_wire, wire_of}
-use Rattle.amq_protocol_types.specs.declared.parsing.limits.Limits.{Limits}
+use Rattle.amq_protocol_types.specs.declared.parsing.within.Limits.{Limits}
 use Rattle.amq_protocol_types.specs.parsing.Limits.{Within}
 use Rattle.amqp_in_place.specs.declared.refs.ValueRef.{ValueRef}
 use Rattle.amqp_in_place.specs.Canonicals.{IsCanonicalLen}

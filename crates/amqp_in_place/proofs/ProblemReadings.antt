@@ -17,7 +17,7 @@ use Rattle.amqp_value_core.specs.Layouts.{Layout, fixed}
 use Rattle.amqp_value_core.specs.Outcomes.{Reading, found, more, unknown, malformed, length_field, counted, lack, lack_of}
 use Rattle.amqp_value_core.specs.Decode.{framed, raw_outcome_by, outcome_by, values_by, is_key, pairs_onto, meaning}
 use Rattle.amqp_value_core.proofs.GrammarLaws.{and_others, and_pairs, within_holds, within_is}
-use Rattle.amq_protocol_types.specs.declared.parsing.limits.Limits.{Limits}
+use Rattle.amq_protocol_types.specs.declared.parsing.within.Limits.{Limits}
 use Rattle.amq_protocol_types.specs.parsing.Headers.{extent, extent_of, extent_at, raw_extent, first_of}
 use Rattle.amq_protocol_types.specs.parsing.Limits.{Within}
 use Rattle.amq_protocol_types.specs.parsing.Untagged.{tagged}

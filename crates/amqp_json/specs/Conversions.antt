@@ -1,7 +1,7 @@
 -- From JSON texts to values and encodings, and back: what the calls' clauses say.
 use Rattle.std.specs.Prelude.{ℕ, ◌≡◌, ◌<◌, ◌≤◌, List, ◌++◌, length, drop, Option, Some, None, option_and_then, false}
 use Rattle.json.specs.Json.{Json}
-use Rattle.amq_protocol_types.specs.declared.parsing.limits.Limits.{Limits}
+use Rattle.amq_protocol_types.specs.declared.parsing.within.Limits.{Limits}
 use Rattle.amq_protocol_types.specs.parsing.Headers.{extent, IsWholeValue}
 use Rattle.amq_protocol_types.specs.parsing.Limits.{Within, RefusesWithin}
 use Rattle.amqp_in_place.specs.InPlaceResults.{NeedsNoMemory}

@@ -3,7 +3,7 @@
 // The tactics at the functions name the lemmas that clauses are proved by.
 
 ghost use Rattle.std.specs.Prelude.{◌≡◌, ◌≤◌, List, ℕ, length, IfOk, IfErr, IfSome, MatchOption, MatchResult, string_bytes};
-ghost use Rattle.amq_protocol_types.specs.declared.parsing.limits.Limits.{Limits};
+ghost use Rattle.amq_protocol_types.specs.declared.parsing.within.Limits.{Limits};
 ghost use Rattle.amqp_in_place.specs.Places.{IsViewIn};
 ghost use Rattle.amqp_in_place.specs.Refs.{Denotes};
 ghost use Rattle.amqp_value_core.specs.Values.{Tree};

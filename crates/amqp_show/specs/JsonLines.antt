@@ -1,6 +1,6 @@
 -- What is added with `--json`.
 use Rattle.std.specs.Prelude.{ℕ, List, [], ◌∷◌, ◌++◌}
-use Rattle.amq_protocol_types.specs.declared.parsing.limits.Limits.{Limits}
+use Rattle.amq_protocol_types.specs.declared.parsing.within.Limits.{Limits}
 use Rattle.amqp_json.specs.Conversions.{IsJsonOf}
 use Rattle.amqp_show.specs.Screens.{in_line}
 use Rattle.amqp_show.specs.Pushes.{AddsText}

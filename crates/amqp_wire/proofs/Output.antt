@@ -7,7 +7,7 @@ use Rattle.amqp_value_core.specs.Values.{Tree}
 use Rattle.amqp_value_core.specs.Texts.{text, size, Fits}
 use Rattle.amqp_value_core.specs.Nesting.{WireWithin}
 use Rattle.amqp_value_core.proofs.GrammarLaws.{wire_of, bounded_wire}
-use Rattle.amq_protocol_types.specs.declared.parsing.limits.Limits.{Limits}
+use Rattle.amq_protocol_types.specs.declared.parsing.within.Limits.{Limits}
 use Rattle.amq_protocol_types.specs.declared.generation.error.GenError.{GenError}
 use Rattle.amq_protocol_types.specs.generation.Outputs.{OutputState, Writes}
 use Rattle.amqp_wire.specs.Lines.{line_by, lines_by, AppendsTextPrefix}

@@ -10,7 +10,7 @@ use Rattle.amqp_value_core.specs.Decode.{compute_outcome, outcome_by, meaning}
 use Rattle.amqp_value_core.specs.Values.{Tree}
 use Rattle.amqp_value_core.specs.Texts.{text}
 use Rattle.amq_protocol_types.specs.parsing.Headers.{extent}
-use Rattle.amq_protocol_types.specs.declared.parsing.limits.Limits.{Limits}
+use Rattle.amq_protocol_types.specs.declared.parsing.within.Limits.{Limits}
 use Rattle.amqp_wire.specs.declared.line.Form.{Form}
 use Rattle.amqp_wire.specs.declared.line.Form.TheVariants as form
 use Rattle.amq_protocol_types.specs.parsing.Refusals.{Refusal}

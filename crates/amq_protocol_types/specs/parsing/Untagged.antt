@@ -7,7 +7,7 @@ use Rattle.amqp_value_core.specs.Nesting.{RawOutcomeWithin}
 use Rattle.amqp_value_core.specs.Outcomes.{Reading, found}
 use Rattle.amqp_value_core.specs.Texts.{payload, size, Fits}
 use Rattle.amqp_value_core.specs.InMemory.{IsValue}
-use Rattle.amq_protocol_types.specs.declared.parsing.limits.Limits.{Limits}
+use Rattle.amq_protocol_types.specs.declared.parsing.within.Limits.{Limits}
 use Rattle.amq_protocol_types.specs.parsing.Refusals.{Refusal}
 use Rattle.amq_protocol_types.specs.parsing.Headers.{raw_extent}
 use Rattle.amq_protocol_types.specs.parsing.Limits.{Within, RefusesWithin}

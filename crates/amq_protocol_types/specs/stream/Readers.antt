@@ -8,7 +8,7 @@ use Rattle.amqp_value_core.specs.Nesting.{WireWithin}
 use Rattle.amqp_value_core.specs.View.{view}
 use Rattle.amqp_value_core.specs.Outcomes.{found, more}
 use Rattle.amq_protocol_types.specs.declared.parsing.errors.Err.TheVariants.{Error}
-use Rattle.amq_protocol_types.specs.declared.parsing.limits.Limits.{Limits}
+use Rattle.amq_protocol_types.specs.declared.parsing.within.Limits.{Limits}
 use Rattle.amq_protocol_types.specs.declared.stream.reader.ValueReader.{ValueReader}
 use Rattle.amq_protocol_types.specs.declared.stream.source.Source.{Ghosts}
 use Rattle.amq_protocol_types.specs.declared.stream.values.Values.{Values}

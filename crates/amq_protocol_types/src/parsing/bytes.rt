@@ -2,7 +2,7 @@
 
 ghost use Rattle.std.specs.Prelude.{◌≡◌, ◌<◌, IfOk, OnErr, length};
 
-use super::traits::ParsableInput;
+use amqp_value_core::input::ParsableInput;
 use std::alloc::{AllocError, Global};
 
 /// Copies all bytes of the input into one buffer, or returns an error if memory for them can't be

@@ -5,8 +5,8 @@ ghost use Rattle.amq_protocol_types.specs.parsing.ParseResults.{IsRefusal};
 ghost use Rattle.amq_protocol_types.specs.Flags.{flags_of, AreFlagsRead, AreFlagsCut, AreFlagsHeavy};
 
 use super::errors::{ParserResult, lacks};
-use super::traits::ParsableInput;
 use crate::flags::AMQPFlags;
+use amqp_value_core::input::ParsableInput;
 use std::alloc::Global;
 
 /// Parses a flag for each name: as many bytes as the names need, eight flags to a byte, the lowest

@@ -9,7 +9,7 @@ ghost use Rattle.amq_protocol_types.specs.parsing.Headers.{extent, extent_of, ra
 ghost use Rattle.amq_protocol_types.specs.parsing.Limits.{IsHeader};
 
 use super::scalars::{parse_long_uint, parse_type};
-use super::traits::ParsableInput;
+use amqp_value_core::input::ParsableInput;
 use amqp_value_core::types::AMQPType;
 
 /// What the type tag of a value and the length after it determine, whatever bytes follow them.

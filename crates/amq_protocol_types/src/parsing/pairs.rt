@@ -8,7 +8,7 @@ ghost use Rattle.amqp_value_core.specs.Containers.{table_view};
 ghost use Rattle.amq_protocol_types.specs.parsing.Bodies.{kept};
 
 use super::scalars::parse_long_uint;
-use super::traits::ParsableInput;
+use amqp_value_core::input::ParsableInput;
 use amqp_value_core::types::{AMQPType, FieldTable, ShortString};
 use amqp_value_core::value::AMQPValue;
 use std::alloc::{AllocError, Global};

@@ -10,7 +10,7 @@ ghost use Rattle.amq_protocol_types.specs.parsing.ParseResults.{IsRefusal};
 ghost use Rattle.amq_protocol_types.specs.parsing.PayloadResults.{IsType, IsNoType, ReadsUnsigned, ReadsScalar, ReadsNumber};
 
 use super::errors::{ErrorKind, ParserResult, error_of_kind, lacks};
-use super::traits::ParsableInput;
+use amqp_value_core::input::ParsableInput;
 use amqp_value_core::types::{
     AMQPType, Boolean, DecimalValue, Double, Float, Identifier, LongInt, LongLongInt, LongLongUInt,
     LongUInt, ShortInt, ShortShortInt, ShortShortUInt, ShortUInt, Timestamp,

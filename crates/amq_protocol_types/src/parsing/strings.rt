@@ -12,7 +12,7 @@ ghost use Rattle.amq_protocol_types.specs.parsing.Bodies.{IsLengthPrefixed, IsCu
 use super::bytes::{copy_by_chunks, copy_of};
 use super::errors::{ErrorKind, ParserError, ParserResult, error_of_kind, lacks, out_of_memory};
 use super::scalars::{parse_long_uint, parse_short_short_uint};
-use super::traits::ParsableInput;
+use amqp_value_core::input::ParsableInput;
 use amqp_value_core::types::{AMQPType, ByteArray, LongString, ShortString, TryCopyError};
 use std::alloc::Global;
 

@@ -21,7 +21,7 @@ use super::scalars::{
 use super::strings::{
     parse_byte_array, parse_length_prefixed, parse_long_string, parse_short_string,
 };
-use super::traits::ParsableInput;
+use amqp_value_core::input::ParsableInput;
 use amqp_value_core::types::{AMQPType, FieldArray, FieldTable};
 use amqp_value_core::value::AMQPValue;
 use std::alloc::Global;

@@ -11,12 +11,24 @@ ghost use Rattle.amq_protocol_types.specs.parsing.Untagged.{tagged, UntaggedWith
 
 use super::errors::{ErrorKind, ParserResult, error_of_kind, lacks};
 use super::header::{Header, counted_len, header_of};
-use super::limits::Limits;
-use super::traits::ParsableInput;
 use super::values::{array_within, table_within, value_within};
+use amqp_value_core::input::ParsableInput;
 use amqp_value_core::types::{AMQPType, FieldArray, FieldTable};
 use amqp_value_core::value::AMQPValue;
 use std::alloc::Global;
+
+/// The limits on a value's length and nesting.
+///
+/// For bytes from untrusted peers `Limits { frame: 1_048_576, depth: 32 }` is suitable: RabbitMQ
+/// sends frames above its usual `frame_max`, which is 131,072.
+#[derive(Clone, Copy, Debug, PartialEq, Eq)]
+pub struct Limits {
+    /// The most bytes that a value's encoding may have, from its type tag to its end.
+    pub frame: u32,
+    /// How deep containers may nest in a value: 0 for none, 1 for containers of scalars and strings
+    /// only. Each entry that is written counts, even if its key occurs again.
+    pub depth: u32,
+}
 
 /// Parses a value as `parse_value` does, if it has at most `limits.frame` bytes and its containers
 /// nest at most `limits.depth` deep.

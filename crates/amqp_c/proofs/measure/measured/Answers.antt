@@ -1,5 +1,5 @@
 use Rattle.std.proofs.Common.{ℕ, true, false, List, sym, ◌∙◌}
-use Rattle.amq_protocol_types.specs.declared.parsing.limits.Limits.{Limits}
+use Rattle.amq_protocol_types.specs.declared.parsing.within.Limits.{Limits}
 use Rattle.amqp_in_place.specs.ProblemResults.{FindsValue}
 use Rattle.amqp_c.proofs.ReadErrors.{of_parts, read_without_error}
 use Rattle.amqp_in_place.proofs.Refusals.{not_read}

@@ -1,5 +1,5 @@
 use Rattle.std.proofs.Common.{◌≡◌, List, ℕ, string_bytes}
-use Rattle.amq_protocol_types.specs.declared.parsing.limits.Limits.{Limits}
+use Rattle.amq_protocol_types.specs.declared.parsing.within.Limits.{Limits}
 use Rattle.amqp_value_core.specs.Values.{Tree}
 use Rattle.amqp_in_place.specs.Refs.{Denotes}
 use Rattle.amqp_json.specs.Conversions.{IsJsonOf}
