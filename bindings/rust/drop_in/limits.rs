@@ -1,6 +1,6 @@
 //! Limits on the arrays and tables that are parsed, and what becomes of a table beyond them.
 //!
-//! They are of the process, since the parsers take none.
+//! They are of the process, since the parsers take none; those of `amqp-values/src/limits.rs` are a call's.
 
 use crate::{AMQPValue, FieldTable, ShortString};
 use std::sync::{PoisonError, RwLock};

@@ -1,3 +1,6 @@
+//! [`Error`] holds any of this crate's errors: those of parsers (`parsing/errors.rt`), of generators
+//! (`generation/error.rt`) and of readers of values (`stream/error.rt`), and those of strings.
+
 use crate::generation::GenError;
 use crate::parsing::ParserError;
 use crate::stream::StreamError;

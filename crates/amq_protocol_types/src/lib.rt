@@ -32,6 +32,16 @@
 //! [`stream::parse_value_within`], [`stream::ValueReader`] or `amqp_in_place::read_in_place`.
 //!
 //! `CALLING.md` has the public contracts and a proved caller, `crates/examples` complete programs.
+//!
+//! What comes in, through which modules, and what comes out:
+//!
+//! ```text
+//! input      parsing::values, by scalars, strings and pairs       AMQPValue, rest
+//! input      parsing::within, by header (is all there?), values   AMQPValue, rest
+//! reader     stream::reader, values, pending (bytes so far)       AMQPValue
+//! AMQPValue  generation::values, by scalars, strings, context     slice, vector, device
+//! AMQPFlags  generation::flags; back by parsing::flags            a byte for eight flags
+//! ```
 #![tactic(auto)]
 
 mod errors;

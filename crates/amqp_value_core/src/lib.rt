@@ -1,4 +1,14 @@
 //! The values of AMQP 0-9-1 field tables, and the inputs that parsers read.
+//!
+//! What comes in, through which modules, and what comes out:
+//!
+//! ```text
+//! Rust's types, JSON   conversions::from, json       AMQPValue
+//! strings, pairs       types                         short strings, arrays and tables in a value
+//! AMQPValue            conversions::getters, copies  what is in it, a copy; by equality whether two are equal
+//! one or two slices    input                         what the parsers of other crates read
+//! the definitions      laws                          what holds of every list of bytes and every value
+//! ```
 #![tactic(auto)]
 
 mod conversions;

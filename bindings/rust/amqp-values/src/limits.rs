@@ -1,3 +1,6 @@
+//! Limits that each call of this crate takes. Those of `drop_in/limits.rs` are of the process, and those of Rattle
+//! (`amq_protocol_types::stream::Limits`) have no number of values.
+
 /// Limits on a value that is read or checked, with all that it contains.
 ///
 /// A thread's stack has to suffice: 24 KiB, and for each level of `depth` 240 bytes on x86-64, 256 on aarch64.

@@ -1,3 +1,5 @@
+//! [`WriteContext`], through which generators write to an output. It counts the bytes.
+
 ghost use Rattle.std.specs.Prelude.{◌≡◌, ◌-◌, ◌+◌, ◌≤◌, true, ⊤, IfOk, length, replicate};
 ghost use Rattle.amq_protocol_types.specs.generation.BufferOutput.{IsConsistentOutput, AppendsBytes, PromisesCapacity, outcome_of, filled, TruncatesTo};
 ghost use Rattle.amq_protocol_types.specs.generation.Outputs.{Writes};

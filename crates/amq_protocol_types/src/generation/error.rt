@@ -1,3 +1,5 @@
+//! The error of generators and of outputs. `src/errors.rt` has the one that holds any error of this crate.
+
 use std::io::ErrorKind;
 use thiserror::Error;
 

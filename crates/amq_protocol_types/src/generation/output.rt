@@ -1,3 +1,5 @@
+//! The traits of outputs: what a generator writes to, and a buffer that can take bytes back.
+
 ghost use Rattle.std.specs.Prelude.{◌≡◌, ◌+◌, ◌≤◌, Bool, true, ⊤, IfOk, length, replicate};
 ghost use Rattle.amq_protocol_types.specs.generation.Outputs.{OutputState, Writes};
 ghost use Rattle.amq_protocol_types.specs.generation.BufferOutput.{IsConsistentOutput, AppendsBytes, PromisesCapacity, outcome_of, filled, TruncatesTo};

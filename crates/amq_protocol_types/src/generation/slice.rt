@@ -1,3 +1,5 @@
+//! A slice as an output, whose capacity is fixed.
+
 ghost use Rattle.std.specs.Prelude.{◌≡◌, []};
 ghost use Rattle.amq_protocol_types.specs.generation.OutputViews.{seen_slice};
 

@@ -1,3 +1,5 @@
+//! A `Vec<u8>` as an output, which grows.
+
 ghost use Rattle.std.specs.Prelude.{◌≡◌, ◌+◌, ⊤, true, IfOk, IfErr, length, replicate};
 ghost use Rattle.amq_protocol_types.specs.generation.BufferOutput.{AppendsBytes, PromisesCapacity, outcome_of};
 ghost use Rattle.amq_protocol_types.specs.generation.Outputs.{Writes};

@@ -1,3 +1,5 @@
+//! A length in four bytes before what a closure writes; `crates/test_codec/src/closures.rt` tests it.
+
 ghost use Rattle.std.specs.Prelude.{◌≡◌, Result, OnOk, OnErr, IfErr};
 ghost use Rattle.std.specs.Fn.{FnOnceReturnsAtMut};
 ghost use Rattle.amq_protocol_types.specs.declared.generation.context.WriteContext.{WriteContext};

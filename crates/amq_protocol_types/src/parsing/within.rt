@@ -1,4 +1,5 @@
-//! Parsing within limits.
+//! Parsing within [`Limits`]: of bytes and of levels, and a call takes them. Those of the Rust crates
+//! (`bindings/rust`) also count values.
 
 ghost use Rattle.std.specs.Prelude.{suc, ◌≡◌, ◌-◌, ◌≤◌, length, MatchResult, IfOk};
 ghost use Rattle.amqp_value_core.specs.Bytes.{IsBytes};

@@ -1,3 +1,6 @@
+//! The error of readers of values: that of a parser, or that of the reader. `src/errors.rt` has the one
+//! that holds any error of this crate.
+
 use crate::parsing::ParserErrors;
 use std::alloc::AllocError;
 use std::io;

@@ -1,3 +1,5 @@
+//! An input of two slices, as a ring buffer has them; the rows of `crates/test_calls/data/inputs.calls` test it.
+
 // The tactic at the function names the lemma that bytes after bytes are bytes.
 
 ghost use Rattle.std.specs.Prelude.{◌≡◌, ◌+◌, ◌-◌, ◌^◌, ◌<◌, ◌≤◌, ◌++◌, length, take, drop};

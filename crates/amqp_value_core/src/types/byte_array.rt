@@ -1,3 +1,5 @@
+//! Byte arrays, whose type tag is `x`.
+
 ghost use Rattle.std.specs.Prelude.{◌≡◌, [], length, nat_eq, IfOk, IsOk};
 ghost use Rattle.amqp_value_core.specs.View.{octets_of};
 

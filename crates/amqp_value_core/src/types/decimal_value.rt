@@ -1,3 +1,5 @@
+//! Decimal numbers: a scale and digits.
+
 use crate::types::{LongUInt, ShortShortUInt};
 use serde::{Deserialize, Serialize};
 

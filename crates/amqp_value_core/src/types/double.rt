@@ -1,3 +1,5 @@
+//! Floating-point numbers of 64 bits, as their bits; the rows of `crates/test_calls/data/values.calls` have them.
+
 ghost use Rattle.std.specs.Prelude.{◌≡◌};
 ghost use Rattle.amqp_value_core.specs.View.{double_bits};
 

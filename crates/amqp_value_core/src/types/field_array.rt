@@ -1,3 +1,5 @@
+//! Arrays: values one after another.
+
 ghost use Rattle.std.specs.Prelude.{◌≡◌, [], ◌∷◌, ◌++◌, OnOk, OnErr};
 ghost use Rattle.amqp_value_core.specs.Containers.{array_items};
 

@@ -1,3 +1,5 @@
+//! Tables: maps from short strings to values.
+
 // The tactic at the function names the lemma that a map of pairs is the table that they result in.
 
 ghost use Rattle.std.specs.Prelude.{◌≡◌, ◌≤◌, [], ◌∷◌, length, OnOk, OnErr, IfOk, IfErr, IsOk};

@@ -1,3 +1,5 @@
+//! Long strings: arbitrary bytes, whatever their name says.
+
 ghost use Rattle.std.specs.Prelude.{◌≡◌, [], length, nat_eq, IfOk, IsOk};
 ghost use Rattle.amqp_value_core.specs.View.{long_bytes};
 

@@ -1,3 +1,5 @@
+//! Short strings, which are also the keys of tables: UTF-8 of at most 255 bytes.
+
 ghost use Rattle.std.specs.Hash as fed;
 ghost use Rattle.std.specs.Cmp.Rules.{hashing};
 ghost use Rattle.std.proofs.Common.{rules};
