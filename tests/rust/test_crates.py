@@ -6,6 +6,7 @@ end as those in C. values.rs: on random inputs amqp-values reads, measures, find
 under valgrind and the address sanitizer.
 """
 
+import re
 import subprocess
 from pathlib import Path
 
@@ -38,7 +39,10 @@ def test_own_tests(copies: Path, name: str, tools: Path | None) -> None:
     assert not tools or f"{OLDEST}." in run([tools / "rustc", "--version"]).stdout
     done = cargo(copies / name, "test", tools=tools)
     assert_well(done)
-    assert count_of_tests(done) >= sum(it.read_text().count("#[test]") for it in (copies / name).glob("**/*.rs"))
+    sources = [it.read_text() for it in (copies / name).glob("**/*.rs")]
+    # (an example in a comment is between two lines of ```)
+    examples = sum(len(re.findall(r"(?m)^ *//[/!] ```$", it)) // 2 for it in sources)
+    assert count_of_tests(done) >= examples + sum(it.count("#[test]") for it in sources)
 
 
 @pytest.mark.needs("cargo-clippy")

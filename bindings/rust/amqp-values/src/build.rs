@@ -4,7 +4,21 @@ use amqp_values_sys::{amqpv_container, amqpv_span, AMQPV_ARRAY, AMQPV_TABLE};
 
 /// Builds a table in a buffer, pair by pair.
 ///
-/// After an error nothing of the pair is in the table, and others may be put.
+/// After an error nothing of the pair is in the table, and others may be put. Nothing is allocated.
+///
+/// # Examples
+///
+/// ```
+/// use amqp_values::{TableBuilder, WriteError};
+///
+/// let mut buffer = [0; 64];
+/// let mut arguments = TableBuilder::new(&mut buffer)?;
+/// arguments.put("x-max-length", 10_000)?;
+/// arguments.put("x-queue-type", "quorum")?;
+/// let table = arguments.finish()?;
+/// assert_eq!(table, b"\0\0\0\x2a\x0cx-max-lengthI\0\0\x27\x10\x0cx-queue-typeS\0\0\0\x06quorum");
+/// # Ok::<(), WriteError>(())
+/// ```
 #[derive(Debug)]
 pub struct TableBuilder<'b>(Body<'b>);
 
@@ -31,6 +45,21 @@ impl<'b> TableBuilder<'b> {
     /// # Errors
     ///
     /// Each [`WriteError`].
+    ///
+    /// # Examples
+    ///
+    /// After an error the table is as before:
+    ///
+    /// ```
+    /// use amqp_values::{TableBuilder, WriteError};
+    ///
+    /// let mut buffer = [0; 16];
+    /// let mut table = TableBuilder::new(&mut buffer)?;
+    /// assert_eq!(table.put("x-max-length", 10_000), Err(WriteError::BufferTooSmall { needed: 22 }));
+    /// table.put("a", true)?;
+    /// assert_eq!(table.finish()?, b"\0\0\0\x04\x01at\x01");
+    /// # Ok::<(), WriteError>(())
+    /// ```
     pub fn put<'v>(&mut self, key: &str, value: impl Into<ValueRef<'v>>) -> Result<(), WriteError> {
         self.0.put(key, value.into())
     }
@@ -53,6 +82,21 @@ impl<'b> TableBuilder<'b> {
     /// # Errors
     ///
     /// Each [`WriteError`], and that of the function.
+    ///
+    /// # Examples
+    ///
+    /// ```
+    /// use amqp_values::{TableBuilder, ValueRef, WriteError};
+    ///
+    /// let mut buffer = [0; 64];
+    /// let mut table = TableBuilder::new(&mut buffer)?;
+    /// table.put_array("hosts", |hosts| {
+    ///     hosts.push("a")?;
+    ///     hosts.push(ValueRef::Void)
+    /// })?;
+    /// assert_eq!(table.finish()?, b"\0\0\0\x12\x05hostsA\0\0\0\x07S\0\0\0\x01aV");
+    /// # Ok::<(), WriteError>(())
+    /// ```
     pub fn put_array(
         &mut self,
         key: &str,

@@ -40,7 +40,7 @@ impl FusedIterator for ArrayValues<'_> {}
 impl FusedIterator for TablePairs<'_> {}
 
 impl<'a> ArrayRef<'a> {
-    /// Returns the values.
+    /// Returns an iterator over the values, in their order.
     #[must_use]
     pub fn iter(self) -> ArrayValues<'a> {
         ArrayValues { body: self.body(), cursor: cursor(self.body(), AMQPV_ARRAY) }
@@ -48,7 +48,18 @@ impl<'a> ArrayRef<'a> {
 }
 
 impl<'a> TableRef<'a> {
-    /// Returns the pairs.
+    /// Returns an iterator over the pairs, in the order in which they are written. A key may come more than once.
+    ///
+    /// # Examples
+    ///
+    /// ```
+    /// use amqp_values::{read_table, Error, Limits, ValueRef};
+    ///
+    /// let (table, _) = read_table(b"\0\0\0\x08\x01bt\x01\x01at\0", Limits::DEFAULT)?;
+    /// let pairs: Vec<_> = table.iter().collect();
+    /// assert_eq!(pairs, [("b", ValueRef::Boolean(true)), ("a", ValueRef::Boolean(false))]);
+    /// # Ok::<(), Error>(())
+    /// ```
     #[must_use]
     pub fn iter(self) -> TablePairs<'a> {
         TablePairs { body: self.body(), cursor: cursor(self.body(), AMQPV_TABLE) }

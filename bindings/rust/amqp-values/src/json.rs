@@ -18,11 +18,23 @@ const SPACE: [char; 4] = [' ', '\t', '\n', '\r'];
 /// # Errors
 ///
 /// Those of [`read`](crate::read), and [`Error::OutOfMemory`].
+///
+/// # Examples
+///
+/// ```
+/// use amqp_values::{to_json, Error, Limits};
+///
+/// assert_eq!(to_json(b"S\0\0\0\x06quorum", Limits::DEFAULT)?, r#""quorum""#);
+/// assert_eq!(to_json(b"I\0\0\0\x05", Limits::DEFAULT)?, r#"{"$LongInt":5}"#);
+/// # Ok::<(), Error>(())
+/// ```
 pub fn to_json(bytes: &[u8], limits: Limits) -> Result<String, Error> {
     calls::to_json(bytes, 0, limits)
 }
 
 /// Returns the JSON of the table without its type tag at the start of the bytes, as methods and content headers have it.
+///
+/// # Examples
 ///
 /// ```
 /// use amqp_values::{table_from_json, table_to_json, Limits};
@@ -55,6 +67,17 @@ pub fn table_to_json(bytes: &[u8], limits: Limits) -> Result<String, Error> {
 /// [`Error::Problem`], with the offset in the text, where the text isn't [JSON](ProblemKind::NotJson) or not that
 /// [of a value](ProblemKind::NotAValue), or nests [too deep](ProblemKind::TooDeep); with offset 0 if the value is beyond the
 /// other limits. [`Error::OutOfMemory`].
+///
+/// # Examples
+///
+/// ```
+/// use amqp_values::{from_json, Error, Limits, Problem, ProblemKind};
+///
+/// assert_eq!(from_json(r#"[{"$LongInt":5},"a"]"#, Limits::DEFAULT)?, b"A\0\0\0\x0bI\0\0\0\x05S\0\0\0\x01a");
+/// let missing_comma = Problem { offset: 3, kind: ProblemKind::NotJson };
+/// assert_eq!(from_json("[1 2]", Limits::DEFAULT), Err(Error::Problem(missing_comma)));
+/// # Ok::<(), Error>(())
+/// ```
 pub fn from_json(text: &str, limits: Limits) -> Result<Vec<u8>, Error> {
     calls::from_json(text, limits)
 }

@@ -4,6 +4,17 @@
 /// Limits on a value that is read or checked, with all that it contains.
 ///
 /// A thread's stack has to suffice: 24 KiB, and for each level of `depth` 240 bytes on x86-64, 256 on aarch64.
+///
+/// # Examples
+///
+/// ```
+/// use amqp_values::{read_table, Error, Limits, Problem, ProblemKind};
+///
+/// let limits = Limits { depth: 1, ..Limits::DEFAULT };
+/// let nested = b"\0\0\0\x07\x01aF\0\0\0\0";
+/// let too_deep = Problem { offset: 6, kind: ProblemKind::TooDeep };
+/// assert_eq!(read_table(nested, limits), Err(Error::Problem(too_deep)));
+/// ```
 #[derive(Clone, Copy, Debug, PartialEq, Eq)]
 pub struct Limits {
     /// How many bytes it may have, its type tag included.

@@ -149,7 +149,7 @@ impl<'a> ValueRef<'a> {
         }
     }
 
-    /// Returns the number of an integer of any type.
+    /// Returns the number of an integer of any type, or `None` for a value of another type. A timestamp isn't an integer.
     #[must_use]
     pub fn as_int(self) -> Option<i64> {
         Some(match self {
@@ -164,7 +164,7 @@ impl<'a> ValueRef<'a> {
         })
     }
 
-    /// Returns the text of a string, if it is UTF-8.
+    /// Returns the text of a string, or `None` if it isn't UTF-8 or the value has another type.
     #[must_use]
     pub fn as_str(self) -> Option<&'a str> {
         match self {
@@ -173,7 +173,7 @@ impl<'a> ValueRef<'a> {
         }
     }
 
-    /// Returns the array, if it is one.
+    /// Returns the array, or `None` for a value of another type.
     #[must_use]
     pub fn as_array(self) -> Option<ArrayRef<'a>> {
         match self {
@@ -182,7 +182,7 @@ impl<'a> ValueRef<'a> {
         }
     }
 
-    /// Returns the table, if it is one.
+    /// Returns the table, or `None` for a value of another type.
     #[must_use]
     pub fn as_table(self) -> Option<TableRef<'a>> {
         match self {
