@@ -40,7 +40,9 @@ test-model test-vendor test-vectors: test-%:
 fresh:
 	$(step) tests/fresh README.md
 
+# (`rt ci` refuses links, which a build by CMake has)
 proofs: ## prove all crates from nothing, but for what was proved on this machine (an hour)
+	@rm -rf out/build out/lib out/aarch64
 	$(step) rt ci $(ANEW)
 
 # (make help shows this line in place of one for each suite)

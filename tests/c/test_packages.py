@@ -97,6 +97,11 @@ def test_packages(packages: Path) -> None:
     assert sorted(it.name.partition("_")[0] for it in packages.glob("*.deb")) == PACKAGES
 
 
+def test_packages_leave_no_links(packages: Path) -> None:
+    """`rt ci` refuses links."""
+    assert [it for folder in ("debian", "out/debian") for it in (TOP / folder).rglob("*") if it.is_symlink()] == []
+
+
 def test_packages_have_the_version_of_the_header(packages: Path) -> None:
     assert {it.name.split("_")[1] for it in packages.glob("*.deb")} == {f"{version()}-1"}
 
