@@ -257,7 +257,7 @@ static inline void amqpv_add_value(amqpv_writer *w, const char *key, const amqpv
 }
 
 static inline void amqpv_add_container_(amqpv_writer *w, const char *key, uint8_t tag) {
-    if (w->level + 1 == AMQPV_WRITER_LEVELS && (w->result == AMQPV_OK || w->result == AMQPV_NO_ROOM)) {
+    if (w->level + 1 == AMQPV_MAX_DEPTH && (w->result == AMQPV_OK || w->result == AMQPV_NO_ROOM)) {
         w->result = AMQPV_TOO_DEEP;
     }
     if (amqpv_may_add_(w, key)) {

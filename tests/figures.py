@@ -19,14 +19,17 @@ RESULTS = "bench/RESULTS.md"
 DEFAULTS = {
     "crates/examples/src/in_place.rt": [r"frame: (?P<bytes>[\d_]+),\s+depth: (?P<depth>\d+)"],
     "docs/LIMITS.md": [
-        r"none by default, (?P<bytes>\d+) is suitable \| `Limits::depth`; (?P<depth>\d+) is suitable",
-        r"`max_bytes`; (?P<bytes>\d+) \| `max_depth`; (?P<depth>\d+) ",
-        r"`max_bytes`; (?P<bytes>\d+) \| `depth`; (?P<depth>\d+), at most 512 ",
-        r"`max_bytes`; (?P<bytes>\d+) \| `depth`; (?P<depth>\d+), at most 4096 ",
-        r"`--max-bytes`; (?P<bytes>\d+) \| `--depth`; (?P<depth>\d+), at most 1000 ",
-        r"`AMQPV_MAX_BYTES`; (?P<bytes>\d+) \| `AMQPV_MAX_DEPTH`; (?P<depth>\d+) ",
+        r"\| default \| (?P<bytes>\d+) \| (?P<depth>\d+) \|",
+        r"`amqpv_writer` \| \| \| (?P<depth>\d+) \|",
+        r"client that we tested reads (?P<depth>\d+) levels",
     ],
     "crates/amq_protocol_types/src/parsing/within.rt": [r"frame: (?P<bytes>[\d_]+), depth: (?P<depth>\d+)"],
+    "docs/C.md": [r"1 MiB \(`AMQPV_MAX_BYTES`\) and (?P<depth>\d+) levels \(`AMQPV_MAX_DEPTH`\)"],
+    "docs/INTEROP.md": [r"Don't nest deeper than \[(?P<depth>\d+) levels\]"],
+    "docs/JSON.md": [r"(?P<depth>\d+) levels fit a stack"],
+    "README.md": [r"containers nested at most (?P<depth>\d+) deep"],
+    "include/amqp_values.h": [r"client we tested reads (?P<depth>\d+) levels"],
+    "bindings/rust/amqp-values/src/rabbitmq.rs": [r"usually the (?P<depth>\d+) of"],
     "crates/amqp_show/src/arguments.rt": [
         r"const MAX_BYTES: u32 = (?P<bytes>[\d_]+);",
         r"const DEPTH: u32 = (?P<depth>\d+);",
@@ -45,6 +48,7 @@ DEFAULTS = {
         for name in ("bindings/rust/amqp-values/src/limits.rs", "bindings/rust/drop_in/limits.rs")
     },
     "docs/RUST.md": [r"more than (?P<depth>\d+) levels", r"(?P<depth>\d+) levels by default"],
+    **{f"crates/examples/src/{it}.rt": [r"\bdepth: (?P<depth>\d+)"] for it in ("headers", "stream")},
     "include/amqp_values_rabbitmq.h": [r"AMQPV_MAX_BYTES \((?P<bytes>\d+)\)", r"AMQPV_MAX_DEPTH \((?P<depth>\d+)\)"],
 }
 # What names no version of RabbitMQ that only docs/INTEROP.md may name.

@@ -27,7 +27,7 @@ int main(int count, char **words) {
         printf("not accepted: %s, at %zu\n", amqpv_strerror(result), problem.offset);
         return 1;
     }
-    result = amqpv_warn(&in, 131072, AMQPV_CLIENT_LEVELS, &warnings);
+    result = amqpv_warn(&in, 131072, AMQPV_MAX_DEPTH, &warnings);
     if (result != AMQPV_OK) {
         printf("%s\n", amqpv_strerror(result));
         return 1;

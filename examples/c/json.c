@@ -13,12 +13,11 @@ static amqpv_problem problem = {SIZE_MAX, 0, 0}; /* set if the JSON is wrong */
 
 static amqpv_result write_json(uint8_t *buffer, size_t capacity, size_t *length) {
     amqpv_input in = amqpv_value(given, given_length);
-    in.max_depth = AMQPV_JSON_DEPTH;
     return amqpv_to_json(&in, (char *)buffer, capacity, length);
 }
 
 static amqpv_result write_encoding(uint8_t *buffer, size_t capacity, size_t *length) {
-    return amqpv_from_json((const char *)given, given_length, AMQPV_JSON_NESTING, buffer, capacity, length, &problem);
+    return amqpv_from_json((const char *)given, given_length, AMQPV_MAX_DEPTH, buffer, capacity, length, &problem);
 }
 
 int main(int count, char **words) {

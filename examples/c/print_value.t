@@ -5,39 +5,7 @@ cut
 
 deep
   $ print_value <<'END'
-  > # arrays of one array each, 64 deep
-  > 41 0000013b
-  > 41 00000136
-  > 41 00000131
-  > 41 0000012c
-  > 41 00000127
-  > 41 00000122
-  > 41 0000011d
-  > 41 00000118
-  > 41 00000113
-  > 41 0000010e
-  > 41 00000109
-  > 41 00000104
-  > 41 000000ff
-  > 41 000000fa
-  > 41 000000f5
-  > 41 000000f0
-  > 41 000000eb
-  > 41 000000e6
-  > 41 000000e1
-  > 41 000000dc
-  > 41 000000d7
-  > 41 000000d2
-  > 41 000000cd
-  > 41 000000c8
-  > 41 000000c3
-  > 41 000000be
-  > 41 000000b9
-  > 41 000000b4
-  > 41 000000af
-  > 41 000000aa
-  > 41 000000a5
-  > 41 000000a0
+  > # arrays of one array each, 32 deep
   > 41 0000009b
   > 41 00000096
   > 41 00000091
@@ -71,7 +39,7 @@ deep
   > 41 00000005
   > 41 00000000
   > END
-  320 bytes
+  160 bytes
   FieldArray
     FieldArray
       FieldArray
@@ -104,38 +72,6 @@ deep
                                                             FieldArray
                                                               FieldArray
                                                                 FieldArray
-                                                                  FieldArray
-                                                                    FieldArray
-                                                                      FieldArray
-                                                                        FieldArray
-                                                                          FieldArray
-                                                                            FieldArray
-                                                                              FieldArray
-                                                                                FieldArray
-                                                                                  FieldArray
-                                                                                    FieldArray
-                                                                                      FieldArray
-                                                                                        FieldArray
-                                                                                          FieldArray
-                                                                                            FieldArray
-                                                                                              FieldArray
-                                                                                                FieldArray
-                                                                                                  FieldArray
-                                                                                                    FieldArray
-                                                                                                      FieldArray
-                                                                                                        FieldArray
-                                                                                                          FieldArray
-                                                                                                            FieldArray
-                                                                                                              FieldArray
-                                                                                                                FieldArray
-                                                                                                                  FieldArray
-                                                                                                                    FieldArray
-                                                                                                                      FieldArray
-                                                                                                                        FieldArray
-                                                                                                                          FieldArray
-                                                                                                                            FieldArray
-                                                                                                                              FieldArray
-                                                                                                                                FieldArray
 
 every_type
   $ print_value <<'END'
@@ -206,39 +142,7 @@ number
 
 too_deep
   $ print_value <<'END'
-  > # arrays of one array each, 65 deep
-  > 41 00000140
-  > 41 0000013b
-  > 41 00000136
-  > 41 00000131
-  > 41 0000012c
-  > 41 00000127
-  > 41 00000122
-  > 41 0000011d
-  > 41 00000118
-  > 41 00000113
-  > 41 0000010e
-  > 41 00000109
-  > 41 00000104
-  > 41 000000ff
-  > 41 000000fa
-  > 41 000000f5
-  > 41 000000f0
-  > 41 000000eb
-  > 41 000000e6
-  > 41 000000e1
-  > 41 000000dc
-  > 41 000000d7
-  > 41 000000d2
-  > 41 000000cd
-  > 41 000000c8
-  > 41 000000c3
-  > 41 000000be
-  > 41 000000b9
-  > 41 000000b4
-  > 41 000000af
-  > 41 000000aa
-  > 41 000000a5
+  > # arrays of one array each, 33 deep
   > 41 000000a0
   > 41 0000009b
   > 41 00000096
@@ -273,7 +177,7 @@ too_deep
   > 41 00000005
   > 41 00000000
   > END
-  nested too deep, at 320
+  nested too deep, at 160
   [1]
 
 too_large

@@ -185,7 +185,7 @@ static void errors_of_writer(void) {
         amqpv_end(&w);
         TRY(AMQPV_INVALID, amqpv_finish(&w, &count));
         amqpv_begin(&w, to, capacity);
-        for (int i = 0; i < AMQPV_WRITER_LEVELS; i++) {
+        for (int i = 0; i < AMQPV_MAX_DEPTH; i++) {
             amqpv_add_table(&w, "t");
         }
         TRY(AMQPV_TOO_DEEP, amqpv_finish(&w, &count));
@@ -221,12 +221,12 @@ static void warn(void) {
     static const uint8_t repeated[] = {0, 0, 0, 6, 1, 'a', 'V', 1, 'a', 'V'};
     amqpv_input in = dead_lettered(), other = amqpv_table(repeated, sizeof repeated);
     amqpv_warnings warnings;
-    TRY(AMQPV_OK, amqpv_warn(&in, 131072, AMQPV_CLIENT_LEVELS, &warnings));
+    TRY(AMQPV_OK, amqpv_warn(&in, 131072, AMQPV_MAX_DEPTH, &warnings));
     CHECK(warnings.count == 0 && warnings.nested_header == SIZE_MAX);
     in.flags |= AMQPV_STREAMS;
-    TRY(AMQPV_OK, amqpv_warn(&in, 131072, AMQPV_CLIENT_LEVELS, &warnings));
+    TRY(AMQPV_OK, amqpv_warn(&in, 131072, AMQPV_MAX_DEPTH, &warnings));
     CHECK(warnings.count == 1 && warnings.nested_header == 12);
-    TRY(AMQPV_OK, amqpv_warn(&other, 131072, AMQPV_CLIENT_LEVELS, &warnings));
+    TRY(AMQPV_OK, amqpv_warn(&other, 131072, AMQPV_MAX_DEPTH, &warnings));
     CHECK(warnings.count == 1 && warnings.repeated_key == 7);
 }
 

@@ -69,7 +69,7 @@ static amqpv_result make_call(size_t n, size_t *length) {
     } else if (is_call("write_json")) {
         result = amqpv_write_json(&in, (char *)buffer, n, length);
     } else if (is_call("from_json")) {
-        result = amqpv_from_json((const char *)in.bytes, in.length, AMQPV_JSON_NESTING, buffer, n, length, &problem);
+        result = amqpv_from_json((const char *)in.bytes, in.length, AMQPV_MAX_DEPTH, buffer, n, length, &problem);
         CHECK(problem.offset == 77 && problem.missing == 77 && problem.tag == 77);
     } else {
         result = amqpv_warn(&in, 64, 2, &warnings);

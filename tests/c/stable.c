@@ -70,13 +70,13 @@ FIELD(amqpv_warnings, reserved, 56, 32);
 FIELD(amqpv_warnings, exceeds_frame, 88, 1);
 FIELD(amqpv_warnings, reserved_flags, 89, 7);
 
-STRUCT(amqpv_writer, 544, 8);
+STRUCT(amqpv_writer, 1056, 8);
 FIELD(amqpv_writer, buffer, 0, 8);
 FIELD(amqpv_writer, capacity, 8, 8);
-FIELD(amqpv_writer, open, 16, 512);
-FIELD(amqpv_writer, level, 528, 4);
-FIELD(amqpv_writer, result, 532, 4);
-FIELD(amqpv_writer, needed, 536, 8);
+FIELD(amqpv_writer, open, 16, 1024);
+FIELD(amqpv_writer, level, 1040, 4);
+FIELD(amqpv_writer, result, 1044, 4);
+FIELD(amqpv_writer, needed, 1048, 8);
 
 CONSTANT(AMQPV_OK, 0);
 CONSTANT(AMQPV_NONE, 1);
@@ -107,7 +107,7 @@ CONSTANT(AMQPV_FIRST_KEY, 8);
 CONSTANT(AMQPV_STREAMS, 16);
 
 CONSTANT(AMQPV_MAX_BYTES, 1048576);
-CONSTANT(AMQPV_MAX_DEPTH, 64);
+CONSTANT(AMQPV_MAX_DEPTH, 32);
 
 CONSTANT(AMQPV_BOOLEAN, 't');
 CONSTANT(AMQPV_SHORT_SHORT_INT, 'b');
@@ -126,11 +126,3 @@ CONSTANT(AMQPV_ARRAY, 'A');
 CONSTANT(AMQPV_TABLE, 'F');
 CONSTANT(AMQPV_TIMESTAMP, 'T');
 CONSTANT(AMQPV_VOID, 'V');
-
-CONSTANT(AMQPV_JSON_DEPTH, 32);
-
-CONSTANT(AMQPV_JSON_NESTING, 127);
-
-CONSTANT(AMQPV_CLIENT_LEVELS, 32);
-
-CONSTANT(AMQPV_WRITER_LEVELS, 16);

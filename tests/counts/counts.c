@@ -54,7 +54,7 @@ void *__wrap_memset(void *to, int byte, size_t size) { return moved += size, __r
 
 /* ---- an input, and what calls write */
 
-enum { STACK = 2 << 20, MOST = 8 << 20, MOST_ENTRIES = 20000, FRAME = UINT32_MAX, DEPTH = 5000 };
+enum { STACK = 2 << 20, MOST = 8 << 20, MOST_ENTRIES = 20000, FRAME = UINT32_MAX, DEPTH = 5000, NESTING = 127 };
 static uint8_t *bytes, *buffer;
 static char *text, *json;
 static size_t length, table_length, text_length, entry_count;
@@ -90,7 +90,7 @@ static amqpv_result to_json(void) { return amqpv_to_json(&encoding, json, MOST, 
 static amqpv_result to_json_of_table(void) { return amqpv_to_json(&untagged, json, MOST, &count); }
 static amqpv_result write_json(void) { return amqpv_write_json(&encoding, json, MOST, &count); }
 static amqpv_result from_json(void) {
-    return amqpv_from_json(text, text_length, AMQPV_JSON_NESTING, buffer, MOST, &count, &problem);
+    return amqpv_from_json(text, text_length, NESTING, buffer, MOST, &count, &problem);
 }
 static amqpv_result find_key(void) { return amqpv_find(&encoding, &value, path, 1, &entry); }
 static amqpv_result find_index(void) { return amqpv_find(&encoding, &value, path, 2, &entry); }
@@ -309,7 +309,7 @@ static void prepare(const char *input) {
     is_canonical = tell_canonical() == AMQPV_OK, is_not_canonical = !is_canonical;
     is_ascending = write_json() == AMQPV_OK, is_not_ascending = !is_ascending;
     amqpv_input for_text = encoding;
-    for_text.max_depth = AMQPV_JSON_NESTING - 2;
+    for_text.max_depth = NESTING - 2;
     has_text = amqpv_to_json(&for_text, text, MOST, &text_length) == AMQPV_OK;
 }
 

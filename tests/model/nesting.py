@@ -1,7 +1,7 @@
 """What nesting takes of the stack: the table of docs/PROMISES.md, and the runs that hold it.
 
-`checks` has those runs, and `recommended` those of the calls for C with the limits that the header recommends, on the stack
-that it names. The page's table has a column for x86-64, and one for aarch64.
+`checks` has those runs, and `recommended` those of the calls for C with the header's default limit, on the stack that it
+names. The page's table has a column for x86-64, and one for aarch64.
 
 `python3 -m tests.model.nesting PROGRAM NAME..` prints what a level takes of each call, and the call besides. PROGRAM is
 test_calls, or nested.c as it was compiled, also with the words by which qemu runs it.
@@ -246,9 +246,9 @@ def enough(call: Call, stack: int, program: Program) -> str:
 
 
 class InHeader(NamedTuple):
-    """The header's limits, and its figures of the stack: besides, also of some calls, for each level, and in all."""
+    """The header's limit on depth, and its figures of the stack: besides, also of some calls, for each level, and in all."""
 
-    limits: dict[str, int]
+    depth: int
     besides: int
     of_some: dict[str, int]
     figures: dict[str, int]
@@ -257,26 +257,25 @@ class InHeader(NamedTuple):
 
 def in_header(column: int) -> InHeader:
     text = HEADER.read_text()
-    limits = {name: int(number) for name, number in re.findall(r"(AMQPV_\w*DEPTH) = (\d+)", text)}
+    (depth,) = re.findall(r"AMQPV_MAX_DEPTH = (\d+)", text)
     ((besides, some, others),) = re.findall(r"Stack use: (\d+) KiB, in (\w+) (\d+) KiB,", text)
     rows = re.findall(r"(?m)^ \*     (amqpv_[\w, ]*\w) +(\d+) +(\d+)$", text.partition("Stack use:")[2])
     figures = {name: int(of[column]) for names, *of in rows for name in names.split(", ")}
     (most,) = re.findall(r"(\d+) KiB is enough with the default limits", text)
-    return InHeader(limits, int(besides) << 10, {some: int(others) << 10}, figures, int(most) << 10)
+    return InHeader(int(depth), int(besides) << 10, {some: int(others) << 10}, figures, int(most) << 10)
 
 
 def recommended(column: int = 0) -> Iterator[Check]:
-    """Yields the checks of the calls for C with the header's limits.
+    """Yields the checks of the calls for C with the header's limit.
 
-    Each is done on the stack that the header's figures make, which is at most what it names for these limits. What nests
+    Each is done on the stack that the header's figures make, which is at most what it names for this limit. What nests
     deeper is rejected on the latter.
     """
-    limits, besides, of_some, figures, thread = in_header(column)
+    limit, besides, of_some, figures, thread = in_header(column)
     of_page = {name: figure for name, figure in table(column)[0].items() if name in FOR_C}
     other = "" if figures == of_page else f"those of {PAGE.name} are {of_page}"
     yield Check("the header's figures", partial(whatever, other))
     for name, call in FOR_C.items():
-        limit = limits["AMQPV_JSON_DEPTH" if "json" in name else "AMQPV_MAX_DEPTH"]
         stack = of_some.get(name, besides) + limit * figures.get(name, thread)
         over = f"by the header it takes {stack} bytes of stack" if stack > thread else ""
         yield Check(f"{name}, {limit} deep", partial(whatever, over))

@@ -21,7 +21,7 @@ from tests.model import json_format
 
 # Tables as brokers and clients sent them.
 CAPTURED = TOP / "vectors/real-world.json"
-FRAME, DEPTH = 2**20, 64
+FRAME, DEPTH = 2**20, 32
 # How deep containers nest that no client breaks on.
 CLIENT_LEVELS = 32
 # RabbitMQ's usual frame-max.
@@ -161,8 +161,8 @@ class Dissection:
     are before them.
     """
 
-    def __init__(self, data: bytes, subject: str = "value", start: int = 0) -> None:
-        self.subject, self.left_out, self.start = subject, int(subject == "table"), start
+    def __init__(self, data: bytes, subject: str = "value", start: int = 0, depth: int = DEPTH) -> None:
+        self.subject, self.left_out, self.start, self.depth = subject, int(subject == "table"), start, depth
         self.whole = 0
         self.data = data = b"F" * self.left_out + data
         self.parts: list[Part] = []
@@ -173,7 +173,7 @@ class Dissection:
             if extent(data) > FRAME:
                 raise Failure(0, too_large(data, self.left_out))
             self.walk()
-            taken(data, "read")
+            taken(data, "read", depth)
         except Failure as why:
             self.failure = why
 
@@ -242,7 +242,7 @@ class Dissection:
         """Takes a value apart, as far as it is there up to an end."""
         self.level, begin = level, self.at
         tag = chr(self.data[begin]) if begin < end else ""
-        if tag not in TYPES or tag in "AF" and level >= DEPTH:
+        if tag not in TYPES or tag in "AF" and level >= self.depth:
             raise Unread
         name, width = TYPES[tag]
         self.part(1, "tag", name)
@@ -473,7 +473,7 @@ def guess(found: Dissection) -> str:
     """What is said after the failure of an input that is a whole table without its type tag."""
     if found.left_out or not found.failure or found.data[:1] != b"\0":
         return ""
-    table = Dissection(found.data, "table")
+    table = Dissection(found.data, "table", depth=found.depth)
     is_one = not table.failure and table.end == len(table.data)
     return message("the input seems to be a table without its type tag; --table reads it") * is_one
 
@@ -485,10 +485,15 @@ def instead(data: bytes, subject: str) -> Printed | None:
 
 
 def printed(
-    data: bytes, form: str = "tree", asks_notes: bool = False, subject: str = "value", start: int | None = None
+    data: bytes,
+    form: str = "tree",
+    asks_notes: bool = False,
+    subject: str = "value",
+    start: int | None = None,
+    depth: int = DEPTH,
 ) -> Printed:
     """The output of `amqp_show --tree` or `--bytes`, also with `--canonical` and `--table`, or of a value of a stream."""
-    found = Dissection(data, subject, start or 0)
+    found = Dissection(data, subject, start or 0, depth)
     lines = [*(part_lines(found, asks_notes) if form == "bytes" else tree(found.parts, asks_notes)), *repeated(found)]
     lines += [f"! {found.failed()}"] if found.failure else []
     said, status = ending(found)
@@ -496,9 +501,9 @@ def printed(
     return start is None and instead(data, subject) or shown
 
 
-def printed_json(data: bytes, subject: str = "value", start: int = 0) -> Printed:
+def printed_json(data: bytes, subject: str = "value", start: int = 0, depth: int = DEPTH) -> Printed:
     """Of `amqp_show --json`, with `--table` or without it."""
-    found = Dissection(data, subject, start)
+    found = Dissection(data, subject, start, depth)
     said, status = ending(found)
     if found.failure:
         why = message(found.failed(names_keys=True)) + guess(found)
@@ -507,14 +512,14 @@ def printed_json(data: bytes, subject: str = "value", start: int = 0) -> Printed
     return f"{json_text(read(found.data)[0])}\n", "".join(map(message, again)) + said, status
 
 
-def streamed(data: bytes) -> dict[str, Printed]:
+def streamed(data: bytes, depth: int = DEPTH) -> dict[str, Printed]:
     """The output of `amqp_show --stream` in a form: all values up to the first that fails."""
     shown, said, status, offset = dict.fromkeys(("tree", "bytes", "JSON"), ""), "", 0, 0
     while offset < len(data) and not status:
-        value = data[offset : offset + Dissection(data[offset:]).end]
+        value = data[offset : offset + Dissection(data[offset:], depth=depth).end]
         for form in ("tree", "bytes"):
-            shown[form] += printed(value, form, start=offset)[0].replace("\n= ", f"\n= at {offset}: ")
-        text, why, status = printed_json(value, start=offset)
+            shown[form] += printed(value, form, start=offset, depth=depth)[0].replace("\n= ", f"\n= at {offset}: ")
+        text, why, status = printed_json(value, start=offset, depth=depth)
         shown["JSON"] += text
         said += why
         offset += len(value)
@@ -533,9 +538,9 @@ EQUAL_KEYS = {
 BY_HAND = {"4.3": " (tested by hand)"}
 
 
-def checked(data: bytes, subject: str = "value", version: str = "4.0") -> Printed:
+def checked(data: bytes, subject: str = "value", version: str = "4.0", depth: int = DEPTH) -> Printed:
     """Of `amqp_show --check rabbitmq-VERSION`, with `--table` or without it."""
-    found = Dissection(data, subject)
+    found = Dissection(data, subject, depth=depth)
     text = judged(found, version)
     said, status = ending(found)
     return instead(data, subject) or (text, guess(found) + said, status)
@@ -547,7 +552,7 @@ def judged(found: Dissection, version: str = "4.0") -> str:
     try:
         if extent(found.data) > FRAME:
             raise Failure(0, too_large(found.data, found.left_out))
-        taken(found.data)
+        taken(found.data, depth=found.depth)
         lines += warned(found, version)
         verdict, found.failure = f"accepts it{', except as the warnings say' * bool(lines)}", None
     except Failure as failure:
@@ -763,7 +768,7 @@ def inputs() -> Iterator[bytes]:
         yield field(b"S", b"\xc3\xa9" * (size // 2))
     for size in (0, 1, 40, 255):
         yield from (field(b"F", bytes([size]) + b"k" * size + it) for it in (b"V", b"t\7", b"z", b""))
-    for count in (1, 2, 63, 64, 65, 200):
+    for count in (1, 2, 31, 32, 33, 200):
         yield from (nested(tag, count, inside) for tag in "AF" for inside in (b"V", b"z", b"I\0", b"A\0\0\0\0"))
     yield field(b"S", b"\7" * (FRAME - 5))
     yield field(b"S", b"\7" * (FRAME - 4))

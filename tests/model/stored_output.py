@@ -25,7 +25,6 @@ COLOURS = re.compile(r"\x1b\[\d*m")
 NEWEST = ".".join(max(it.split(".") for it in VERSIONS)[:2])
 # What the model doesn't predict: words of amqp_show, and cases; and the words that have a value.
 OTHERS = {
-    "--depth",
     "--max-bytes",
     "--raw",
     "--help",
@@ -67,15 +66,16 @@ def predicted_of_input(words: Sequence[str], data: bytes, model: Any = printed) 
     """What amqp_show prints of an input with these words."""
     subject = "table" if "--table" in words else "value"
     form = "bytes" if "--bytes" in words else "JSON" if "--json" in words else "tree"
+    depth = int(words[words.index("--depth") + 1]) if "--depth" in words else model.DEPTH
     if "--check" in words:
         version = words[words.index("--check") + 1].partition("-")[2] or NEWEST
-        found: Printed = model.checked(data, subject, version)
+        found: Printed = model.checked(data, subject, version, depth)
     elif "--stream" in words:
-        found = model.streamed(data)[form]
+        found = model.streamed(data, depth)[form]
     elif form == "JSON":
-        found = model.printed_json(data, subject)
+        found = model.printed_json(data, subject, depth=depth)
     else:
-        found = model.printed(data, form, "--canonical" in words, subject)
+        found = model.printed(data, form, "--canonical" in words, subject, depth=depth)
     return found
 
 

@@ -89,9 +89,9 @@ def test_options(client: Client) -> None:
     assert codec(client).read(nested_twice, 0)[0] == {"k": [{"a": False}]}
     assert isinstance(codec(client, equal_keys="refuse", exact=False).read(nested_twice, 0)[0], Refused)
     assert error_of(lambda: codec(client, equal_keys="refuse", raises=True).read(TWICE, 0)) is unread(client)
-    deep = nested("F", 64, b"V")[1:]
+    deep = nested("F", 32, b"V")[1:]
     assert type(codec(client).read(deep, 0)[0]) is Headers
-    assert isinstance(codec(client, depth=63).read(deep, 0)[0], Refused)
+    assert isinstance(codec(client, depth=31).read(deep, 0)[0], Refused)
     assert isinstance(codec(client, max_bytes=len(TWICE)).read(TWICE, 0)[0], Refused)
     assert type(codec(client, max_bytes=len(TWICE) + 1).read(TWICE, 0)[0]) is Headers
     # (a connection may have larger frames than RabbitMQ's usual one)
@@ -99,10 +99,10 @@ def test_options(client: Client) -> None:
     assert len(large) == FRAME - 1 and codec(client).write(codec(client).read(large, 0)[0]) == large
     assert isinstance(codec(client).read(raw(("F", {b"k": ("S", b"a" * (FRAME - 11))}))[1:], 0)[0], Refused)
     table: dict[str, Any] = {}
-    for _ in range(63):
+    for _ in range(31):
         table = {"k": table}
-    assert codec(client, depth=64).write(table)
-    assert error_of(lambda: codec(client, depth=63).write(table)) in unwritten(client)
+    assert codec(client, depth=32).write(table)
+    assert error_of(lambda: codec(client, depth=31).write(table)) in unwritten(client)
     assert error_of(lambda: codec(client, raises=True).read(deep + b"z", 1)) is unread(client)
     assert error_of(lambda: codec(client, raises=True, depth=9).read(deep, 0)) is unread(client)
     call: Any = codec(client).read

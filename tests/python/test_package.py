@@ -263,7 +263,7 @@ def test_equal_keys(seed: int) -> None:
         for which in WHICH if data[:1] == b"F" else ():
             for key, it in own.loads(data, equal_keys=which, text="bytes").items():
                 assert shape(own.find(data, key, equal_keys=which, text="bytes")) == shape(it)
-        places = doubtful(data, 64)["repeated_key"][:1]
+        places = doubtful(data, own.DEPTH)["repeated_key"][:1]
         wanted = ("equal keys", places[0], 0) if places else None
         refused += bool(places)
         how: dict[str, Any] = {"equal_keys": "refuse", "keys": make.choice(HOW), "text": "bytes"}
@@ -369,17 +369,17 @@ def test_depth() -> None:
             data = own.dumps(value, depth=levels)
             assert own_error(lambda: own.loads(data, depth=levels - 1)) is not None
             assert own.dumps(own.loads(data, depth=levels), depth=levels) == data
-    assert own.DEPTH == 64 and own_error(lambda: own.dumps(nest(65))) == ("too deep", 5 * 64, 0)
-    assert own.loads(own.dumps(nest(64))) == nest(64)
+    assert own.DEPTH == 32 and own_error(lambda: own.dumps(nest(33))) == ("too deep", 5 * 32, 0)
+    assert own.loads(own.dumps(nest(32))) == nest(32)
     for keys in HOW:
-        assert own_error(lambda: own.loads(nested("A", 65, b""), keys=keys)) == ("too deep", 5 * 64, 0)
-        assert own_error(lambda: own.loads_table(nested("F", 65, b"V")[1:], keys=keys)) == ("too deep", 7 * 64 - 1, 0)
+        assert own_error(lambda: own.loads(nested("A", 33, b""), keys=keys)) == ("too deep", 5 * 32, 0)
+        assert own_error(lambda: own.loads_table(nested("F", 33, b"V")[1:], keys=keys)) == ("too deep", 7 * 32 - 1, 0)
     for call in (own.loads, own.dumps, own.loads_table, own.dumps_table):
         for depth in (-1, own.MOST_DEPTH + 1, 2**100):
             assert own_error(lambda: call(b"", depth=depth)) == ("bad option", 0, 0)  # type: ignore[operator]
     cycle: list[Any] = []
     cycle.append({"a": cycle})
-    assert own_error(lambda: own.dumps(cycle)) == ("too deep", 32 * 12, 0)
+    assert own_error(lambda: own.dumps(cycle)) == ("too deep", 16 * 12, 0)
 
 
 def nest(levels: int) -> list[Any]:
@@ -455,7 +455,7 @@ WRITES: list[tuple[Any, tuple[str, int, int], tuple[Any, ...]]] = [
     ([own.Encoded(b"z")], ("unknown tag", 5, 0), (0,)),
     ({"k": own.Encoded(b"S\0\0\0\5ab")}, ("cut", 7, 3), ("k",)),
     ([own.Encoded(b"VV")], ("trailing bytes", 6, 0), (0,)),
-    ([own.Encoded(nested("A", 64, b""))], ("too deep", 5 + 5 * 63, 0), (0,)),
+    ([own.Encoded(nested("A", 32, b""))], ("too deep", 5 + 5 * 31, 0), (0,)),
 ]
 
 

@@ -47,7 +47,7 @@ VALUES: dict[str, Any] = {
     "nothing": None,
     **{f"list {it}": it for it in ([], [1], [1, None, {"k": True}], [[[]], "", [-1]], ["a", 2, [3.5]])},
     **{f"table {it}": it for it in ({}, {"a": {}}, {"b": 1, "a": {"d": -1, "c": [{"f": "x", "e": None}]}})},
-    "30 tables": deep(30), "60 lists": deep(60, True), "tuple": (1, "a"),
+    "31 tables": deep(31), "31 lists": deep(31, True), "tuple": (1, "a"),
 }  # fmt: skip
 KEYS: dict[str, Any] = {
     **{f"key {it!r}": {it: 1} for it in ("", "a", "x-match", "grüß 漢", " \0\n", "k" * 128, "k" * 129, "k" * 255)},
@@ -61,7 +61,7 @@ WRONG: dict[str, Any] = {
     **{f"decimal {it}": {"v": Decimal(it)} for it in ("NaN", "Infinity", "1E+20", "1E-256", "2147483648")},
     "1969": {"v": datetime(1969, 12, 31)}, "object": {"v": object()}, "set": {"v": {1}}, "surrogate": {"v": "\ud800"},
     "key of 256": {"k" * 256: 1}, "number as key": {1: 2}, "key of 258 bytes": {"漢" * 86: 1},
-    "65 tables": deep(65), "200 lists": {"v": deep(200, True)}, "3000 tables": deep(3000),
+    "33 tables": deep(33), "200 lists": {"v": deep(200, True)}, "3000 tables": deep(3000),
     "inside": {"v": [{"k": object()}]},
 }  # fmt: skip
 

@@ -15,7 +15,7 @@ from tests.model.tables import decimal, float_of, number, text
 EPOCH, LAST_SECOND = datetime(1970, 1, 1), 253402300799
 UTC = timezone.utc
 # The levels that the adapters read.
-DEPTH = 64
+DEPTH = 32
 # A value by its type tag and content; of a table all its pairs.
 Read = tuple[str, Any]
 

@@ -101,8 +101,8 @@ fn pairs(count: usize) -> Vec<u8> {
 #[test]
 fn nesting_up_to_the_limit_is_read_and_no_deeper() {
     let tagged = [&b"F"[..], &nested(b'F', 20_000)].concat();
-    under(LIMITS, &[(table, nested(b'F', 64), READ), (array, nested(b'A', 64), READ), (value, tagged, DEEP)]);
-    for levels in [65, 258, 2_255, 3_000, 20_000] {
+    under(LIMITS, &[(table, nested(b'F', 32), READ), (array, nested(b'A', 32), READ), (value, tagged, DEEP)]);
+    for levels in [33, 258, 2_255, 3_000, 20_000] {
         let (tables, arrays) = (nested(b'F', levels), nested(b'A', levels));
         under(LIMITS, &[(table, tables.clone(), DEEP), (table_in_halves, tables, DEEP), (array, arrays, ERROR)]);
     }
@@ -149,7 +149,7 @@ fn a_process_may_choose_what_a_refused_table_becomes() {
     under(Limits { values: 10, ..errors }, &[(table, pairs(10), ERROR)]);
     under(LIMITS, &[(table, key_not_utf8.clone(), EOF)]);
     let rows: [Row<'_>; 3] =
-        [(table, key_not_utf8, MALFORMED), (table, nested(b'F', 65), DEEP), (array, counted(b"z"), EOF)];
+        [(table, key_not_utf8, MALFORMED), (table, nested(b'F', 33), DEEP), (array, counted(b"z"), EOF)];
     under(Limits { refused: Refused::MarkedIfMalformed, ..LIMITS }, &rows);
 }
 

@@ -52,8 +52,8 @@ CASES = {
     "with a type tag": (b"F" + headers(deaths(count(6))), NONE),
     "truncated": (headers(deaths(count(6)))[:-1], NONE),
     "a key that isn't UTF-8": (headers(deaths(count(6)), b"\x01\xffV"), NONE),
-    "64 levels": (headers(deaths(count(9)), b"\x01a" + nested("A", 63, b"")), 9),
-    "65 levels": (headers(deaths(count(9)), b"\x01a" + nested("A", 64, b"")), NONE),
+    "32 levels": (headers(deaths(count(9)), b"\x01a" + nested("A", 31, b"")), 9),
+    "33 levels": (headers(deaths(count(9)), b"\x01a" + nested("A", 32, b"")), NONE),
 }
 # (RabbitMQ counted these deaths)
 COUNTED = {f"x-death-after-{it}": it for it in (1, 2, 3, 4)} | {"x-death-quorum-queue": 1}

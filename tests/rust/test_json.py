@@ -56,9 +56,9 @@ def rows(make: Random) -> Iterator[Row]:
             data = damaged(make, data) if make.random() < 0.3 else data
             # (the limit on bytes is another test's)
             if extent(data) < 2**32:
-                yield of_bytes(data, make.choice([0, 1, 2, 64]), number % 2 if data[:1] == b"F" else 0)
+                yield of_bytes(data, make.choice([0, 1, 2, 32]), number % 2 if data[:1] == b"F" else 0)
         for text in texts(make, [value]):
-            yield of_text(text, make.choice([1, 3, 64, 127, 2**32 - 1]), number % 3 == 0)
+            yield of_text(text, make.choice([1, 3, 32, 127, 2**32 - 1]), number % 3 == 0)
     for form in ("A", "F", "AF"):
         for levels in (1, 126, 127, 128, MOST_DEPTH, MOST_DEPTH + 1):
             data = nested(form, levels, b"V")

@@ -249,6 +249,6 @@ encode_beyond_depth
   [1]
 
 encode_default_depth
-  $ echo '[[[[[[[[[[[[[[[[[[[[[[[[[[[[[[[[[[[[[[[[[[[[[[[[[[[[[[[[[[[[[[[[[]]]]]]]]]]]]]]]]]]]]]]]]]]]]]]]]]]]]]]]]]]]]]]]]]]]]]]]]]]]]]]]]]' | amqp_show --encode
-  2> amqp_show: "-": more than the 64 levels of --depth at byte 64: []]]]]]]]]]]]]]]]]]]]]]]]]]]]]
+  $ echo '[[[[[[[[[[[[[[[[[[[[[[[[[[[[[[[[[]]]]]]]]]]]]]]]]]]]]]]]]]]]]]]]]]' | amqp_show --encode
+  2> amqp_show: "-": more than the 32 levels of --depth at byte 32: []]]]]]]]]]]]]]]]]]]]]]]]]]]]]
   [1]

@@ -21,7 +21,7 @@ from tests.show.running import as_ending, shown
 
 COUNT = 2000
 # What is printed, and the words that have it printed.
-Forms = dict[str, tuple[str, Callable[[bytes], Printed]]]
+Forms = dict[str, tuple[str, Callable[..., Printed]]]
 FORMS: Forms = {
     "tree": ("", printed.printed),
     "parts with notes": ("--bytes --canonical", partial(printed.printed, form="bytes", asks_notes=True)),
@@ -89,11 +89,18 @@ def test_others(program: Path, name: str) -> None:
     """Numbers at every edge, containers as deep as they may be and one deeper, and what brokers and clients sent."""
     given = {
         "numbers": [*printed.numbers(Random(9))],
-        "nested": [printed.nested(form, count, b"") for form in ("A", "F", "FA") for count in (32, 33, 64, 65)],
+        "nested": [printed.nested(form, count, b"") for form in ("A", "F", "FA") for count in (31, 32, 33)],
         "captured": [*printed.captured().values()],
     }[name]
     for words, wants_of in FORMS.values():
         assert wrong(program, given, words, wants_of) == []
+
+
+def test_depth(program: Path) -> None:
+    """64 levels are indented, and RabbitMQ's warnings are of more than 32."""
+    given = [printed.nested(form, count, b"") for form in ("A", "F", "FA") for count in (33, 64, 65, 66, 67)]
+    for words, wants_of in FORMS.values():
+        assert wrong(program, given, f"{words} --depth 66", partial(wants_of, depth=66)) == []
 
 
 # Large tables

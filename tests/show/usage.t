@@ -21,7 +21,7 @@ help
         --canonical      Mark what isn't canonical, in a tree or parts
         --check <PEER>   Show why a peer closes the connection, or else warnings [possible values: rabbitmq, rabbitmq-3.10, rabbitmq-4.0, rabbitmq-4.3]
         --max-bytes <N>  Reject values of more than N bytes [default: 1048576]
-        --depth <N>      Reject containers that nest more than N deep, at most 1000 [default: 64]
+        --depth <N>      Reject containers that nest more than N deep, at most 1000 [default: 32]
     -h, --help           Print help
     -V, --version        Print version
 

@@ -118,7 +118,7 @@ def loads(
     equal_keys: _EqualKeys = "last",
     signed_decimals: bool = False,
     finite: bool = False,
-    depth: int = 64,
+    depth: int = 32,
     max_bytes: int = 1048576,
 ) -> Any: ...
 @overload
@@ -132,7 +132,7 @@ def loads_table(
     equal_keys: _EqualKeys = "last",
     signed_decimals: bool = False,
     finite: bool = False,
-    depth: int = 64,
+    depth: int = 32,
     max_bytes: int = 1048576,
 ) -> dict[str, Any]: ...
 @overload
@@ -146,7 +146,7 @@ def loads_table(
     equal_keys: _EqualKeys = "last",
     signed_decimals: bool = False,
     finite: bool = False,
-    depth: int = 64,
+    depth: int = 32,
     max_bytes: int = 1048576,
 ) -> dict[Union[str, bytes], Any]: ...
 @overload
@@ -161,7 +161,7 @@ def decode_table(
     equal_keys: _EqualKeys = "last",
     signed_decimals: bool = False,
     finite: bool = False,
-    depth: int = 64,
+    depth: int = 32,
     max_bytes: int = 1048576,
 ) -> tuple[dict[str, Any], int]: ...
 @overload
@@ -176,7 +176,7 @@ def decode_table(
     equal_keys: _EqualKeys = "last",
     signed_decimals: bool = False,
     finite: bool = False,
-    depth: int = 64,
+    depth: int = 32,
     max_bytes: int = 1048576,
 ) -> tuple[dict[Union[str, bytes], Any], int]: ...
 def find(
@@ -191,7 +191,7 @@ def find(
     equal_keys: _EqualKeys = "last",
     signed_decimals: bool = False,
     finite: bool = False,
-    depth: int = 64,
+    depth: int = 32,
     max_bytes: int = 1048576,
 ) -> Any: ...
 def dumps(
@@ -203,7 +203,7 @@ def dumps(
     naive_datetimes: bool = False,
     signed_decimals: bool = False,
     finite: bool = False,
-    depth: int = 64,
+    depth: int = 32,
 ) -> bytes: ...
 def dumps_table(
     mapping: _Table,
@@ -214,14 +214,14 @@ def dumps_table(
     naive_datetimes: bool = False,
     signed_decimals: bool = False,
     finite: bool = False,
-    depth: int = 64,
+    depth: int = 32,
 ) -> bytes: ...
-def to_json(data: _Data, /, *, table: bool = False, depth: int = 64, max_bytes: int = 1048576) -> str: ...
+def to_json(data: _Data, /, *, table: bool = False, depth: int = 32, max_bytes: int = 1048576) -> str: ...
 def from_json(
     text: Union[str, _Data],
     /,
     *,
     table: bool = False,
-    depth: int = 64,
+    depth: int = 32,
     max_bytes: int = 1048576,
 ) -> bytes: ...

@@ -3,6 +3,8 @@
 
 /* How many bytes the JSON of a value has at most for each byte of its encoding. */
 enum { JSON_FOR_A_BYTE = 12 };
+/* How deep amqpv_from_json lets brackets nest at most. */
+enum { MOST_BRACKETS = 127 };
 
 /* A buffer that a call writes to; it is called again if it needs more room. */
 typedef struct {
@@ -100,7 +102,7 @@ static void raise_wrong_text(const State *state, const Options *how, amqpv_resul
     case AMQPV_NOT_UTF8: raise_error(state, "text not UTF-8", offset, 0, "bytes in UTF-8"); break;
     case AMQPV_TOO_DEEP:
         raise_error(state, "too deep", offset, 0, "brackets nested at most %u deep",
-                    (unsigned)(how->depth < AMQPV_JSON_NESTING ? how->depth : AMQPV_JSON_NESTING));
+                    (unsigned)(how->depth < MOST_BRACKETS ? how->depth : MOST_BRACKETS));
         break;
     case AMQPV_NO_ENCODING: raise_error(state, "too large", 0, 0, "less than 4 GiB"); break;
     default: PyErr_NoMemory();

@@ -353,8 +353,8 @@ static PyObject *from_json(PyObject *module, PyObject *const *arguments, Py_ssiz
 #define READ_OPTIONS \
     "keys='strict', text='strict', plain=False, equal_keys='last', " OPTIONS_OF_BOTH ", max_bytes=1048576"
 #define WRITE_OPTIONS "keys='strict', text='strict', naive_datetimes=False, " OPTIONS_OF_BOTH
-#define OPTIONS_OF_BOTH "signed_decimals=False, finite=False, depth=64"
-#define JSON_OPTIONS "table=False, depth=64, max_bytes=1048576"
+#define OPTIONS_OF_BOTH "signed_decimals=False, finite=False, depth=32"
+#define JSON_OPTIONS "table=False, depth=32, max_bytes=1048576"
 #define CALL(name, how, doc) \
     { #name, (PyCFunction)(void (*)(void))name, METH_FASTCALL | METH_KEYWORDS, #name how "\n--\n\n" doc }
 
@@ -368,7 +368,7 @@ static PyObject *from_json(PyObject *module, PyObject *const *arguments, Py_ssiz
     "    equal_keys='last'      of equal keys in a table the last counts; 'first', or 'refuse', which raises an Error\n" \
     "    signed_decimals=False  True for decimals that pika or py-amqp wrote, of 32 bits with a sign\n" \
     "    finite=False           True raises an Error for infinities and NaNs, for which RabbitMQ closes the connection\n" \
-    "    depth=64               how deep containers nest at most, up to MOST_DEPTH\n" \
+    "    depth=32               how deep containers nest at most, up to MOST_DEPTH\n" \
     "    max_bytes=1048576      how many bytes the value has at most, the type tag of a table counted\n\n"
 #define HELP_WRITING \
     "\nOptions, by name:\n\n" \
@@ -377,11 +377,11 @@ static PyObject *from_json(PyObject *module, PyObject *const *arguments, Py_ssiz
     "    naive_datetimes=False  True writes a datetime without a time zone, as of UTC\n" \
     "    signed_decimals=False  True writes decimals of 32 bits with a sign, as pika and py-amqp do\n" \
     "    finite=False           True raises an Error for infinities and NaNs\n" \
-    "    depth=64               how deep containers nest at most, up to MOST_DEPTH\n\n"
+    "    depth=32               how deep containers nest at most, up to MOST_DEPTH\n\n"
 #define HELP_JSON \
     "\nOptions, by name:\n\n" \
     "    table=False            True for a table without its type tag\n" \
-    "    depth=64               how deep containers nest at most, up to MOST_DEPTH; in a text brackets count, up to 127\n" \
+    "    depth=32               how deep containers nest at most, up to MOST_DEPTH; in a text brackets count, up to 127\n" \
     "    max_bytes=1048576      how many bytes the value has at most, the type tag of a table counted; a text has at most 12\n" \
     "                           times as many\n\n"
 

@@ -23,8 +23,8 @@ pub struct Limits {
 }
 
 impl Limits {
-    /// 1 MiB, 64 levels, and 16384 values, which take up to 12 MB.
-    pub const DEFAULT: Self = Self { max_bytes: 1 << 20, depth: 64, values: 1 << 14, refused: Refused::Marked };
+    /// 1 MiB, 32 levels, and 16384 values, which take up to 12 MB.
+    pub const DEFAULT: Self = Self { max_bytes: 1 << 20, depth: 32, values: 1 << 14, refused: Refused::Marked };
 }
 
 impl Default for Limits {

@@ -8,7 +8,7 @@ use std::alloc::{AllocError, Global};
 // no known peer comes near.
 const MAX_BYTES: u32 = 1_048_576;
 
-const DEPTH: u32 = 64;
+const DEPTH: u32 = 32;
 
 // The greatest depth that may be asked for. A level of JSON takes about a kilobyte of the stack, of
 // which programs usually have 8 MiB.
@@ -203,7 +203,7 @@ pub fn command<'a>(alloc: Global) -> Result<Command<'a>, AllocError> {
         "Reject values of more than N bytes",
     );
     let deep = "Reject containers that nest more than N deep, at most 1000";
-    let depth = number(alloc, "depth", "64", deep).value_parser(value_parser!(u32).range(
+    let depth = number(alloc, "depth", "32", deep).value_parser(value_parser!(u32).range(
         0..=DEEPEST,
     ));
     let files = Arg::new(alloc, "FILE")

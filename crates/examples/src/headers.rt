@@ -15,7 +15,7 @@ pub(crate) const HEADERS: &[u8] = b"\0\0\0\x5a\x05retryt\x01\x07x-deathA\0\0\0\x
 /// Limits for headers, which anyone may have sent.
 pub(crate) const LIMITS: Limits = Limits {
     frame: 1_048_576,
-    depth: 64,
+    depth: 32,
 };
 
 /// The value at a key.

@@ -9,7 +9,7 @@ use anyhow::Result;
 fn deaths(headers: &[u8]) -> Result<Option<i64>, ParserError> {
     let limits = Limits {
         frame: 1_048_576,
-        depth: 64,
+        depth: 32,
     };
     let (headers, _rest) = read_table_in_place(headers, limits)?;
     let path = [

@@ -12,7 +12,7 @@ const STREAM: &[u8] = b"VS\0\0\0\x04testS\0\x10\0\0";
 pub fn run<P: Print>(rt: &P, alloc: Global) -> Result<()> {
     let limits = Limits {
         frame: 1_048_576,
-        depth: 64,
+        depth: 32,
     };
     let mut values = ValueReader::new(alloc, STREAM, limits);
     for _ in 0..10 {

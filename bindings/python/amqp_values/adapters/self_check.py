@@ -45,7 +45,7 @@ WRITTEN = {
     "a boolean": True, "5": 5, "-2^20": -(2**20), "2^40": 2**40, "-2^40": -(2**40), "a str": "hü", "None": None, "a list": [None, 300],
     "a dict": {"a": True}, "a Decimal": Decimal("1.5"), "a datetime": datetime(2027, 1, 15, 8),
 }  # fmt: skip
-DEEP, CUT = deep(65), b"\0\0\1\0\1kV"
+DEEP, CUT = deep(33), b"\0\0\1\0\1kV"
 
 
 def probed(client: "Client") -> dict[str, str]:

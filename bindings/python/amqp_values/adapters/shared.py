@@ -191,7 +191,7 @@ class Client:
 
         Options, by name:
 
-            depth=64           how deep containers nest at most, up to MOST_DEPTH; a deeper table is a `Refused`
+            depth=32           how deep containers nest at most, up to MOST_DEPTH; a deeper table is a `Refused`
             max_bytes=1048576  how many bytes a table has at most, its type tag counted; a larger one is a `Refused`
             equal_keys="last"  of equal keys in a table the last counts; "first", or "refuse": such a table is a `Refused`
             exact=True         headers keep their bytes, which are sent if they are published unchanged; False for a `dict`

@@ -164,7 +164,7 @@ pub(crate) fn from_json(text: &str, limits: Limits) -> Result<Vec<u8>, Error> {
     let mut problem = amqpv_problem::default();
     let encoding = written(text.len(), |buffer, capacity, length| {
         // SAFETY: `text` can be read, and the buffer written; `length` and `problem` are borrowed alone, and brackets nest at most
-        // AMQPV_JSON_NESTING deep, for which the stack suffices
+        // 127 deep, for which the stack suffices
         unsafe { amqpv_from_json(text.as_ptr(), text.len(), limits.depth, buffer, capacity, length, &mut problem) }
     });
     match encoding {

@@ -26,8 +26,8 @@ pub struct Limits {
 }
 
 impl Limits {
-    /// 1 MiB, 64 levels, and 16384 values: limits that suit untrusted bytes.
-    pub const DEFAULT: Self = Self { max_bytes: 1 << 20, depth: 64, values: 1 << 14 };
+    /// 1 MiB, 32 levels, and 16384 values: limits that suit untrusted bytes.
+    pub const DEFAULT: Self = Self { max_bytes: 1 << 20, depth: 32, values: 1 << 14 };
 
     /// The most levels: the stack that they take is less than the 2 MiB that a thread of `std` has.
     pub const MOST_DEPTH: u32 = 4096;

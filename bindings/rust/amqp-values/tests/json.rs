@@ -166,7 +166,7 @@ fn stated(before: &str) -> usize {
 #[cfg(target_arch = "x86_64")]
 fn the_stack_that_is_stated_suffices() {
     let (besides, a_level) = (stated("more stack than reading: "), stated("each level "));
-    for depth in [64, 1024] {
+    for depth in [LIMITS.depth, 1024] {
         let limits = Limits { max_bytes: u32::MAX, depth, values: u32::MAX };
         let stack = (besides << 10) + a_level * depth as usize;
         let worker = std::thread::Builder::new().stack_size(stack).spawn(move || {

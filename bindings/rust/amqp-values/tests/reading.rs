@@ -177,7 +177,7 @@ fn stated(before: &str) -> usize {
 #[cfg(target_arch = "x86_64")]
 fn the_stack_that_limits_state_suffices() {
     let (besides, a_level) = (stated("stack has to suffice: "), stated("each level of `depth` "));
-    for depth in [64, Limits::MOST_DEPTH] {
+    for depth in [LIMITS.depth, Limits::MOST_DEPTH] {
         let limits = Limits { max_bytes: u32::MAX, depth, values: u32::MAX };
         let stack = (besides << 10) + a_level * depth as usize;
         let worker = std::thread::Builder::new().stack_size(stack).spawn(move || {
@@ -219,7 +219,7 @@ fn warnings_are_of_what_rabbitmq_accepts() {
         assert_eq!(found.repeated_key.map(|it| it - 1), in_table.repeated_key);
         found
     };
-    assert_eq!(warned(b"\x01kV", 0, rabbitmq::CLIENT_LEVELS), rabbitmq::Warnings::default());
+    assert_eq!(warned(b"\x01kV", 0, LIMITS.depth), rabbitmq::Warnings::default());
     let found = warned(b"\x01kV\x01\xffV\0V\x01kF\0\0\0\0\x01dD\0\0\0\0\0", 16, 1);
     assert_eq!((found.repeated_key, found.key_not_utf8, found.empty_key), (Some(13), Some(8), Some(11)));
     assert_eq!((found.too_deep, found.decimal, found.nested_header), (Some(15), Some(22), Some(15)));
@@ -228,8 +228,8 @@ fn warnings_are_of_what_rabbitmq_accepts() {
 
 #[test]
 fn only_what_rabbitmq_accepts_has_warnings() {
-    let warned = |bytes: &[u8]| rabbitmq::warnings(bytes, LIMITS, 0, rabbitmq::CLIENT_LEVELS);
-    let in_table = |bytes: &[u8]| rabbitmq::warnings_in_table(bytes, LIMITS, 0, rabbitmq::CLIENT_LEVELS);
+    let warned = |bytes: &[u8]| rabbitmq::warnings(bytes, LIMITS, 0, LIMITS.depth);
+    let in_table = |bytes: &[u8]| rabbitmq::warnings_in_table(bytes, LIMITS, 0, LIMITS.depth);
     // headers as they come, without a type tag
     let headers = &counted(b'F', b"\x01kA\0\0\0\0")[1..];
     assert_eq!(problem(warned(headers)), Some((ProblemKind::UnknownTag(0), 0)));
@@ -258,8 +258,8 @@ fn test_much_memory() {
     let body: Vec<u8> = (0..40_000).rev().flat_map(|key| format!("\x07{key:07}V").into_bytes()).collect();
     let bytes = counted(b'F', &body);
     let none = Ok(rabbitmq::Warnings::default());
-    assert_eq!(rabbitmq::warnings(&bytes, LIMITS, 0, rabbitmq::CLIENT_LEVELS), none);
-    assert_eq!(rabbitmq::warnings_in_table(&bytes[1..], LIMITS, 0, rabbitmq::CLIENT_LEVELS), none);
+    assert_eq!(rabbitmq::warnings(&bytes, LIMITS, 0, LIMITS.depth), none);
+    assert_eq!(rabbitmq::warnings_in_table(&bytes[1..], LIMITS, 0, LIMITS.depth), none);
     let limits = Limits { values: u32::MAX, ..LIMITS };
     let pairs: Vec<_> = (0..40_000).map(|key| format!("\"{key:07}\":null")).collect();
     let (ascending, text) = (format!("{{{}}}", pairs.join(",")), "x".repeat(1 << 20));
