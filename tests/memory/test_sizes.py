@@ -92,7 +92,7 @@ def test_nested(check: nesting.Check) -> None:
     assert check.wrong(program("test_calls")) == ""
 
 
-@pytest.mark.parametrize("page", ("README.md", "SECURITY.md", "docs/PROMISES.md", "docs/VERIFICATION.md"))
+@pytest.mark.parametrize("page", ("README.md", "docs/LIMITS.md"))
 @pytest.mark.parametrize("form", "AF")
 def test_stack_of_unlimited_parsing(page: str, form: str) -> None:
     """So many nested arrays or tables overflow the stack, as the page says, and half as many don't."""

@@ -152,7 +152,7 @@ CALLS = calls(
 def table(column: int = 0) -> tuple[dict[str, int], int]:
     """What a level takes of each call by the page, on x86-64 or of those for C on aarch64, and what a call takes besides."""
     section = PAGE.read_text().partition(HEADING)[2].partition("\n## ")[0]
-    rows = re.findall(r"(?m)^\| (.*) \| ([\d,]+) \| ([\d,]*) ?\|$", section)
+    rows = re.findall(r"(?m)^\|(.*)\|([\d,]+)\|([\d,]*)\|$", section)
     figures = {
         name: int(of[column].replace(",", ""))
         for cell, *of in rows
