@@ -1,5 +1,6 @@
 """The package amqp_values, by the model."""
 
+import ast
 import copy
 import doctest
 import inspect
@@ -596,6 +597,15 @@ def test_signatures_are_those_of_the_types() -> None:
         assert [it.partition("=")[0] for it in str(signature)[1:-1].split(", ")] == names, name
         for option, default in re.findall(r"(\w+): [^,=]+ = ([^,]+)", typed):
             assert repr(signature.parameters[option].default) == default.strip().replace('"', "'")
+
+
+def test_docstrings_are_those_of_the_types() -> None:
+    """What an editor shows of a function, of which it sees only the types, is what `help` prints."""
+    tree = ast.parse((TOP / "bindings/python/amqp_values/__init__.pyi").read_text())
+    # (of several types of a function the first one has it)
+    functions = [it for it in reversed(tree.body) if isinstance(it, ast.FunctionDef)]
+    shown = {it.name: ast.get_docstring(it) for it in functions}
+    assert shown == {it: inspect.getdoc(getattr(own, it)) for it in own.__all__ if inspect.isroutine(getattr(own, it))}
 
 
 @pytest.mark.parametrize(("name", "has_other"), (("loads", ""), ("dumps", ""), ("to_json", ""), ("find", "loads")))

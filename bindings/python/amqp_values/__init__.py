@@ -18,9 +18,9 @@ Each type is one of Python, or a class that is a number or bytes there:
     l  LongLongInt     int                         T  Timestamp     Timestamp, an int, in seconds since 1970
                                                    V  Void          None
 
-So `dumps(loads(data))` is `data`, but for what can be written in two ways: the alternate tags U and L become s and l, a true
-that isn't 1 becomes 1, and of equal keys in a table one is kept. What isn't read or can't be written raises `Error`; besides
-it only TypeError, for an object of no type that a hint allows, and MemoryError come.
+So `dumps(loads(data))` is `data`, except for what can be written in two ways: the alternate tags U and L become s and l, a
+true that isn't 1 becomes 1, and of equal keys in a table one is kept. Bytes that can't be read and values that can't be written
+raise `Error`. The only other exceptions are TypeError, for an object of a type that no hint allows, and MemoryError.
 
 `help(loads)` has the options of reading, `help(dumps)` those of writing, and `help(to_json)` those of JSON.
 """

@@ -120,7 +120,29 @@ def loads(
     finite: bool = False,
     depth: int = 32,
     max_bytes: int = 1048576,
-) -> Any: ...
+) -> Any:
+    r"""Returns the value that the bytes encode, with its type tag. No byte may follow it.
+
+    Raises an Error if the bytes aren't such a value, or if it is beyond the limits: `kind`, `offset` and `expected`
+    say what is wrong and where, and `missing` how many more bytes the cut field needs. Data that isn't bytes, a
+    bytearray or a memoryview raises a TypeError.
+
+    Options, by name:
+
+        keys='strict'          a key that isn't UTF-8 raises an Error; 'bytes' makes it bytes, 'surrogateescape' a str
+                               with surrogates, as in the names of files
+        text='strict'          the same of a string, which 'bytes' makes a LongString
+        plain=False            True for int, float, bytes, and a datetime in UTC for a Timestamp, not own classes
+        equal_keys='last'      of equal keys in a table the last counts; 'first', or 'refuse', which raises an Error
+        signed_decimals=False  True for decimals that pika or py-amqp wrote, of 32 bits with a sign
+        finite=False           True raises an Error for infinities and NaNs, for which RabbitMQ closes the connection
+        depth=32               how deep containers nest at most, up to MOST_DEPTH
+        max_bytes=1048576      how many bytes the value has at most, the type tag of a table counted
+
+    >>> loads(b'A\0\0\0\x0cI\0\0\0\5t\1S\0\0\0\0')
+    [LongInt(5), True, '']
+    """
+
 @overload
 def loads_table(
     data: _Data,
@@ -134,7 +156,16 @@ def loads_table(
     finite: bool = False,
     depth: int = 32,
     max_bytes: int = 1048576,
-) -> dict[str, Any]: ...
+) -> dict[str, Any]:
+    r"""Returns the dict that the bytes encode as a table without its type tag: its length, then its pairs. No byte may
+    follow it. Errors and options are those of loads.
+
+    >>> loads_table(b'\0\0\0\4\1at\1')
+    {'a': True}
+    >>> loads_table(b'\0\0\0\4\1\xfft\1', keys='bytes')
+    {b'\xff': True}
+    """
+
 @overload
 def loads_table(
     data: _Data,
@@ -163,7 +194,14 @@ def decode_table(
     finite: bool = False,
     depth: int = 32,
     max_bytes: int = 1048576,
-) -> tuple[dict[str, Any], int]: ...
+) -> tuple[dict[str, Any], int]:
+    r"""Returns the table without its type tag that begins at an offset, and the offset of its end. Other bytes may
+    follow. Errors and options are those of loads; the offset of an Error counts from the start of the data.
+
+    >>> decode_table(b'..\0\0\0\4\1at\1..', 2)
+    ({'a': True}, 10)
+    """
+
 @overload
 def decode_table(
     data: _Data,
@@ -193,7 +231,23 @@ def find(
     finite: bool = False,
     depth: int = 32,
     max_bytes: int = 1048576,
-) -> Any: ...
+) -> Any:
+    r"""Returns the value at a path: keys into tables, and indexes from 0 into arrays. Returns the default if the path
+    leads nowhere. Only this value is built, but all of the data is checked as loads, or with table=True loads_table,
+    checks it, and raises the same errors.
+
+    Options, by name, and those of loads:
+
+        table=False            True for a table without its type tag, as headers and arguments are
+        default=None           what is returned if the path leads nowhere
+
+    >>> data = dumps_table({'x-death': [{'queue': 'orders', 'count': 3}]})
+    >>> find(data, 'x-death', 0, 'queue', table=True)
+    'orders'
+    >>> find(data, 'x-death', 1, 'queue', table=True, default='nowhere')
+    'nowhere'
+    """
+
 def dumps(
     value: Any,
     /,
@@ -204,7 +258,25 @@ def dumps(
     signed_decimals: bool = False,
     finite: bool = False,
     depth: int = 32,
-) -> bytes: ...
+) -> bytes:
+    r"""Returns the bytes of a value, with its type tag. The keys of a table keep their order.
+
+    Raises an Error if the value can't be written: `kind` and `expected` say why, and `path` leads to what can't. An
+    object of a type that has no encoding raises a TypeError.
+
+    Options, by name:
+
+        keys='strict'          'bytes' allows keys of any bytes, 'surrogateescape' str with such surrogates
+        text='strict'          'surrogateescape' allows str with such surrogates
+        naive_datetimes=False  True writes a datetime without a time zone, as of UTC
+        signed_decimals=False  True writes decimals of 32 bits with a sign, as pika and py-amqp do
+        finite=False           True raises an Error for infinities and NaNs
+        depth=32               how deep containers nest at most, up to MOST_DEPTH
+
+    >>> dumps([None, ShortInt(-2)])
+    b'A\x00\x00\x00\x04Vs\xff\xfe'
+    """
+
 def dumps_table(
     mapping: _Table,
     /,
@@ -215,8 +287,30 @@ def dumps_table(
     signed_decimals: bool = False,
     finite: bool = False,
     depth: int = 32,
-) -> bytes: ...
-def to_json(data: _Data, /, *, table: bool = False, depth: int = 32, max_bytes: int = 1048576) -> str: ...
+) -> bytes:
+    r"""Returns the bytes of a table without its type tag, as methods and content headers have it: its length, then its
+    pairs. Errors and options are those of dumps.
+
+    >>> dumps_table({'a': True})
+    b'\x00\x00\x00\x04\x01at\x01'
+    """
+
+def to_json(data: _Data, /, *, table: bool = False, depth: int = 32, max_bytes: int = 1048576) -> str:
+    r"""Returns the JSON of the value that the bytes encode, or with table=True of the table without its type tag. A
+    type that plain JSON doesn't have is an object with one key; keys ascend, and of equal keys the last counts. Errors
+    are those of loads.
+
+    Options, by name:
+
+        table=False            True for a table without its type tag
+        depth=32               how deep containers nest at most, up to MOST_DEPTH; in a text brackets count, up to 127
+        max_bytes=1048576      how many bytes the value has at most, the type tag of a table counted; a text has at most
+                               12 times as many
+
+    >>> to_json(dumps_table({'b': b'\1', 'a': [ShortInt(5), 5]}), table=True)
+    '{"a":[{"$ShortInt":5},5],"b":{"$ByteArray":"01"}}'
+    """
+
 def from_json(
     text: Union[str, _Data],
     /,
@@ -224,4 +318,14 @@ def from_json(
     table: bool = False,
     depth: int = 32,
     max_bytes: int = 1048576,
-) -> bytes: ...
+) -> bytes:
+    r"""Returns the encoding of the value that a JSON text means, with its type tag, or with table=True of a table
+    without it. It is the canonical one, in which keys ascend. The bracket of a named value counts for the depth. The
+    options are those of to_json.
+
+    Raises an Error if the text isn't the JSON of a value or a table, or if that is beyond the limits. Its offset counts
+    the characters of a str, or the bytes of any other text.
+
+    >>> loads_table(from_json('{"a": {"$ShortInt": 5}}', table=True))
+    {'a': ShortInt(5)}
+    """

@@ -361,10 +361,10 @@ static PyObject *from_json(PyObject *module, PyObject *const *arguments, Py_ssiz
 /* What help() says of the options, each with its default. */
 #define HELP_READING \
     "\nOptions, by name:\n\n" \
-    "    keys='strict'          a key that isn't UTF-8 raises an Error; 'bytes' makes it bytes, 'surrogateescape' a str with\n" \
-    "                           surrogates, as in the names of files\n" \
+    "    keys='strict'          a key that isn't UTF-8 raises an Error; 'bytes' makes it bytes, 'surrogateescape' a str\n" \
+    "                           with surrogates, as in the names of files\n" \
     "    text='strict'          the same of a string, which 'bytes' makes a LongString\n" \
-    "    plain=False            True for int, float, bytes, and a datetime in UTC for a Timestamp, in place of own classes\n" \
+    "    plain=False            True for int, float, bytes, and a datetime in UTC for a Timestamp, not own classes\n" \
     "    equal_keys='last'      of equal keys in a table the last counts; 'first', or 'refuse', which raises an Error\n" \
     "    signed_decimals=False  True for decimals that pika or py-amqp wrote, of 32 bits with a sign\n" \
     "    finite=False           True raises an Error for infinities and NaNs, for which RabbitMQ closes the connection\n" \
@@ -382,33 +382,37 @@ static PyObject *from_json(PyObject *module, PyObject *const *arguments, Py_ssiz
     "\nOptions, by name:\n\n" \
     "    table=False            True for a table without its type tag\n" \
     "    depth=32               how deep containers nest at most, up to MOST_DEPTH; in a text brackets count, up to 127\n" \
-    "    max_bytes=1048576      how many bytes the value has at most, the type tag of a table counted; a text has at most 12\n" \
-    "                           times as many\n\n"
+    "    max_bytes=1048576      how many bytes the value has at most, the type tag of a table counted; a text has at most\n" \
+    "                           12 times as many\n\n"
 
 static PyMethodDef FUNCTIONS[] = {
-    CALL(loads, "($module, data, /, *, " READ_OPTIONS ")",
-         "The value that all of the bytes are, with its type tag.\n" HELP_READING
-         ">>> loads(b'A\\0\\0\\0\\x0cI\\0\\0\\0\\5t\\1S\\0\\0\\0\\0')\n"
-         "[LongInt(5), True, '']\n"),
+    CALL(
+        loads, "($module, data, /, *, " READ_OPTIONS ")",
+        "Returns the value that the bytes encode, with its type tag. No byte may follow it.\n\n"
+        "Raises an Error if the bytes aren't such a value, or if it is beyond the limits: `kind`, `offset` and `expected`\n"
+        "say what is wrong and where, and `missing` how many more bytes the cut field needs. Data that isn't bytes, a\n"
+        "bytearray or a memoryview raises a TypeError.\n" HELP_READING
+        ">>> loads(b'A\\0\\0\\0\\x0cI\\0\\0\\0\\5t\\1S\\0\\0\\0\\0')\n"
+        "[LongInt(5), True, '']\n"),
     CALL(
         loads_table, "($module, data, /, *, " READ_OPTIONS ")",
-        "The table that all of the bytes are, without its type tag: its length, then its pairs. The options are those of loads.\n\n"
+        "Returns the dict that the bytes encode as a table without its type tag: its length, then its pairs. No byte may\n"
+        "follow it. Errors and options are those of loads.\n\n"
         ">>> loads_table(b'\\0\\0\\0\\4\\1at\\1')\n"
         "{'a': True}\n"
         ">>> loads_table(b'\\0\\0\\0\\4\\1\\xfft\\1', keys='bytes')\n"
         "{b'\\xff': True}\n"),
-    CALL(
-        decode_table, "($module, data, /, offset=0, *, " READ_OPTIONS ")",
-        "The table without its type tag that begins at an offset, and the offset of its end. Offsets of an Error count\n"
-        "from the start of the data. The options are those of loads.\n\n"
-        ">>> decode_table(b'..\\0\\0\\0\\4\\1at\\1..', 2)\n"
-        "({'a': True}, 10)\n"),
+    CALL(decode_table, "($module, data, /, offset=0, *, " READ_OPTIONS ")",
+         "Returns the table without its type tag that begins at an offset, and the offset of its end. Other bytes may\n"
+         "follow. Errors and options are those of loads; the offset of an Error counts from the start of the data.\n\n"
+         ">>> decode_table(b'..\\0\\0\\0\\4\\1at\\1..', 2)\n"
+         "({'a': True}, 10)\n"),
     CALL(
         find, "($module, data, /, *path, table=False, default=None, " READ_OPTIONS ")",
-        "The value at a path, keys into tables and indexes from 0 into arrays, or the default if there is none. Nothing\n"
-        "else is built, but all of the data is checked as loads, or with table=True loads_table, checks it; of equal keys\n"
-        "it takes the same as these.\n\n"
-        "Options, by name, besides those of loads:\n\n"
+        "Returns the value at a path: keys into tables, and indexes from 0 into arrays. Returns the default if the path\n"
+        "leads nowhere. Only this value is built, but all of the data is checked as loads, or with table=True loads_table,\n"
+        "checks it, and raises the same errors.\n\n"
+        "Options, by name, and those of loads:\n\n"
         "    table=False            True for a table without its type tag, as headers and arguments are\n"
         "    default=None           what is returned if the path leads nowhere\n\n"
         ">>> data = dumps_table({'x-death': [{'queue': 'orders', 'count': 3}]})\n"
@@ -416,27 +420,31 @@ static PyMethodDef FUNCTIONS[] = {
         "'orders'\n"
         ">>> find(data, 'x-death', 1, 'queue', table=True, default='nowhere')\n"
         "'nowhere'\n"),
-    CALL(dumps, "($module, value, /, *, " WRITE_OPTIONS ")",
-         "The bytes of a value, with its type tag; the keys of tables are in their order.\n" HELP_WRITING
-         ">>> dumps([None, ShortInt(-2)])\n"
-         "b'A\\x00\\x00\\x00\\x04Vs\\xff\\xfe'\n"),
+    CALL(
+        dumps, "($module, value, /, *, " WRITE_OPTIONS ")",
+        "Returns the bytes of a value, with its type tag. The keys of a table keep their order.\n\n"
+        "Raises an Error if the value can't be written: `kind` and `expected` say why, and `path` leads to what can't. An\n"
+        "object of a type that has no encoding raises a TypeError.\n" HELP_WRITING ">>> dumps([None, ShortInt(-2)])\n"
+        "b'A\\x00\\x00\\x00\\x04Vs\\xff\\xfe'\n"),
     CALL(
         dumps_table, "($module, mapping, /, *, " WRITE_OPTIONS ")",
-        "The bytes of a table without its type tag, as methods and content headers have it: its length, then its pairs. The\n"
-        "options are those of dumps.\n\n"
+        "Returns the bytes of a table without its type tag, as methods and content headers have it: its length, then its\n"
+        "pairs. Errors and options are those of dumps.\n\n"
         ">>> dumps_table({'a': True})\n"
         "b'\\x00\\x00\\x00\\x04\\x01at\\x01'\n"),
     CALL(
         to_json, "($module, data, /, *, " JSON_OPTIONS ")",
-        "The JSON of the value that all of the bytes are, or with table=True of the table without its type tag. A type that\n"
-        "plain JSON doesn't have is an object with one key; keys ascend, and of equal keys the last counts.\n" HELP_JSON
-        ">>> to_json(dumps_table({'b': b'\\1', 'a': [ShortInt(5), 5]}), table=True)\n"
+        "Returns the JSON of the value that the bytes encode, or with table=True of the table without its type tag. A\n"
+        "type that plain JSON doesn't have is an object with one key; keys ascend, and of equal keys the last counts. Errors\n"
+        "are those of loads.\n" HELP_JSON ">>> to_json(dumps_table({'b': b'\\1', 'a': [ShortInt(5), 5]}), table=True)\n"
         "'{\"a\":[{\"$ShortInt\":5},5],\"b\":{\"$ByteArray\":\"01\"}}'\n"),
     CALL(
         from_json, "($module, text, /, *, " JSON_OPTIONS ")",
-        "The encoding of the value that a JSON text means, with its type tag, or with table=True of a table without it. It is\n"
-        "the canonical one, in which keys ascend. The bracket of a named value counts for the depth. The offset of an Error\n"
-        "counts the characters of a str. The options are those of to_json.\n\n"
+        "Returns the encoding of the value that a JSON text means, with its type tag, or with table=True of a table\n"
+        "without it. It is the canonical one, in which keys ascend. The bracket of a named value counts for the depth. The\n"
+        "options are those of to_json.\n\n"
+        "Raises an Error if the text isn't the JSON of a value or a table, or if that is beyond the limits. Its offset counts\n"
+        "the characters of a str, or the bytes of any other text.\n\n"
         ">>> loads_table(from_json('{\"a\": {\"$ShortInt\": 5}}', table=True))\n"
         "{'a': ShortInt(5)}\n"),
     {NULL, NULL, 0, NULL}};
