@@ -41,6 +41,8 @@ SOURCES := $(shell find CMakeLists.txt CHANGELOG.md LICENSE THIRD-PARTY HANDLES 
     examples/c packaging crates/amqp_c_alloc/malloc.c -type f -not -name '*.pyc') \
     $(shell find crates/*/src crates/*/specs crates/*/proofs)
 
+WHAT = the C library and amqp_show
+$(OUT)/lib/built $(OUT)/aarch64/built: WHAT = the C library
 $(OUT)/lib/built $(OUT)/aarch64/built: LIBRARY = --library
 $(OUT)/lib/built $(OUT)/aarch64/built: FLAGS = -DAMQP_SHOW=OFF
 $(OUT)/aarch64/built: TARGET = $(AARCH64)
@@ -48,25 +50,25 @@ $(OUT)/aarch64/built: FLAGS += --toolchain packaging/aarch64.cmake
 
 $(OUT)/build/built $(OUT)/lib/built $(OUT)/aarch64/built: $(SOURCES)
 	@mkdir -p $(@D) && rm -f $@ && touch $(@D)/begun
-	packaging/archives $(BUILT) $(LIBRARY) $(or $(TARGET),$(X86_64))
+	packaging/measured '$(WHAT)' packaging/archives $(BUILT) $(LIBRARY) $(or $(TARGET),$(X86_64))
 	cmake -S . -B $(@D) $(FLAGS) $(CMAKE_FLAGS) && cmake --build $(@D)
 	@mv $(@D)/begun $@
 
 dist: $(OUT)/build/built $(OUT)/aarch64/built ## pack archives of the C library for x86-64 and aarch64, and of amqp_show
-	packaging/pack $(OUT)/build $(OUT)/aarch64 $(OUT)/packed
+	packaging/measured 'archives' packaging/pack $(OUT)/build $(OUT)/aarch64 $(OUT)/packed
 
 deb: all ## make packages of Debian for x86-64
-	debian/rules clean binary
+	packaging/measured 'packages of Debian' debian/rules clean binary
 
 # By Debian's Python and nothing else.
 wheel: $(OUT)/build/built ## make a wheel of the Python package for x86-64
-	python3 packaging/wheels.py $(OUT)/wheel $(OUT)/build
+	packaging/measured 'the wheel' python3 packaging/wheels.py $(OUT)/wheel $(OUT)/build
 
 wheels: $(OUT)/build/built $(OUT)/aarch64/built ## make those for x86-64 and aarch64, as a release has them
-	python3 packaging/wheels.py $(OUT)/wheel $(OUT)/build $(OUT)/aarch64
+	packaging/measured 'wheels' python3 packaging/wheels.py $(OUT)/wheel $(OUT)/build $(OUT)/aarch64
 
 web: ## make the page that shows a field table, out/web/amqp.html
-	packaging/web $(filter --built,$(BUILT)) $(OUT)/web/amqp.html
+	packaging/measured 'the page' packaging/web $(filter --built,$(BUILT)) $(OUT)/web/amqp.html
 
 rust: all ## put the library where the Rust crate amqp-values-sys links it
 	install -D -m 644 $(OUT)/build/libamqp_values.a bindings/rust/amqp-values-sys/lib/$(X86_64)/libamqp_values.a
