@@ -103,6 +103,25 @@ without_hex
   2> amqp_show: "-": the input seems to be hexadecimal; --hex reads it
   [1]
 
+half_of_hexadecimal
+  $ echo 343600 | xxd -r -p | amqp_show
+  "4" (not decoded)
+  ! offset 0: a type tag is expected; 34 is none
+  = malformed
+  [1]
+
+hexadecimal_that_is_a_value
+  $ echo 6231 | xxd -r -p | amqp_show
+  ShortShortInt 49
+  = a value of 2 bytes
+
+unfinished_hexadecimal
+  $ echo 343630 | xxd -r -p | amqp_show
+  "4" (not decoded)
+  ! offset 0: a type tag is expected; 34 is none
+  = malformed
+  [1]
+
 line_of_a_log
   $ echo 12:34 headers=460000 | amqp_show --hex
   2> amqp_show: "-": line 1, column 7: a byte of two hexadecimal digits is expected

@@ -43,6 +43,16 @@ number_past_array_by_bytes
   = malformed
   [1]
 
+number_past_array_in_an_array
+  $ echo 41 0000000a 41 00000002 4900 565656 | xxd -r -p | amqp_show
+  FieldArray
+    FieldArray
+      LongInt
+      "\u0000VVV" (not decoded)
+  ! offset 10: the LongInt of 5 bytes goes past the end of its container
+  = malformed
+  [1]
+
 string_past_array
   $ echo 41 00000008 53 00000008 616263 64656667 | xxd -r -p | amqp_show
   FieldArray
@@ -91,6 +101,15 @@ key_past_table
   = malformed
   [1]
 
+key_past_inner_table
+  $ echo 46 0000000c 0161 46 00000002 0462 0163 56 | xxd -r -p | amqp_show
+  FieldTable
+    "a": FieldTable
+      "\u0004b\u0001cV" (not decoded)
+  ! offset 12: the key of 4 bytes goes past the end of its table
+  = malformed
+  [1]
+
 key_of_one_byte
   $ echo 46 00000001 01 | xxd -r -p | amqp_show
   FieldTable
@@ -114,4 +133,9 @@ json_of_malformed
   {"x-max-length":{"$LongInt":10000},"x-message-ttl":{"$LongUInt":60000},"x-queue-type":"quorum"}
   2> amqp_show: "unknown_id.hex": offset 7: a type tag is expected; 7a is none, in [1]
   2> amqp_show: "key_not_utf8.hex": offset 9: the key "\xff\xfe" isn't UTF-8
+  [1]
+
+path_of_malformed
+  $ echo 46 00000017 00 46 00000011 0161 41 0000000a 56 41 00000004 56 56 56 7a | xxd -r -p | amqp_show --json
+  2> amqp_show: "-": offset 27: a type tag is expected; 7a is none, in ""."a"[1][3]
   [1]

@@ -59,6 +59,17 @@ stream_repeated
   Void
   = at 18: a value of 1 byte
 
+stream_by_bytes
+  $ echo 56 4600000003 016156 | xxd -r -p | amqp_show --stream --bytes
+       0  56                  type tag V, Void
+  = at 0: a value of 1 byte
+       1  46                  type tag F, FieldTable
+       2  00000003            length 3
+       6  01                    key length 1
+       7  61                    key "a"
+       8  56                    type tag V, Void
+  = at 1: a value of 8 bytes
+
 stream_of_json
   $ echo '{}' | amqp_show --stream
   "{" (not decoded)

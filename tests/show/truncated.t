@@ -60,6 +60,16 @@ truncated_and_malformed
   = truncated; more bytes needed: 12
   [1]
 
+truncated_after_a_cut_table
+  $ echo 41 00000014 41 00000005 46 00000009 56 | xxd -r -p | amqp_show
+  FieldArray
+    FieldArray
+      FieldTable
+    Void
+  ! offset 16: the input ends inside the FieldArray
+  = truncated; more bytes needed: 9
+  [1]
+
 truncated_json
   $ amqp_show --hex --json truncated.hex
   2> amqp_show: "truncated.hex": offset 21: the input ends inside the LongInt, in "x-max-length"
@@ -67,11 +77,28 @@ truncated_json
 
 truncated_long
   $ xxd -r -p <<'END' | amqp_show
-  > 5300000100 3030303030303030303030303030303030303030303030303030303030303030303030303030303030303030303030303030303030303030303030303030303030303030
+  > 5300000100 3030303030303030303030303030303030303030303030303030303030303030303030303030303030303030303030303030303030303030303030303030303030
   > END
-  LongString "0000000000000000000000000000000000000000000000000000000000000000".. (68 of 256 bytes)
-  ! offset 73: the input ends inside the LongString
-  = truncated; more bytes needed: 188
+  LongString "0000000000000000000000000000000000000000000000000000000000000000".. (65 of 256 bytes)
+  ! offset 70: the input ends inside the LongString
+  = truncated; more bytes needed: 191
+  [1]
+
+truncated_after_64_bytes
+  $ xxd -r -p <<'END' | amqp_show
+  > 53 00000041
+  > 30303030303030303030303030303030303030303030303030303030303030303030303030303030303030303030303030303030303030303030303030303030
+  > END
+  LongString "0000000000000000000000000000000000000000000000000000000000000000" (64 of 65 bytes)
+  ! offset 69: the input ends inside the LongString
+  = truncated; more bytes needed: 1
+  [1]
+
+truncated_byte_array
+  $ echo 78 00000003 4142 | xxd -r -p | amqp_show
+  ByteArray 4142 (2 of 3 bytes)
+  ! offset 7: the input ends inside the ByteArray
+  = truncated; more bytes needed: 1
   [1]
 
 empty

@@ -42,6 +42,14 @@ controls
     "a": LongString "h\xff\u001b"
   = a value of 53 bytes
 
+not_utf8
+  $ echo 46 00000010 0322ff5c 53 00000007 22 5c 1b e4 c3a4 27 | xxd -r -p | amqp_show
+  FieldTable
+    "\"\xff\\": LongString "\"\\\u001b\xe4\xc3\xa4'"
+  ! offset 5: the key "\"\xff\\" isn't UTF-8
+  = malformed
+  [1]
+
 decimals
   $ echo 410000003644000000013a44020000013a44020000000544010000000544030000013a440200000000440000000000440cffffffff440200000136 | xxd -r -p | amqp_show
   FieldArray
@@ -55,6 +63,27 @@ decimals
     DecimalValue 0.004294967295
     DecimalValue 3.10
   = a value of 59 bytes
+
+integers
+  $ xxd -r -p <<'END' | amqp_show
+  > 41 0000003c 6280 627f 42ff 738000 737fff 75ffff 4980000000 497fffffff 69ffffffff 6c8000000000000000
+  > 6c7fffffffffffffff 55fffe 4cfffffffffffffffe
+  > END
+  FieldArray
+    ShortShortInt -128
+    ShortShortInt 127
+    ShortShortUInt 255
+    ShortInt -32768
+    ShortInt 32767
+    ShortUInt 65535
+    LongInt -2147483648
+    LongInt 2147483647
+    LongUInt 4294967295
+    LongLongInt -9223372036854775808
+    LongLongInt 9223372036854775807
+    ShortInt -2
+    LongLongInt -2
+  = a value of 65 bytes
 
 floats
   $ xxd -r -p <<'END' | amqp_show
@@ -78,6 +107,34 @@ floats
     Double 1e16
     Double 1.25e-7
   = a value of 104 bytes
+
+float_layouts
+  $ xxd -r -p <<'END' | amqp_show
+  > 41 0000007b 665368d4a5 66551184e7 66358637bd 6633d6bf95 6600000009 6649b55206 664c90a4f4 664df1e765 667f7fffff
+  > 6600000001 6680000001 667f800001 64430c6bf526340000 644341c37937e08000 643ee4f8b588e368f1 643eb0c6f7a0b5ed8d
+  > 64400921fb54442d18 640000000000000001 647fefffffffffffff
+  > END
+  FieldArray
+    Float 1000000000000.0
+    Float 1e13
+    Float 0.000001
+    Float 1e-7
+    Float 1.3e-44
+    Float 1485376.8
+    Float 75835300.0
+    Float 507309220.0
+    Float 3.4028235e38
+    Float 1e-45
+    Float -1e-45
+    Float NaN
+    Double 1000000000000000.0
+    Double 1e16
+    Double 0.00001
+    Double 1e-6
+    Double 3.141592653589793
+    Double 5e-324
+    Double 1.7976931348623157e308
+  = a value of 128 bytes
 
 timestamps
   $ xxd -r -p <<'END' | amqp_show
@@ -128,6 +185,16 @@ canonical_by_bytes
   * offset 14: the key "a" comes again; readers differ in which value they take
   = a value of 27 bytes
 
+canonical_after_a_repeated_key
+  $ echo 46 0000000c 0161 56 0163 56 0161 56 0162 56 | xxd -r -p | amqp_show --canonical
+  FieldTable
+    "a": Void
+    "c": Void
+    "a" (the key comes again): Void
+    "b": Void
+  * offset 11: the key "a" comes again; readers differ in which value they take
+  = a value of 17 bytes
+
 repeated_keys
   $ echo 460000002a01617300010162460000000d016173000101625601617300020161530000000178005601617300050056 | xxd -r -p | amqp_show
   FieldTable
@@ -155,3 +222,15 @@ repeated_keys_by_bytes
       10  01                    true
   * offset 7: the key "a" comes again; readers differ in which value they take
   = a table of 11 bytes
+
+long_payload_by_bytes
+  $ echo 41 0000001b 53 00000009 313233343536373839 78 00000008 0102030405060708 | xxd -r -p | amqp_show --bytes
+       0  41                  type tag A, FieldArray
+       1  0000001b            length 27
+       5  53                    type tag S, LongString
+       6  00000009              length 9
+      10  3132333435363738..    "123456789"
+      19  78                    type tag x, ByteArray
+      20  00000008              length 8
+      24  0102030405060708      0102030405060708
+  = a value of 32 bytes
