@@ -1,4 +1,4 @@
--- What readers of values retain and return, and after which faults they go on.
+-- What readers of values retain and return.
 use Rattle.std.specs.Prelude.{ℕ, ◌<◌, ◌≤◌, ◌≡◌, ◌++◌, Bool, true, false, Option, Some, None, IfSome, Result, Ok, Err, List, [], length}
 use Rattle.std.specs.Io.KnownBytes.{Consumes, IsAtEnd}
 use Rattle.amq_protocol_types.specs.declared.stream.error.StreamError.{StreamError}
@@ -15,12 +15,6 @@ use Rattle.amq_protocol_types.specs.declared.stream.values.Values.{Values}
 use Rattle.amq_protocol_types.specs.stream.Sources.{KeepsKind}
 use Rattle.amq_protocol_types.specs.parsing.Headers.{IsWaiting}
 use Rattle.amq_protocol_types.specs.parsing.Limits.{Within, RefusesWithin}
-
--- a fault of the reader, or a failed allocation
-abbrev pub IsPassing : StreamError → Type 0
-IsPassing (stream.Read kind) = Unit {0}
-IsPassing stream.OutOfMemory = Unit {0}
-IsPassing _ = ⊥
 
 -- the bytes that are retained of a value that hasn't all come
 abbrev pub kept : Values → List ℕ

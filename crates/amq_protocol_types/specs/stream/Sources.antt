@@ -1,4 +1,4 @@
--- Calls of a source, one after another.
+-- Calls of a source, one after another, and the faults after which reading can go on.
 use Rattle.std.specs.Prelude.{◌≡◌, ◌≤◌, ◌++◌, ℕ, List, length, Result, Err}
 use Rattle.std.specs.declared.io.ErrorKind.{ErrorKind}
 use Rattle.std.specs.Io.KnownBytes.{Consumes}
@@ -25,6 +25,12 @@ KeepsKind goes fails from _ to = SourceReaches goes from to
 abbrev pub IsNoRead : {T : Type 0} → Result T StreamError → Type 0
 IsNoRead (Err (stream.Read kind)) = ⊥
 IsNoRead _ = Unit {0}
+
+-- a fault of the reader, or a failed allocation
+abbrev pub IsPassing : StreamError → Type 0
+IsPassing (stream.Read kind) = Unit {0}
+IsPassing stream.OutOfMemory = Unit {0}
+IsPassing _ = ⊥
 
 -- these bytes came from the source, if it reports its bytes
 abbrev pub GivesBytes : {S : Type 0} → Ghosts S → S → List ℕ → S → Type 0

@@ -3,8 +3,7 @@
 ghost use Rattle.std.specs.Prelude.{◌≡◌, ◌<◌, ◌≤◌, ◌+◌, ℕ, List, [], length, take, drop, max, min, vec_len, vec_capacity, IfOk, OnOk, OnErr, IfErr};
 ghost use Rattle.std.specs.Io.KnownBytes.{Keeps, IsAtEnd};
 ghost use Rattle.std.specs.IoError.{error_kind};
-ghost use Rattle.amq_protocol_types.specs.stream.Readers.{IsPassing};
-ghost use Rattle.amq_protocol_types.specs.stream.Sources.{GivesBytes, GainsBytes, KeepsKind};
+ghost use Rattle.amq_protocol_types.specs.stream.Sources.{IsPassing, GivesBytes, GainsBytes, KeepsKind};
 
 use super::error::StreamError;
 use super::source::Source;
