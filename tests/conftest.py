@@ -1,4 +1,4 @@
-"""What all tests share: which are skipped, how random they are, what they note, whether they write files, and the library for C.
+"""What all tests share: which are skipped, how random they are, what they note, whether they write files, amqp_show, and the library.
 
 The last line that a run prints is 'N passed, M failed'. A test that is skipped has shown nothing: it counts as failed, unless
 WITHOUT names what it needs.
@@ -8,11 +8,12 @@ import os
 import random
 import sys
 from collections.abc import Callable, Generator, Iterator
+from pathlib import Path
 from typing import Any, TypeVar
 
 import pytest
 from building import shared_object
-from crates import Crates
+from crates import TOP, Crates
 from hypothesis import settings
 from processes import end_descendants, end_on_signals
 
@@ -33,6 +34,7 @@ def pytest_addoption(parser: pytest.Parser) -> None:
     group.addoption("--write", action="store_true", help="write files anew")
     group.addoption("--random", action="store_true", help="another seed in each run")
     group.addoption("--seed", type=int, help="of what is random (1)")
+    group.addoption("--program", type=Path, metavar="PATH", help="amqp_show, by default as rt ci left it")
     group.addoption("--library", metavar="PATH", help="the library of the calls for C, built otherwise")
     group.addoption("--built", action="store_true", help="build it over what `rt ci` has left")
 
@@ -130,6 +132,14 @@ def deep() -> Iterator[None]:
     sys.setrecursionlimit(100_000)
     yield
     sys.setrecursionlimit(before)
+
+
+@pytest.fixture(scope="session")
+def program(request: pytest.FixtureRequest) -> Path:
+    """The path of amqp_show."""
+    path = Path(request.config.getoption("--program") or TOP / "crates/amqp_show/out/amqp_show").resolve()
+    assert path.is_file(), "amqp_show isn't built: rt run in crates/amqp_show builds it"
+    return path
 
 
 @pytest.fixture(scope="session")

@@ -8,7 +8,7 @@ from typing import Any
 
 import amqp_values as own
 
-from tests.model.printed import Value
+from tests.model.encoding import Value
 from tests.model.tables import integer_of, number
 
 CLASSES: dict[str, type[int]] = {

@@ -10,8 +10,9 @@ import pytest
 from tests import calls_for_c as calls
 from tests.calls_for_c import ANY_KEYS, FIRST_KEY, INVALID, NONE, NOWHERE, OK, RABBITMQ, STREAMS, UNTAGGED
 from tests.model.json_format import LEVELS, Rejected, json_of, some_value, text_for, texts, value_of_json
-from tests.model.printed import COUNTED, SIGNED, TYPES, doubtful, exceeds, extent, field, inputs, is_utf8, lack, nested
-from tests.model.printed import read, unfit_for_streams, untagged, value_of, write
+from tests.model.encoding import COUNTED, SIGNED, TYPES, extent, field, is_utf8, lack, read, write
+from tests.model.inputs import inputs, nested, untagged, value_of
+from tests.model.rules import doubtful, exceeds, unfit_for_streams
 from tests.model.tables import first_problem, odd_table, parts, random_table, raw
 
 pytestmark = pytest.mark.usefixtures("library")

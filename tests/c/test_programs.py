@@ -18,7 +18,8 @@ from building import AARCH64, COMPILERS
 from tests.c.compiling import FLAGS, HERE, LINKED, OF_AARCH64, WRAPPED, C, Words, compiled, printed
 from tests.model import nesting
 from tests.model.json_format import json_of, text_for
-from tests.model.printed import field, read, value_of, write
+from tests.model.encoding import field, read, write
+from tests.model.inputs import value_of
 from tests.model.tables import random_table, raw
 
 # The programs that have no input.

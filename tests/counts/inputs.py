@@ -5,7 +5,8 @@ from typing import NamedTuple
 
 import ten
 
-from tests.model.printed import field, nested
+from tests.model.encoding import field
+from tests.model.inputs import nested
 
 # How many entries the smallest table of a shape has. Tables of 16 KiB and more are built in another way, so all have that.
 N = 2000

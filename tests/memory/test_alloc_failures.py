@@ -29,7 +29,7 @@ from tests.checks import within
 from tests.memory.calls import CALLS, Row, numbers, rows
 from tests.memory.failing import NO_MEMORY, Line, Preloaded, Stored, is_out_of_memory, program, stored_runs
 from tests.model.json_format import value_of_json
-from tests.model.printed import field, write
+from tests.model.encoding import field, write
 from tests.transcripts import Ending
 
 # Failures that a program recovers from: a vector that can't be made smaller stays as it is.

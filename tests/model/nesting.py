@@ -22,7 +22,7 @@ from typing import NamedTuple
 from crates import TOP
 
 from tests.checks import within
-from tests.model.printed import nested
+from tests.model.inputs import nested
 
 PAGE, HEADING = TOP / "docs/PROMISES.md", "## What nesting takes of the stack"
 # How many bytes an input has that no limit lets through, and the limit and the stack that it is read with.

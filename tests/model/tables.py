@@ -1,4 +1,4 @@
-"""Tables to send to a broker, in the form of printed.py, and what RabbitMQ makes of tables, predicted."""
+"""Tables to send to a broker, in the form of encoding.py, and what RabbitMQ makes of tables, predicted."""
 
 import struct
 from collections.abc import Callable, Iterable, Iterator
@@ -6,8 +6,8 @@ from fractions import Fraction
 from random import Random
 from typing import Any, NamedTuple
 
-from tests.model.printed import COUNTED, DEPTH, SIGNED, TYPES, Dissection, Unread, Value
-from tests.model.printed import encoded, extent, failure_of, field, is_utf8, read
+from tests.model.encoding import COUNTED, SIGNED, TYPES, Unread, Value, encoded, extent, field, is_utf8, read
+from tests.model.rules import CUT, DEPTH, KEY_CUT, UNKNOWN_TAG, failure_of
 
 PLAIN = "tbBsuIilfdDSxTV"
 INTEGERS = "bBsuIil"
@@ -115,11 +115,6 @@ def oddity_of(tag: str, content: bytes) -> str:
 # What RabbitMQ makes of them
 
 
-# What it closes the connection for, and what isn't read here, by a number: printed.py's words.
-PROBLEMS = {
-    1: "type tag", 2: "an infinity or a NaN", 4: "end of its table", 5: "nest deeper", 7: "isn't UTF-8",
-    3: "",
-}  # fmt: skip
 # The offset, the kind, and the tag if that is unknown.
 Problem = tuple[int, int, int]
 ROWS = ["U", "unknown tag", "NaN f", "NaN d", "infinity f", "infinity d", "value cut", "key cut"]
@@ -129,25 +124,24 @@ def first_problem(data: bytes, rules: str = "RabbitMQ", depth: int = DEPTH) -> P
     """The first thing in a value that the rules don't allow: offset, kind and unknown tag, or None."""
     if not (found := failure_of(data, rules, depth)):
         return None
-    at, why, _ = found
-    kind = next(kind for kind, words in PROBLEMS.items() if words in why)
-    return at, kind, data[at] if kind == 1 else 0
+    at, kind, _ = found
+    return at, kind, data[at] if kind == UNKNOWN_TAG else 0
 
 
 def row_of(data: bytes, problem: Problem) -> str:
     """The row of ROWS that a problem is of."""
     at, kind, tag = problem
-    if kind == 1:
+    if kind == UNKNOWN_TAG:
         return "U" if tag == ord("U") else "unknown tag"
-    if kind > 2:
-        return ROWS[kind + 3]
+    if kind in (CUT, KEY_CUT):
+        return "value cut" if kind == CUT else "key cut"
     type_tag = chr(data[at])
     return f"{oddity_of(type_tag, data[at + 1 : at + 1 + width_of(type_tag)])} {type_tag}"
 
 
 def container_of(data: bytes) -> str:
     """The type tag of the container that the first problem is in."""
-    _, _, inside = failure_of(data) or (0, "", "")
+    _, _, inside = failure_of(data) or (0, 0, "")
     return inside
 
 
@@ -336,9 +330,9 @@ NAN = [bytes.fromhex(f"66{it}") for it in ("7fc00000", "ffc00000", "7f800001", "
 NAN += [bytes.fromhex(f"64{it}") for it in ("7ff8000000000000", "fff0000000000001", "7fffffffffffffff")]
 INFINITY = [bytes.fromhex(it) for it in ("667f800000", "66ff800000", "647ff0000000000000", "64fff0000000000000")]
 NO_TAG = [b"\0", b"_\1a", b"z", b"\xff", b"n\0"]
-CUT = [field(b"A", it) for it in (b"VI\0\0\0", b"S\0\0\0\5four", b"F\0\0")]
-CUT += [field(b"F", it) for it in (b"\1aI\0", b"\1a", b"\1ax\0\0\0\1")]
-KEY_CUT = [field(b"F", b"\1aV\5four"), field(b"F", b"\xff"), field(b"F", b"\2a")]
+CUT_VALUES = [field(b"A", it) for it in (b"VI\0\0\0", b"S\0\0\0\5four", b"F\0\0")]
+CUT_VALUES += [field(b"F", it) for it in (b"\1aI\0", b"\1a", b"\1ax\0\0\0\1")]
+CUT_KEYS = [field(b"F", b"\1aV\5four"), field(b"F", b"\xff"), field(b"F", b"\2a")]
 # What is odd and taken: other bytes for true, the alternate tag L, keys that aren't UTF-8, equal keys.
 TAKEN = [b"t\7", b"t\xff", b"L" + b"\xff" * 8, b"L" + b"\0" * 8]
 TAKEN += [field(b"F", b"\2\xff\xfeV"), field(b"F", b"\1aV\1aI\0\0\0\1")]
@@ -346,7 +340,7 @@ TAKEN += [field(b"F", b"\2\xff\xfeV"), field(b"F", b"\1aV\1aI\0\0\0\1")]
 
 def odd_table(make: Random) -> bytes:
     """A table with something odd or cut somewhere in it, or one of its bytes changed, or none of these."""
-    kinds = [NAN, INFINITY, [b"U\xff\xfe"], NO_TAG, CUT, KEY_CUT, *[TAKEN] * 5]
+    kinds = [NAN, INFINITY, [b"U\xff\xfe"], NO_TAG, CUT_VALUES, CUT_KEYS, *[TAKEN] * 5]
     kind = make.randrange(len(kinds) + 3)
     value = make.choice(kinds[kind]) if kind < len(kinds) else raw(random_value(make, 1))
     for _ in range(make.randrange(3)):
@@ -372,13 +366,29 @@ def mutated_table(make: Random, change: str) -> bytes:
         data = data[:at] + added + rest
         # its length counts what is there, or what was
         return field(b"F", data[5:]) if make.random() < 0.5 else data
-    parts_of_kind = [it for it in Dissection(data).parts[1:] if it.bytes and change in ("byte", it.kind)]
-    if not parts_of_kind:
+    places = [place for kind, place in [*places_of(data)][1:] if place and change in ("byte", kind)]
+    if not places:
         return mutated_table(make, change)
-    part = make.choice(parts_of_kind)
-    at = part.offset + make.randrange(len(part.bytes))
+    at = make.choice(make.choice(places))
     other = ord(make.choice([*TYPES])) if change == "tag" else data[at] + make.choice([1, -1, make.randrange(1, 256)])
     return data[:at] + bytes([other % 256]) + data[at + 1 :]
+
+
+def places_of(data: bytes, at: int = 0) -> Iterator[tuple[str, range]]:
+    """What is where in the value at an offset, in order."""
+    tag, end = chr(data[at]), at + extent(data[at : at + 5])
+    begin = at + (5 if tag in COUNTED else 1)
+    yield from (("tag", range(at, at + 1)), ("length", range(at + 1, begin)))
+    if tag not in "AF":
+        yield "payload", range(begin, end)
+        return
+    while begin < end:
+        if tag == "F":
+            key = begin + 1
+            begin = key + data[begin]
+            yield from (("key length", range(key - 1, key)), ("key", range(key, begin)))
+        yield from places_of(data, begin)
+        begin += extent(data[begin : begin + 5])
 
 
 def contained(make: Random, tag: str, value: bytes) -> bytes:

@@ -6,7 +6,7 @@ import pytest
 
 from tests.calls import bytes_of, stored
 from tests.model.json_format import Rejected, json_of, value_of_json
-from tests.model.printed import Unread, read, write
+from tests.model.encoding import Unread, read, write
 
 ROWS = [it for it in stored("rust.calls") if it[0].startswith(("wire ", "parse_value "))]
 JSON_ROWS = [it for it in stored("json.calls") if it[0].startswith(("json ", "json_bytes ", "json_of_encoding "))]

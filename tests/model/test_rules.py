@@ -1,7 +1,7 @@
 """Each rule of the model, broken once: the model that has it otherwise disagrees with a row.
 
-The rules are the lines of `mutants`, and of each type tag that there is one, its width and its type. The rows are those of
-worked.py, what programs have stored, and the test vectors.
+The rules are the lines of `mutants`, and of each type tag that it is one, and its width. The rows are those of worked.py, what
+programs have stored, and the test vectors.
 """
 
 import re
@@ -13,7 +13,7 @@ from typing import Any, NamedTuple
 
 import pytest
 
-from tests.model import json_format, printed, stored_output, tables, worked
+from tests.model import encoding, json_format, rules, stored_output, tables, worked
 from tests.model.stored_output import Rows
 from tests.vectors.cases import CASES
 
@@ -29,10 +29,8 @@ def rows_of_vectors(model: Any) -> Rows:
 
 # The rows by which each file is judged.
 ROWS: dict[str, tuple[ModuleType, list[Callable[[Any], Rows]]]] = {
-    "printed.py": (
-        printed,
-        [stored_output.rows_of_wire, rows_of_vectors, stored_output.rows_of_show, worked.rows_of_printed],
-    ),
+    "encoding.py": (encoding, [stored_output.rows_of_wire, rows_of_vectors, worked.rows_of_encoding]),
+    "rules.py": (rules, [worked.rows_of_rules]),
     "tables.py": (tables, [worked.rows_of_tables]),
     "json_format.py": (json_format, [worked.rows_of_json, stored_output.rows_of_encode]),
 }
@@ -49,13 +47,11 @@ class Mutant(NamedTuple):
 
 
 def of_types() -> Iterator[Mutant]:
-    """Of each type tag that it is one, the width of its payload, and its type; and of each name in JSON what is under it."""
-    for tag, (name, width) in printed.TYPES.items():
+    """Of each type tag that it is one, and the width of its payload; and of each name in JSON what is under it."""
+    for tag, (name, width) in encoding.TYPES.items():
         entry, wider = f'"{tag}": ("{name}", {width})', 3 if width is None else width + 1
-        other = "Boolean" if name == "Void" else "Void"
-        yield Mutant(f"{tag} is a type tag", "printed.py", entry, f'"no tag {tag}": ("{name}", {width})')
-        yield Mutant(f"the width of {tag}", "printed.py", entry, f'"{tag}": ("{name}", {wider})')
-        yield Mutant(f"the type of {tag}", "printed.py", entry, f'"{tag}": ("{other}", {width})')
+        yield Mutant(f"{tag} is a type tag", "encoding.py", entry, f'"no tag {tag}": ("{name}", {width})')
+        yield Mutant(f"the width of {tag}", "encoding.py", entry, f'"{tag}": ("{name}", {wider})')
     for name, (tag, width, is_signed) in json_format.INTEGERS.items():
         entry = f'"{name}": ("{tag}", {width}, {is_signed})'
         yield Mutant(f"{name} is a name in JSON", "json_format.py", entry, entry.replace(name, f"no {name}"))

@@ -5,7 +5,7 @@ from collections.abc import Callable
 from random import Random
 from typing import Any
 
-from tests.model.printed import SIGNED, TYPES, Value, write
+from tests.model.encoding import SIGNED, TYPES, Value, write
 
 # By the name of a type its type tag; LongLongUInt and ShortString have none.
 TAGS = {name: tag for tag, (name, _) in TYPES.items() if tag not in "UL"}
@@ -34,7 +34,7 @@ def digits(data: bytes) -> str:
 
 
 def word(value: Value) -> str:
-    """A value, as printed.py has it: its type tag, and its content."""
+    """A value, as encoding.py has it: its type tag, and its content."""
     tag, content = value
     if tag in "AF":
         return held(value)

@@ -9,7 +9,8 @@ from amqp_values.adapters import pika as adapter
 from crates import TOP
 from pika import frame, spec
 
-from tests.model.printed import captured, field, nested
+from tests.model.encoding import field
+from tests.model.inputs import captured, nested
 
 
 @pytest.fixture

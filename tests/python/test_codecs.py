@@ -16,7 +16,8 @@ from hypothesis import given
 from hypothesis import strategies as st
 from pika.compat import long
 
-from tests.model.printed import FRAME, damaged, field, nested
+from tests.model.encoding import field
+from tests.model.inputs import FRAME, damaged, nested
 from tests.model.tables import decimal, first_problem, number, odd_table, random_table, raw
 from tests.python.codecs import ADAPTERS, CLIENTS, codec, unread, unwritten
 from tests.values import error_of

@@ -21,7 +21,8 @@ import amqp_values as own
 import pytest
 from crates import TOP
 
-from tests.model.printed import damaged, field, nested, value_of
+from tests.model.encoding import field
+from tests.model.inputs import damaged, nested, value_of
 from tests.model.tables import EVERY_TYPE, odd_table, random_table, raw
 from tests.python.hostile import DOCUMENTED, made
 from tests.values import UTC, error_of, own_error

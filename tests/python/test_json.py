@@ -15,7 +15,8 @@ import pytest
 
 from tests.model.json_format import LEVELS, SPACE, Rejected, json_of, large_values, some_value, text_for, texts
 from tests.model.json_format import value_of_json
-from tests.model.printed import FRAME, damaged, field, nested, read, value_of, write
+from tests.model.encoding import field, read, write
+from tests.model.inputs import FRAME, damaged, nested, value_of
 from tests.model.tables import first_problem, odd_table, random_table, raw
 from tests.python.test_package import predicted_error
 from tests.values import error_of, own_error

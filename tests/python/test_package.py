@@ -22,8 +22,9 @@ from crates import TOP
 from hypothesis import given
 from hypothesis import strategies as st
 
-from tests.model.printed import FRAME, Value, damaged, doubtful, extent, field, inputs, lack, nested, read, table_of
-from tests.model.printed import untagged, value_of
+from tests.model.encoding import Value, extent, field, lack, read
+from tests.model.inputs import FRAME, damaged, inputs, nested, table_of, untagged, value_of
+from tests.model.rules import doubtful
 from tests.model.tables import first_problem, integer_of, odd_table, random_table, raw, width_of
 from tests.model.test_properties import VALUES
 from tests.values import UTC, error_of, form, own_error, problem_of, python_of, shape

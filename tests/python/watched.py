@@ -20,7 +20,7 @@ if __name__ == "__main__":
 
 import amqp_values as own  # noqa: E402
 
-from tests.model.printed import damaged, value_of  # noqa: E402
+from tests.model.inputs import damaged, value_of  # noqa: E402
 from tests.model.tables import odd_table, random_table, raw  # noqa: E402
 from tests.python.codecs import CODECS  # noqa: E402
 from tests.python.hostile import DOCUMENTED, made  # noqa: E402

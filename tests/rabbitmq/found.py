@@ -6,7 +6,8 @@ from typing import Any
 
 import amqp_values as own
 
-from tests.model.printed import FRAME, Value, field
+from tests.model.encoding import Value, field
+from tests.model.inputs import FRAME
 from tests.model.tables import integer_of, number, parts, raw, table, text
 from tests.rabbitmq.broker import Broker
 from tests.rabbitmq.wire import Closed, Connection, Message

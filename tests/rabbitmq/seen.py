@@ -9,7 +9,7 @@ from datetime import datetime, timedelta, timezone
 from decimal import Decimal
 from typing import Any, NamedTuple
 
-from tests.model.printed import SIGNED, TYPES, Value, is_utf8
+from tests.model.encoding import SIGNED, TYPES, Value, is_utf8
 from tests.model.tables import decimal, float_of, number, text
 
 EPOCH, LAST_SECOND = datetime(1970, 1, 1), 253402300799

@@ -23,7 +23,8 @@ from typing import Any
 import amqp_values as own
 import pytest
 
-from tests.model.printed import Unread, Value, extent, field, nested, read, write
+from tests.model.encoding import Unread, Value, extent, field, read, write
+from tests.model.inputs import nested
 from tests.model.tables import CHANGES, EVERY_TYPE, INFINITY, INTEGERS, NAN, NO_TAG, PLAIN, ROWS, VERSIONS
 from tests.model.tables import Problem, Version
 from tests.model.tables import container_of, decimal, delivered, erlang, first_problem, float_of, integer_of, is_read

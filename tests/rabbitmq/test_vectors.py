@@ -2,7 +2,7 @@
 
 import pytest
 
-from tests.model.printed import field, read
+from tests.model.encoding import field, read
 from tests.model.tables import parts
 from tests.rabbitmq.broker import Broker
 from tests.rabbitmq.test_broker import Publisher

@@ -16,7 +16,8 @@ from building import SOURCES
 from crates import TOP, Crates
 from wheels import PYTHON, compile_package
 
-from tests.model.printed import captured, field, nested
+from tests.model.encoding import field
+from tests.model.inputs import captured, nested
 from tests.rust.cargo import TARGET, assert_well, cargo, package, run
 
 pytestmark = pytest.mark.needs("cargo")

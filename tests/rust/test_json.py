@@ -9,7 +9,8 @@ from random import Random
 import pytest
 
 from tests.model.json_format import LEVELS, SPACE, Rejected, json_of, large_values, texts, value_of_json
-from tests.model.printed import TYPES, damaged, extent, lack, nested, read, value_of, write
+from tests.model.encoding import TYPES, extent, lack, read, write
+from tests.model.inputs import damaged, nested, value_of
 from tests.model.tables import first_problem, odd_table, random_table, raw
 from tests.rust.cargo import CRATES, TARGET, assert_well, cargo, package
 

@@ -8,7 +8,7 @@ from typing import Any
 import pytest
 
 from tests.model.json_format import json_of
-from tests.model.printed import Value
+from tests.model.encoding import Value
 from tests.model.tables import number
 from tests.rust.cargo import CRATES, TARGET, assert_well, cargo, package
 from tests.vectors.cases import CASES, Case, none_of

@@ -12,7 +12,6 @@ from typing import Any
 
 from crates import TOP
 
-from tests.model.printed import Printed
 from tests.transcripts import Case, Ending, Output
 
 CRATE = TOP / "crates/amqp_show"
@@ -78,14 +77,3 @@ def ending(case: Case, program: Path, folder: Path) -> Ending:
     if case.output is Output.TERMINAL:
         return run_on_terminal(words, case.given, **how)
     return run(words, case.given, opened(case.output), **how)
-
-
-def shown(program: Path, words: str, data: bytes) -> Ending:
-    """How amqp_show ends with these words, on these bytes."""
-    return run([str(program), *words.split()], data)
-
-
-def as_ending(wants: Printed) -> Ending:
-    """What the model predicts, as an ending."""
-    text, said, status = wants
-    return Ending(text.encode(), said.encode(), status)

@@ -9,7 +9,7 @@ import pytest
 from crates import TOP
 
 from tests.model.json_format import json_of
-from tests.model.printed import Unread, extent, read, write
+from tests.model.encoding import Unread, extent, read, write
 from tests.model.tables import VERSIONS, delivered, first_problem, parts
 from tests.vectors.cases import CASES, FILES, IDS, PROBLEMS, SCHEMA, VECTORS, Case, none_of
 

@@ -1,1 +1,1 @@
-"""The page of bindings/web, in a browser, next to the model."""
+"""The page of bindings/web, in a browser, next to amqp_show."""

@@ -5,12 +5,13 @@ Each run makes the picture, and compares the words on it with docs/page.txt; pix
 """
 
 from base64 import b64encode
+from pathlib import Path
 
 from crates import TOP
 
-from tests.model import printed
-from tests.model.printed import Dissection, field
+from tests.model.encoding import field
 from tests.web.browser import Browser
+from tests.web.shown import lines_of_each, tree_of
 from tests.web.test_seen import PIXELS, drawn, expect, point
 
 PICTURE, WORDS = TOP / "docs/page.png", TOP / "docs/page.txt"
@@ -23,20 +24,21 @@ BYTES_OF_A_LINE = 16
 WRONG = "b3141f"
 
 
-def test_picture(browser: Browser, is_writing: bool) -> None:
-    found = Dissection(MALFORMED)
+def test_picture(browser: Browser, program: Path, is_writing: bool) -> None:
+    (shown,) = lines_of_each(program, [], [MALFORMED])
+    (failure,) = (it.removeprefix("! ") for it in shown if it[0] == "!")
     browser.driver.execute_cdp_cmd("Emulation.setDeviceMetricsOverride", SIZE)
     try:
         browser.load(f"#{MALFORMED.hex()}")
         point(browser, "h1")
-        expect(browser, drawn, printed.tree(found.parts, False))
+        expect(browser, drawn, tree_of(shown))
         expect(browser, lambda it: len(it.lines("bytes")), -(-len(MALFORMED) // BYTES_OF_A_LINE))
         lines = str(browser.run("return document.body.innerText")).splitlines()
         picture = browser.driver.get_screenshot_as_png()
     finally:
         browser.driver.execute_cdp_cmd("Emulation.clearDeviceMetricsOverride", {})
     text = "".join(f"{it.rstrip()}\n" for it in lines)
-    assert found.failed() in text
+    assert failure in text
     browser.driver.get("about:blank")
     counts = browser.driver.execute_async_script(PIXELS, b64encode(picture).decode())
     assert counts[WRONG] > 200, "nothing on it is red"

@@ -14,11 +14,10 @@ from selenium.common.exceptions import MoveTargetOutOfBoundsException, StaleElem
 from selenium.webdriver.common.action_chains import ActionChains
 from selenium.webdriver.common.keys import Keys
 
-from tests.model import printed
-from tests.model.printed import Dissection, inputs, nested
+from tests.model.inputs import inputs, nested
 from tests.model.tables import EVERY_TYPE, raw
 from tests.web.browser import PATIENCE, Browser, opened
-from tests.web.test_page import RABBITMQ
+from tests.web.shown import RABBITMQ, wanted
 
 TWISTS = str.maketrans("", "", "▸▾")
 # A table with a number, an array with a string in it, and a number after that: where each pair and each part begins.
@@ -119,14 +118,15 @@ def press(browser: Browser, box: str, *keys: str) -> None:
     ActionChains(browser.driver).send_keys(*keys).perform()
 
 
-def test_inputs_are_drawn(browser: Browser) -> None:
-    """Of inputs of every kind the page draws the lines of the model, and says what is wrong."""
+def test_inputs_are_drawn(browser: Browser, program: Path) -> None:
+    """Of inputs of every kind the page draws the lines of amqp_show, and says what is wrong."""
     browser.choose("form", "value")
-    for data in [it for it in inputs() if len(it) < 300][::25]:
-        browser.type(data.hex())
-        found = Dissection(data)
-        expect(browser, drawn, printed.tree(found.parts, False))
-        assert browser.text("failure") == (found.failed() if found.failure else ""), data.hex()
+    given = [it for it in inputs() if len(it) < 300][::25]
+    for data, wants in zip(given, wanted(program, given), strict=True):
+        if wants:
+            browser.type(data.hex())
+            expect(browser, drawn, wants["tree"])
+            assert browser.text("failure") == wants["failure"].removeprefix("! "), data.hex()
 
 
 def test_pointing_marks_a_row_and_its_bytes(browser: Browser) -> None:

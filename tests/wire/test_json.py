@@ -11,7 +11,7 @@ from random import Random
 import pytest
 
 from tests.model.json_format import Value, large_values, texts
-from tests.model.printed import write
+from tests.model.encoding import write
 from tests.model.test_rows import is_read, is_written
 from tests.wire.answered import answers
 

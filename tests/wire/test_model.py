@@ -10,7 +10,7 @@ from crates import Crates
 
 from tests.calls import bytes_of
 from tests.calls import stored as rows_of
-from tests.model.printed import write
+from tests.model.encoding import write
 from tests.model.stored_output import line
 from tests.model.tables import EVERY_TYPE, odd_table, random_value
 from tests.wire.answered import answers

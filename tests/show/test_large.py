@@ -1,0 +1,80 @@
+"""Large and deep values: amqp_show shows a MiB in a second and little memory, and a stream of any length in as much."""
+
+import os
+import resource
+import subprocess
+import tempfile
+from functools import partial
+from pathlib import Path
+
+import pytest
+
+from tests.model.encoding import field
+from tests.model.inputs import nested
+from tests.show.running import run
+
+MOST_SECONDS, MOST_BYTES, MOST_BYTES_OF_STREAM = 3.0, 100_000_000, 20_000_000
+SIZE = 2**20
+# A MiB of Voids, of pairs with keys that come again and that don't ascend, and a string of control characters, and Voids in many arrays.
+LARGE = {
+    "Voids": field(b"A", b"V" * (SIZE - 5)),
+    "pairs": field(b"F", b"".join(b"\4%04x" % (it * 7 % 65536) + b"t\7" for it in range((SIZE - 5) // 7))),
+    "short pairs": field(b"F", b"\0V" * ((SIZE - 5) // 2)),
+    "controls": field(b"S", b"\x1b" * (SIZE - 5)),
+    "nested": nested("A", 60, b"V" * (SIZE - 300)),
+}
+
+
+def seconds_of(program: Path, words: str, data: bytes, most_bytes: int) -> float:
+    """The seconds of the processor of a run that may have so much address space."""
+    limit = partial(resource.setrlimit, resource.RLIMIT_AS, (most_bytes, most_bytes))
+    with tempfile.TemporaryFile() as file:
+        file.write(data)
+        file.seek(0)
+        process = subprocess.Popen([program, *words.split()], stdin=file, stdout=subprocess.DEVNULL, preexec_fn=limit)
+        _, status, used = os.wait4(process.pid, 0)
+        process.returncode = os.waitstatus_to_exitcode(status)
+    assert process.returncode == 0
+    return float(used.ru_utime + used.ru_stime)
+
+
+@pytest.mark.parametrize("words", ("", "--bytes --canonical", "--json", "--check rabbitmq", "--stream"))
+@pytest.mark.parametrize("name", LARGE)
+def test_large(program: Path, name: str, words: str) -> None:
+    # (others may run too)
+    assert min(seconds_of(program, words, LARGE[name], MOST_BYTES) for _ in range(3)) <= MOST_SECONDS
+
+
+def test_stream_in_constant_memory(program: Path) -> None:
+    """A stream of 46 MB."""
+    value = field(b"F", b"\1a" + b"I\0\0\0\5" + b"\1bt\1")
+    assert seconds_of(program, "--stream --json", value * 2_900_000, MOST_BYTES_OF_STREAM)
+
+
+def lines_of(program: Path, words: str, data: bytes) -> list[str]:
+    return run([str(program), *words.split()], data).out.decode().splitlines()
+
+
+def test_at_most_64_levels_are_indented(program: Path) -> None:
+    """By two spaces each, in a tree and after the bytes of each part."""
+    levels, tree, parts = 67, [], []
+    for level in range(levels):
+        indented, at, length = "  " * min(level, 64), 5 * level, 5 * (levels - level - 1)
+        tree.append(f"{indented}FieldArray")
+        parts.append(f"{at:>6}  {'41':<20}{indented}type tag A, FieldArray")
+        parts.append(f"{at + 1:>6}  {f'{length:08x}':<20}{indented}length {length}")
+    data, outcome = nested("A", levels, b""), f"= a value of {5 * levels} bytes"
+    assert lines_of(program, f"--depth {levels}", data) == [*tree, outcome]
+    assert lines_of(program, f"--depth {levels} --bytes", data) == [*parts, outcome]
+
+
+@pytest.mark.parametrize(("words", "begin"), (("", b"F"), ("--table", b"")))
+@pytest.mark.parametrize("more", (0, 1))
+def test_frame_max(program: Path, words: str, begin: bytes, more: int) -> None:
+    """A table of 131,064 bytes without its type tag fits into a frame of 131,072 with eight others, and a larger one doesn't."""
+    data = begin + field(b"F", b"\1a" + field(b"S", bytes(131064 - 11 + more)))[1:]
+    subject = "table" if words else "value"
+    warning = f"* the {subject} takes a frame of more than 131072 bytes, RabbitMQ's usual frame_max"
+    accepts = "= RabbitMQ 4.0 accepts it"
+    wants = [warning, f"{accepts}, except as the warnings say"] if more else [accepts]
+    assert lines_of(program, f"--check rabbitmq {words}", data) == wants
