@@ -2,12 +2,13 @@
 
 import re
 import shutil
-import subprocess
 import sys
 from collections.abc import Collection, Iterable, Iterator, Sequence
 
 from lanes import OUT, Lanes, Process, note
 from ten import Input
+
+from tests.counts.counting import dumps
 
 # The inputs of which this is counted, by their labels.
 INPUTS = ("every type", "message headers", "server's properties", "1,000 small tables", "200 nested tables")
@@ -38,28 +39,15 @@ def commands(inputs: Sequence[Input], lanes: Iterable[str]) -> Iterator[str]:
             yield from (f"make {lane} made", f"time {lane} {FEW}", f"time {lane} {MANY}")
 
 
-def totals() -> list[int]:
-    """The instructions of each run of calls, in their order."""
-    dumps = sorted(OUT.glob("dump.*"), key=lambda it: int(it.suffix[1:]))
-    texts = [text for it in dumps if "--dump-after" in (text := it.read_text())]
-    return [int(found[1]) for it in texts if (found := re.search(r"(?m)^totals: (\d+)", it))]
-
-
 def instructions(driver: str, inputs: Sequence[Input], lanes: Collection[str]) -> Counts:
-    """The instructions of one call of each lane for each input: those of many calls less those of few, by callgrind."""
-    for it in OUT.glob("dump*"):
-        it.unlink()
-    how = [
-        "--tool=callgrind",
-        f"--callgrind-out-file={OUT}/dump",
-        "--dump-before=bench_time",
-        "--dump-after=bench_time",
+    """The instructions of one call of each lane for each input: those of many calls less those of few."""
+    words = ["--dump-before=bench_time", "--dump-after=bench_time", driver]
+    calls = [
+        it for it in dumps(OUT, words, "".join(f"{it}\n" for it in commands(inputs, lanes))) if "--dump-after" in it
     ]
-    asked, env = "".join(f"{it}\n" for it in commands(inputs, lanes)), {"PATH": "/usr/bin"}
-    done = subprocess.run(["valgrind", *how, driver], input=asked, cwd=OUT, capture_output=True, text=True, env=env)
-    found = totals()
-    if done.returncode or len(found) != 2 * len(inputs) * len(lanes):
-        sys.exit(f"bench: {len(found)} counts of instructions: {done.stderr[-2000:]}")
+    found = [int(total) for it in calls for total in re.findall(r"(?m)^totals: (\d+)", it)]
+    if len(found) != 2 * len(inputs) * len(lanes):
+        sys.exit(f"bench: {len(found)} counts of instructions")
     each = iter((many - few) / (MANY - FEW) for few, many in zip(found[::2], found[1::2]))
     return [(one, {lane: next(each) for lane in lanes}) for one in inputs]
 

@@ -1,11 +1,14 @@
-"""What each call takes over each input: counts.c makes it, by itself and under callgrind, which counts instructions."""
+"""What each call takes over each input: counts.c makes it, by itself and under callgrind, which counts instructions.
+
+bench/run counts those of other libraries by the same runs of callgrind.
+"""
 
 import re
 import subprocess
 import tempfile
-from collections.abc import Iterator
+from collections.abc import Iterator, Sequence
 from pathlib import Path
-from typing import NamedTuple
+from typing import Any, NamedTuple
 
 from building import CALLS_FOR_C, MALLOC, archive, build_archive
 from crates import TOP, Crates
@@ -49,17 +52,26 @@ def build(program: Path, is_built: bool) -> None:
     assert done.returncode == 0, f"counts.c: {done.stderr[-2000:]}"
 
 
-def printed(words: list[str | Path], **env: str) -> str:
+def printed(words: Sequence[str | Path], **how: Any) -> str:
     """What a program prints, which has to end well."""
-    done = subprocess.run(words, capture_output=True, text=True, env=env)
+    done = subprocess.run(words, capture_output=True, text=True, **how)
     assert done.returncode == 0, done.stderr[-2000:]
     return done.stdout
 
 
-def instructions(dump: Path, program: Path) -> tuple[str, int]:
+def dumps(folder: Path, words: Sequence[str | Path], asked: str = "") -> list[str]:
+    """Runs a program under callgrind in a folder, and returns the dumps that it makes there, in order."""
+    for it in folder.glob("dump*"):
+        it.unlink()
+    command = [*CALLGRIND, f"--callgrind-out-file={folder}/dump", *words]
+    printed(command, cwd=folder, input=asked, env={"PATH": "/usr/bin"})
+    return [it.read_text() for it in sorted(folder.glob("dump.*"), key=lambda it: int(it.suffix[1:]))]
+
+
+def instructions(dump: str, program: Path) -> tuple[str, int]:
     """The label of a dump of callgrind, and the instructions of the libraries, whose sources it can't name."""
     label, total, is_inclusive, of_program, is_unnamed = "", 0, False, False, False
-    for line in dump.read_text().splitlines():
+    for line in dump.splitlines():
         if line.startswith("desc: Trigger: "):
             label = line.partition("Client Request: ")[2]
         elif line.startswith("ob="):
@@ -83,9 +95,8 @@ def taken(is_built: bool) -> dict[str, OfCall]:
         for name, given in INPUTS.items():
             (folder / name).write_bytes(given.given)
         counted = [folder / name for name, it in INPUTS.items() if it.size]
-        printed([*CALLGRIND, f"--callgrind-out-file={folder}/dump", program, *counted], PATH="/usr/bin")
-        dumped = dict(instructions(it, program) for it in folder.glob("dump.*"))
-        for line in printed([program, *(folder / it for it in INPUTS)]).splitlines():
+        dumped = dict(instructions(it, program) for it in dumps(folder, [program, *counted]))
+        for line in printed([program, *(folder / it for it in INPUTS)], env={}).splitlines():
             call, name, printed_counts = line.split(" | ")
             counts = [*map(int, printed_counts.split()), dumped.get(f"{call} | {name}", 0)]
             it = Taken._make(counts)
