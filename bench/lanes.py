@@ -8,11 +8,12 @@ import shutil
 import subprocess
 import sys
 import time
-from collections.abc import Mapping, Sequence
+from collections.abc import Sequence
 from pathlib import Path
 
 from building import archive, build_archive
 from crates import TOP, Crates, kit
+from programs import end_if_failed, run
 from wheels import PYTHON, compile_package
 
 BEGIN = time.monotonic()
@@ -39,13 +40,6 @@ codegen-units = 1
 def note(line: str) -> None:
     """Reports on standard error how far it is."""
     print(f"bench {time.monotonic() - BEGIN:4.0f} s: {line}", file=sys.stderr, flush=True)
-
-
-def run(words: Sequence[str | Path], cwd: Path | None = None, env: Mapping[str, str] | None = None) -> None:
-    """Runs a command, which has to end well."""
-    done = subprocess.run(words, capture_output=True, text=True, cwd=cwd, env=env)
-    if done.returncode:
-        sys.exit(f"bench: {words[0]} failed: {(done.stderr or done.stdout)[-3000:]}")
 
 
 class Process:
@@ -77,9 +71,7 @@ def built_library(is_built: bool) -> Path:
     """Builds crates/amqp_bench, and returns its archive."""
     crates = Crates()
     note(f"crates/amqp_bench: {'what is built' if is_built else 'proof and build, 40 minutes if nothing is kept'}")
-    done = build_archive(crates, "amqp_bench", is_built)
-    if done.returncode:
-        sys.exit(f"bench: amqp_bench isn't built: {(done.stderr or done.stdout)[-3000:]}")
+    end_if_failed("bench", "libamqp_bench.a", build_archive(crates, "amqp_bench", is_built))
     return archive(crates, "amqp_bench")
 
 
@@ -95,9 +87,12 @@ def objects(given: argparse.Namespace) -> tuple[list[str], list[Path | str]]:
     if not Path("/usr/include/amqp.h").exists():
         note("librabbitmq is left out: librabbitmq-dev isn't installed")
         return flags, found
-    run(["cc", "-O2", "-c", HERE / "rabbitmq.c", "-o", OUT / "rabbitmq.o"])
+    run("bench", ["cc", "-O2", "-c", HERE / "rabbitmq.c", "-o", OUT / "rabbitmq.o"])
     if flags:
-        run(["cc", "-O2", "-I", installed.parents[1] / "include", "-c", HERE / "tasks.c", "-o", OUT / "tasks.o"])
+        run(
+            "bench",
+            ["cc", "-O2", "-I", installed.parents[1] / "include", "-c", HERE / "tasks.c", "-o", OUT / "tasks.o"],
+        )
         found.insert(0, OUT / "tasks.o")
     return [*flags, "--cfg", "rabbitmq"], [*found, OUT / "rabbitmq.o", "-lrabbitmq"]
 
@@ -114,7 +109,7 @@ def build_driver(given: argparse.Namespace) -> Path:
         folder = f"source.given.directory={json.dumps(str(given.packages.resolve()))}"
         words += ["--offline", "--config", 'source.crates-io.replace-with="given"', "--config", folder]
     note("cargo: the Rust crate and the driver")
-    run([*words, "--", *(f"-Clink-arg={it}" for it in linked), *flags], cwd=OUT)
+    run("bench", [*words, "--", *(f"-Clink-arg={it}" for it in linked), *flags], cwd=OUT)
     return OUT / "target/release/driver"
 
 
@@ -130,6 +125,7 @@ def build_go() -> Path | None:
     (OUT / "go/go.mod").write_text("module side\n\ngo 1.16\n")
     note("go: the client and its side")
     run(
+        "bench",
         ["go", "build", "-o", "../side", "."],
         cwd=OUT / "go",
         env=os.environ | {"GOPROXY": "off", "GOFLAGS": "-mod=mod"},
@@ -145,7 +141,7 @@ def sides(given: argparse.Namespace) -> Lanes:
         processes.append(Process([client], GOMAXPROCS="1"))
     modules = next(RABBIT_COMMON, None)
     if shutil.which("erlc") and modules:
-        run(["erlc", HERE / "side.erl"], cwd=OUT)
+        run("bench", ["erlc", HERE / "side.erl"], cwd=OUT)
         processes.append(Process(["erl", "+S", "1", "-noshell", "-pa", modules, "-pa", OUT, "-s", "side", "main"]))
     else:
         note("Erlang is left out: erlang-base or rabbitmq-server isn't installed")
@@ -167,7 +163,7 @@ def python_sides(given: argparse.Namespace) -> Lanes:
 
 def preloaded(driver: Process) -> Process:
     """The driver again, with its requests for memory counted."""
-    run(["cc", "-O2", "-shared", "-fPIC", HERE / "heap.c", "-o", OUT / "heap.so"])
+    run("bench", ["cc", "-O2", "-shared", "-fPIC", HERE / "heap.c", "-o", OUT / "heap.so"])
     return Process(driver.words, LD_PRELOAD=str(OUT / "heap.so"))
 
 

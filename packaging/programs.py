@@ -1,7 +1,10 @@
-"""The programs that packaging calls, which are looked for before anything is proved."""
+"""The programs that packaging and bench call: they are looked for before anything is proved, and have to end well."""
 
 import shutil
+import subprocess
 import sys
+from collections.abc import Mapping, Sequence
+from pathlib import Path
 
 # What has each, as Debian's packages are called.
 PACKAGES = {
@@ -21,3 +24,15 @@ def require(who: str, *names: str) -> None:
     if missing:
         lines = "".join(f"    {it}  ({PACKAGES.get(it, it)})\n" for it in missing)
         sys.exit(f"{who}: missing, so nothing is proved or built:\n{lines}Install what is in parentheses.")
+
+
+def end_if_failed(who: str, what: str, done: subprocess.CompletedProcess[str]) -> None:
+    """Ends the program, with the end of what a command printed, if that failed."""
+    if done.returncode:
+        sys.exit(f"{who}: {what} failed: {(done.stderr or done.stdout)[-2000:]}")
+
+
+def run(who: str, words: Sequence[str | Path], cwd: Path | None = None, env: Mapping[str, str] | None = None) -> None:
+    """Runs a command, which has to end well."""
+    done = subprocess.run([str(it) for it in words], capture_output=True, text=True, cwd=cwd, env=env)
+    end_if_failed(who, Path(words[0]).name, done)

@@ -4,15 +4,15 @@ bench/run counts those of other libraries by the same runs of callgrind.
 """
 
 import re
-import subprocess
 import tempfile
-from collections.abc import Iterator, Sequence
+from collections.abc import Iterator
 from pathlib import Path
-from typing import Any, NamedTuple
+from typing import NamedTuple
 
 from building import CALLS_FOR_C, MALLOC, archive, build_archive
 from crates import TOP, Crates
 
+from tests.checks import Words, assert_well, run
 from tests.counts.inputs import INPUTS
 
 SOURCE = Path(__file__).with_name("counts.c")
@@ -47,24 +47,16 @@ def build(program: Path, is_built: bool) -> None:
     for name in LIBRARIES:
         done = build_archive(crates, name, is_built)
         assert done.returncode == 0, f"lib{name}.a: {(done.stderr or done.stdout)[-1000:]}"
-    words = [*C, "-o", program, SOURCE, MALLOC, *(archive(crates, it) for it in LIBRARIES), "-lpthread"]
-    done = subprocess.run([str(it) for it in words], capture_output=True, text=True)
-    assert done.returncode == 0, f"counts.c: {done.stderr[-2000:]}"
+    words: Words = [*C, "-o", program, SOURCE, MALLOC, *(archive(crates, it) for it in LIBRARIES), "-lpthread"]
+    assert_well(run(words))
 
 
-def printed(words: Sequence[str | Path], **how: Any) -> str:
-    """What a program prints, which has to end well."""
-    done = subprocess.run(words, capture_output=True, text=True, **how)
-    assert done.returncode == 0, done.stderr[-2000:]
-    return done.stdout
-
-
-def dumps(folder: Path, words: Sequence[str | Path], asked: str = "") -> list[str]:
+def dumps(folder: Path, words: Words, asked: str = "") -> list[str]:
     """Runs a program under callgrind in a folder, and returns the dumps that it makes there, in order."""
     for it in folder.glob("dump*"):
         it.unlink()
     command = [*CALLGRIND, f"--callgrind-out-file={folder}/dump", *words]
-    printed(command, cwd=folder, input=asked, env={"PATH": "/usr/bin"})
+    assert_well(run(command, cwd=folder, input=asked, env={"PATH": "/usr/bin"}))
     return [it.read_text() for it in sorted(folder.glob("dump.*"), key=lambda it: int(it.suffix[1:]))]
 
 
@@ -96,7 +88,8 @@ def taken(is_built: bool) -> dict[str, OfCall]:
             (folder / name).write_bytes(given.given)
         counted = [folder / name for name, it in INPUTS.items() if it.size]
         dumped = dict(instructions(it, program) for it in dumps(folder, [program, *counted]))
-        for line in printed([program, *(folder / it for it in INPUTS)], env={}).splitlines():
+        assert_well(done := run([program, *(folder / it for it in INPUTS)], env={}))
+        for line in done.stdout.splitlines():
             call, name, printed_counts = line.split(" | ")
             counts = [*map(int, printed_counts.split()), dumped.get(f"{call} | {name}", 0)]
             it = Taken._make(counts)
