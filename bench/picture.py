@@ -1,77 +1,87 @@
-"""Draws docs/speed.svg from the tables of docs/SPEED.md: python3 bench/picture.py
+"""Draws docs/speed.svg from the tables of docs/SPEED.md and bench/RESULTS.md: python3 bench/picture.py
 
-A bar is the time of this library's call, relative to the Rust crate's time for the same input.
+A bar is how many microseconds a side takes for message headers: the time in a row of a table, or the ratio there times the time
+that it is relative to. A side that wasn't measured has no bar.
 """
 
 import re
 from collections.abc import Iterator
 from html import escape
 from pathlib import Path
+from typing import NamedTuple
 
-DOCS = Path(__file__).resolve().parents[1] / "docs"
-# The tables that are drawn, by their first column, with the legend and the colour of their bars.
-BARS = {
-    "Read and drop": ("read into an owned value", "#3b6fb6"),
-    "Read in place": ("read in place", "#2a9d8f"),
-    "Write": ("write", "#e08a1e"),
-}
-# The inputs that are drawn, by how their row begins in each table.
-INPUTS = {
-    "message headers": "message headers, 656 bytes",
-    "a server's properties|server's properties": "a server's properties, 480 bytes",
-    "an array of 1,000 small tables|1,000 small tables": "1,000 small tables, 38 kB",
-    "a table of 10,000 entries in random order|10,000 entries, random": "10,000 entries, 190 kB",
-}
-LEFT, TOP, BAR, ROW = 230, 50, 16, 66
-# How wide a ratio of 1 is drawn.
-ONE = 420
+TOP = Path(__file__).resolve().parents[1]
+PICTURE, SPEED, RESULTS = TOP / "docs/speed.svg", "docs/SPEED.md", "bench/RESULTS.md"
+# The colours of this library's bars, and of all others.
+OURS, OTHERS = "#2a9d8f", "#9aa7b4"
+# The units of times, in microseconds.
+UNITS = {"ns": 1e-3, "us": 1.0, "ms": 1e3}
 
 
-def ratio(page: str, table: str, row: str) -> float:
-    """This library's ratio in a row of a table, whose third column it is."""
-    lines = page.partition(f"|{table}|the Rust crate|this library")[2].partition("\n\n")[0]
-    found = re.search(rf"(?m)^\|(?:{row})[^|]*\|[^|]*\|<?([\d.]+)", lines)
-    assert found, f"docs/SPEED.md has no {row} in its table {table}"
-    return float(found[1])
+class Group(NamedTuple):
+    """Bars below a heading: the row of a page's table, by how both begin, and the label of each column that is drawn."""
+
+    heading: str
+    page: str
+    table: str
+    row: str
+    labels: dict[str, str]
+
+
+CLIENTS = {"Go": "amqp091-go, Go", "Erlang": "RabbitMQ, Erlang", "the Rust crate": "amq-protocol-types, Rust"}
+IN_C = {"librabbitmq": "librabbitmq, C"}
+OWN = {"this library": "this library"}
+IN_PYTHON = {it: it for it in ("pamqp", "pika", "py-amqp")} | {"the package": "this library"}
+GROUPS = (
+    Group("Decode 656 bytes of message headers", SPEED, "Read and drop", "message headers", CLIENTS | OWN),
+    Group("Decode them, with strings left in the input", SPEED, "Read in place", "message headers", IN_C | OWN),
+    Group("Encode them", SPEED, "Write", "message headers", CLIENTS | IN_C | OWN),
+    Group("Decode 398 bytes of message headers in Python", RESULTS, "Read by Python", "headers with two", IN_PYTHON),
+)
+LEFT, TOP_OF_BARS, BAR, HEADING, WIDTH = 200, 40, 19, 30, 700
+# How wide a microsecond is drawn.
+ONE = 36
+
+
+def times(group: Group) -> Iterator[tuple[str, float]]:
+    """Yields the label of each bar, and its microseconds."""
+    page = (TOP / group.page).read_text()
+    found = re.search(rf"(?m)^\|({group.table}\|.*)\|\n.*\n(?:\|.*\n)*?\|({group.row}[^|]*\|.*)\|$", page)
+    assert found, f"{group.page} has no {group.row} in its table {group.table}"
+    cells = dict(zip(found[1].split("|"), found[2].split("|")))
+    timed = {name: re.fullmatch(r"([\d.]+) (ns|us|ms)", it) for name, it in cells.items()}
+    measured = {name: float(it[1]) * UNITS[it[2]] for name, it in timed.items() if it}
+    for name, label in group.labels.items():
+        ratio = re.match(r"[\d.]+(?= \()", cells.get(name, ""))
+        if name in measured:
+            yield label, measured[name]
+        elif ratio:
+            # (a ratio is to the fastest of those whose time is there)
+            yield label, float(ratio[0]) * min(measured.values())
 
 
 def text(x: float, y: float, words: str, more: str = "") -> str:
     return f'<text x="{x:.0f}" y="{y:.0f}" {more}>{escape(words)}</text>'
 
 
-def drawn(page: str) -> Iterator[str]:
-    """The lines of the picture."""
-    bottom = TOP + ROW * len(INPUTS)
-    yield (
-        f'<svg xmlns="http://www.w3.org/2000/svg" viewBox="0 0 {LEFT + ONE + 60} {bottom + 44}" '
-        'font-family="sans-serif" font-size="13" fill="#222">'
-    )
-    yield '<rect width="100%" height="100%" fill="#fff"/>'
-    yield text(
-        10, 18, "Time relative to the Rust crate amq-protocol-types 10.6.3; shorter is faster", 'font-weight="bold"'
-    )
-    for step in range(5):
-        x = LEFT + ONE * step / 4
-        yield f'<line x1="{x:.0f}" y1="{TOP - 4}" x2="{x:.0f}" y2="{bottom}" stroke="{"#222" if step == 4 else "#ddd"}"/>'
-        yield text(x, TOP - 10, f"{step / 4:g}" if step < 4 else "1: the Rust crate", 'text-anchor="middle"')
-    for number, (row, label) in enumerate(INPUTS.items()):
-        y = TOP + ROW * number + 6
-        yield text(LEFT - 12, y + 1.5 * BAR + 5, label, 'text-anchor="end"')
-        for place, (table, (_, colour)) in enumerate(BARS.items()):
-            found = ratio(page, table, row)
-            width, at = max(ONE * found, 1), y + BAR * place
-            yield f'<rect x="{LEFT}" y="{at}" width="{width:.0f}" height="{BAR - 2}" fill="{colour}"/>'
-            yield text(LEFT + width + 5, at + BAR - 4, f"{found:.2f}", 'font-size="11"')
-    for place, (legend, colour) in enumerate(BARS.values()):
-        x = 60 + place * 220
-        yield f'<rect x="{x}" y="{bottom + 16}" width="12" height="12" fill="{colour}"/>'
-        yield text(x + 18, bottom + 27, legend)
-    yield "</svg>"
+def drawn() -> str:
+    """The picture of the pages as they are."""
+    lines, y = [text(10, 22, "Microseconds; shorter is faster", 'font-weight="bold"')], TOP_OF_BARS
+    for group in GROUPS:
+        y += HEADING
+        lines.append(text(10, y - 10, group.heading, 'font-weight="bold"'))
+        for label, time in times(group):
+            width, colour = max(ONE * time, 1), OURS if label in OWN.values() else OTHERS
+            lines.append(text(LEFT - 10, y + 13, label, 'text-anchor="end"'))
+            lines.append(f'<rect x="{LEFT}" y="{y}" width="{width:.0f}" height="{BAR - 3}" fill="{colour}"/>')
+            lines.append(text(LEFT + width + 6, y + 13, f"{time:.2g}"))
+            y += BAR
+    head = f'<svg xmlns="http://www.w3.org/2000/svg" viewBox="0 0 {WIDTH} {y + 14}" font-family="sans-serif" font-size="13" fill="#222">'
+    return "\n".join([head, '<rect width="100%" height="100%" fill="#fff"/>', *lines, "</svg>", ""])
 
 
 def draw() -> None:
-    """Draws the picture of the page as it is."""
-    (DOCS / "speed.svg").write_text("\n".join([*drawn((DOCS / "SPEED.md").read_text()), ""]))
+    PICTURE.write_text(drawn())
 
 
 if __name__ == "__main__":

@@ -28,6 +28,7 @@ def test_picture(browser: Browser, program: Path, is_writing: bool) -> None:
     (shown,) = lines_of_each(program, [], [MALFORMED])
     (failure,) = (it.removeprefix("! ") for it in shown if it[0] == "!")
     browser.driver.execute_cdp_cmd("Emulation.setDeviceMetricsOverride", SIZE)
+    browser.driver.execute_cdp_cmd("Emulation.setScrollbarsHidden", {"hidden": True})
     try:
         browser.load(f"#{MALFORMED.hex()}")
         point(browser, "h1")
@@ -36,6 +37,7 @@ def test_picture(browser: Browser, program: Path, is_writing: bool) -> None:
         lines = str(browser.run("return document.body.innerText")).splitlines()
         picture = browser.driver.get_screenshot_as_png()
     finally:
+        browser.driver.execute_cdp_cmd("Emulation.setScrollbarsHidden", {"hidden": False})
         browser.driver.execute_cdp_cmd("Emulation.clearDeviceMetricsOverride", {})
     text = "".join(f"{it.rstrip()}\n" for it in lines)
     assert failure in text
