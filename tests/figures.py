@@ -5,6 +5,7 @@ import subprocess
 from collections.abc import Iterator
 from pathlib import Path
 
+import picture
 from crates import TOP
 
 HEADER, SPEED, INTEROP, CONTRIBUTING = "include/amqp_values.h", "docs/SPEED.md", "docs/INTEROP.md", "CONTRIBUTING.md"
@@ -51,6 +52,8 @@ DEFAULTS = {
     **{f"crates/examples/src/{it}.rt": [r"\bdepth: (?P<depth>\d+)"] for it in ("headers", "stream")},
     "include/amqp_values_rabbitmq.h": [r"AMQPV_MAX_BYTES \((?P<bytes>\d+)\)", r"AMQPV_MAX_DEPTH \((?P<depth>\d+)\)"],
 }
+# How many words a page may have, and README.md.
+MOST_WORDS = {"": 3000, "README.md": 900}
 # What names no version of RabbitMQ that only docs/INTEROP.md may name.
 NAMING = ("*.md", "include", "bindings", "packaging", "crates")
 # The folders of crates whose files docs/ADDING-A-TYPE.md counts.
@@ -101,6 +104,21 @@ def other_ratios() -> Iterator[str]:
     wanted = [f"{100 * float(it):.0f}" for it in rows[:2]]
     if not shown or [*shown.groups()] != wanted:
         yield f"README.md: message headers take {' and '.join(wanted)} % of the Rust crate's time by {SPEED}: write that"
+
+
+def other_picture() -> Iterator[str]:
+    """Yields docs/speed.svg, if it isn't what the tables say."""
+    if picture.PICTURE.read_text() != picture.drawn():
+        yield "docs/speed.svg: it isn't drawn from the tables as they are: bench/picture.py draws it"
+
+
+def long_pages() -> Iterator[str]:
+    """Yields the pages that have more words than a page may have."""
+    tracked = subprocess.run(["git", "ls-files", "*.md"], cwd=TOP, capture_output=True, text=True, check=True).stdout
+    for name in tracked.splitlines():
+        count, most = len(read(name).split()), MOST_WORDS.get(name, MOST_WORDS[""])
+        if count > most:
+            yield f"{name}: it has {count} words, and may have {most}: shorten it"
 
 
 def tables_of_no_run() -> Iterator[str]:
@@ -208,6 +226,8 @@ def faults() -> Iterator[str]:
     checks = (
         other_defaults,
         other_ratios,
+        other_picture,
+        long_pages,
         other_logics,
         tables_of_no_run,
         versions_by_hand,
