@@ -50,6 +50,7 @@ DEFAULTS = {
     },
     "docs/RUST.md": [r"more than (?P<depth>\d+) levels", r"(?P<depth>\d+) levels by default"],
     **{f"crates/examples/src/{it}.rt": [r"\bdepth: (?P<depth>\d+)"] for it in ("headers", "stream")},
+    "tests/model/rules.py": [r"\nDEPTH = (?P<depth>\d+)\n"],
     "include/amqp_values_rabbitmq.h": [r"AMQPV_MAX_BYTES \((?P<bytes>\d+)\)", r"AMQPV_MAX_DEPTH \((?P<depth>\d+)\)"],
 }
 # How many words a page may have, and README.md.

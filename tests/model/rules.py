@@ -11,7 +11,7 @@ from typing import NamedTuple
 from tests.model.encoding import TYPES, extent, is_utf8
 
 # The default limit of nesting.
-DEPTH = 64
+DEPTH = 32
 # The kinds of problems. What is cut at offset 0 is an input that ends.
 UNKNOWN_TAG, NOT_FINITE, CUT, KEY_CUT, TOO_DEEP, TOO_LARGE, KEY_NOT_UTF8 = range(1, 8)
 
