@@ -26,7 +26,10 @@ DEFAULTS = {
     ],
     "crates/amq_protocol_types/src/parsing/within.rt": [r"frame: (?P<bytes>[\d_]+), depth: (?P<depth>\d+)"],
     "docs/C.md": [r"1 MiB \(`AMQPV_MAX_BYTES`\) and (?P<depth>\d+) levels \(`AMQPV_MAX_DEPTH`\)"],
-    "docs/INTEROP.md": [r"Don't nest deeper than \[(?P<depth>\d+) levels\]", r"rejects more than (?P<depth>\d+) by default"],
+    "docs/INTEROP.md": [
+        r"Don't nest deeper than \[(?P<depth>\d+) levels\]",
+        r"rejects more than (?P<depth>\d+) by default",
+    ],
     "docs/JSON.md": [r"(?P<depth>\d+) levels fit a stack"],
     "README.md": [r"containers nested at most (?P<depth>\d+) deep"],
     "include/amqp_values.h": [r"client we tested reads (?P<depth>\d+) levels"],
