@@ -194,7 +194,7 @@ def test_memory(name: str) -> None:
     for options in given:
         gc.collect()
         tracemalloc.start()
-        found = own.loads(data, max_bytes=len(data), text="bytes", **options)
+        found = own.loads(data, max_bytes=len(data), text="bytes", depth=own.MOST_DEPTH, **options)
         _, peak = tracemalloc.get_traced_memory()
         tracemalloc.stop()
         assert len(found) == 100_000 // len(value)

@@ -42,7 +42,7 @@ def seconds_of(program: Path, words: str, data: bytes, most_bytes: int) -> float
 @pytest.mark.parametrize("name", LARGE)
 def test_large(program: Path, name: str, words: str) -> None:
     # (others may run too)
-    assert min(seconds_of(program, words, LARGE[name], MOST_BYTES) for _ in range(3)) <= MOST_SECONDS
+    assert min(seconds_of(program, f"{words} --depth 60", LARGE[name], MOST_BYTES) for _ in range(3)) <= MOST_SECONDS
 
 
 def test_stream_in_constant_memory(program: Path) -> None:
