@@ -117,7 +117,7 @@ static void place(void) {
     entry.key.offset = entry.content.length = number();
     entry.key.length = entry.content.offset = number();
     entry.tag = (uint8_t)number();
-    entry.value = entry.content;
+    entry.value = entry.key;
     const char *key = amqpv_key(&in, &entry), *text = amqpv_text(&in, &entry), *start = (const char *)in.bytes,
                *found = start;
     amqpv_result result = amqpv_as_string(&in, &entry, &found, &length);

@@ -184,7 +184,7 @@ def test_places(inline: Program) -> None:
         is_text = tag in b"Sx"
         result = calls.BAD_TAG if not is_text else OK if at >= 0 else INVALID
         string = f"{result} {at} {one}" if result == OK else f"{result} 0 {length}"
-        value = f"{at} {one if at >= 0 else 0} {flags & ~1}"
+        value = f"{key_at} {other if key_at >= 0 else 0} {flags & ~1}"
         return f"{key_at} {at if is_text else -1} {string} {value}"
 
     lines = [" ".join(map(str, ("place", *it))) for it in asked]

@@ -106,6 +106,12 @@ def test_packages_have_the_version_of_the_header(packages: Path) -> None:
     assert {it.name.split("_")[1] for it in packages.glob("*.deb")} == {f"{version()}-1"}
 
 
+def test_headers_need_the_same_library(packages: Path) -> None:
+    (path,) = packages.glob("libamqp-values-dev_*.deb")
+    needs = printed(["dpkg-deb", "-f", path, "Depends"]).strip().split(", ")
+    assert f"libamqp-values0 (= {version()}-1)" in needs
+
+
 def test_day_is_that_of_the_changes() -> None:
     """debian/changelog has the day of CHANGELOG.md, once there is one."""
     found = re.search(rf"(?m)^## {re.escape(version())}, (.*)$", (TOP / "CHANGELOG.md").read_text())

@@ -31,7 +31,7 @@ check_on_terminal
   = RabbitMQ 4.0 accepts it, except as the warnings say
 
 no_color
-  $ echo 4600000004 01ff 7407 | xxd -r -p | NO_COLOR=1 amqp_show >/dev/tty
+  $ echo 4600000004 01ff 7407 | xxd -r -p | NO_COLOR=0 amqp_show >/dev/tty
   FieldTable
     "\xff": Boolean true
   ! offset 5: the key "\xff" isn't UTF-8

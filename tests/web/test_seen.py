@@ -220,6 +220,11 @@ def test_notes(browser: Browser) -> None:
     click(browser, "#notes button")
     expect(browser, marked, (['"a": Float NaN'], "0161667fc00000"))
     expect(browser, here, ["byte-7"])
+    browser.choose("form", "table")
+    browser.type("00000007 01 61 66 7fc00000")
+    click(browser, "#notes button")
+    expect(browser, here, ["byte-6"])
+    browser.choose("form", "any")
     browser.type("46 0000000a 01 61 74 01 01 62 56 01 61 56")
     again = 'offset 12: the key "a" comes again; readers differ in which value they take'
     assert browser.text("notes").splitlines() == [f"{RABBITMQ} accept it", again, "not canonical"]
@@ -255,6 +260,9 @@ def test_a_link_has_the_bytes(browser: Browser) -> None:
     assert link == f"#{TABLE.replace(' ', '')}"
     browser.load(link)
     expect(browser, drawn, OPEN)
+    browser.run("location.hash = '#table:00000003016156'")
+    expect(browser, drawn, ["FieldTable", '  "a": Void'])
+    assert browser.run("return document.getElementById('form').value") == "table"
     browser.run("location.hash = '#value:56'")
     expect(browser, drawn, ["Void"])
     browser.type("74 01")
