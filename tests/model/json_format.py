@@ -267,8 +267,9 @@ def begins_json(start: str) -> bool:
 
 def is_json(text: str) -> bool:
     try:
-        # (half of a surrogate pair has no UTF-8)
-        json.dumps(json.loads(text, parse_int=str, parse_constant=int), ensure_ascii=False).encode()
+        # (half of a surrogate pair has no UTF-8, also under a key that comes again)
+        found = json.loads(text, parse_int=str, parse_constant=int, object_pairs_hook=list)
+        json.dumps(found, ensure_ascii=False).encode()
     except (ValueError, RecursionError):
         return False
     return True
