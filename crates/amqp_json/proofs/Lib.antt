@@ -2,7 +2,7 @@ pub mod Keys
 pub mod Turns
 pub mod Refusals
 pub mod Loops
-pub mod Soles
+pub mod TypeKeys
 pub mod Scalars
 pub mod Integers
 pub mod Ends

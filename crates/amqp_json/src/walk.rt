@@ -211,7 +211,7 @@ fn put_named(
 }
 
 // A number or a string, as a value of the type.
-#[tactic(auto, using(crate::proofs::Soles::number_none, crate::proofs::Soles::string_none, crate::proofs::Soles::no_leaf))]
+#[tactic(auto, using(crate::proofs::TypeKeys::number_none, crate::proofs::TypeKeys::string_none, crate::proofs::TypeKeys::no_leaf))]
 fn put_leaf(
     alloc: Global,
     out: &mut Vec<u8>,

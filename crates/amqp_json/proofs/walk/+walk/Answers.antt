@@ -13,7 +13,7 @@ use Rattle.amqp_json.proofs.Keys.{entry_fits}
 use Rattle.amqp_json.proofs.Turns.{converted-items, array_meant, object_is, table_is}
 use Rattle.amqp_json.proofs.Loops.{PairsLeft, items_first, items_next, items_done, items_none, pairs_first, pairs_next, pairs_done, pair_none, key_none, next_none, array_put, table_put, puts_weaker, scalar_put, long_put}
 use Rattle.amqp_json.proofs.Refusals.{refusal_of, refusal_by, err_weaker, array_refused, object_refused, table_refused, named_refused}
-use Rattle.amqp_json.proofs.Soles.{closer}
+use Rattle.amqp_json.proofs.TypeKeys.{closer}
 use Rattle.amqp_json.proofs.walk.+walk.Goals as goal
 
 pub put_array-returns-clause-ok : goal.put_array-returns-clause-ok

@@ -7,7 +7,7 @@ use Rattle.amqp_json.specs.Names.{type_named}
 use Rattle.amqp_json.specs.Puts.{IsNamed, IsLeaf, IsRead, IsRefusal, members_at, object_meant, converted}
 use Rattle.amqp_json.proofs.Loops.{puts_weaker}
 use Rattle.amqp_json.proofs.Refusals.{refusal_of}
-use Rattle.amqp_json.proofs.Soles.{no_named, no_value, sole, not_closed, not_alone, leaf_refused}
+use Rattle.amqp_json.proofs.TypeKeys.{no_named, no_value, sole, not_closed, not_alone, leaf_refused}
 use Rattle.amqp_json.proofs.walk.put_named.Goals as goal
 
 pub returns-in_default-clause-refused : goal.returns-in_default-clause-refused

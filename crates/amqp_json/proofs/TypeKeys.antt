@@ -1,4 +1,4 @@
--- An object whose first key is `$` and a name.
+-- An object whose first key is a type key: `$` and a name.
 use Rattle.std.proofs.Common.{◌≡◌, ℕ, zero, suc, ◌-◌, List, [], ◌∷◌, length, drop, true, Option, Some, None, option_map, option_and_then, refl, sym, ap, ◌∙◌, arith, Bor, ◌⊎◌, inl, inr}
 use Rattle.json.specs.Token as spec
 use Rattle.json.specs.Token.{Token, key, number, string}
