@@ -14,7 +14,6 @@ pub mod Printed
 pub mod PrintedContainers
 pub mod Rising
 pub mod Sorting
-pub mod PrintedEntries
 pub mod Ascents
 pub mod Again
 pub mod Decoded

@@ -1,5 +1,5 @@
 -- One more value or pair of a container in a buffer.
-use Rattle.std.proofs.Common.{◌≡◌, ◌<◌, ◌≤◌, ℕ, List, [], ◌∷◌, ◌++◌, length, false, Option, Some, None, IfSome, refl, sym, ap, ◌∙◌, subst, append_assoc, arith, length-append}
+use Rattle.std.proofs.Common.{◌≡◌, ◌<◌, ◌≤◌, ℕ, List, [], ◌∷◌, ◌++◌, length, false, Some, None, refl, sym, ap, ◌∙◌, subst, append_assoc, arith, length-append}
 use Rattle.std.specs.Borrow.{Bor}
 use Rattle.json.specs.Token.{Token, end_array, end_object, key}
 use Rattle.json.specs.Json.{object}
@@ -7,14 +7,15 @@ use Rattle.json.specs.Tree.{json_tokens, items_tokens, members_tokens}
 use Rattle.json.specs.Print.{print, print_from}
 use Rattle.amqp_value_core.specs.Maps.{IsRising}
 use Rattle.amqp_value_core.specs.Values as values
-use Rattle.amqp_value_core.specs.Values.{table, Tree, Trees, no_trees, tree, Entries, no_entries, entry}
-use Rattle.amqp_value_core.specs.Grammar.{Wire, wire, ArrayBody, TableBody}
+use Rattle.amqp_value_core.specs.Values.{Tree, Trees, no_trees, tree, Entries, no_entries, entry}
+use Rattle.amqp_value_core.specs.Grammar.{Wire, wire, ArrayBody}
 use Rattle.amqp_value_core.proofs.GrammarLaws.{one_mean, rising_mean}
 use Rattle.amqp_in_place.specs.declared.refs.ArrayRef.{ArrayRef}
 use Rattle.amqp_in_place.specs.declared.refs.TableRef.{TableRef}
 use Rattle.amqp_in_place.specs.Refs.{array_body, table_body, Denotes}
 use Rattle.amqp_in_place.specs.Places.{IsViewIn, IsPairViewIn}
-use Rattle.amqp_in_place.specs.Walks.{ValueStep, PairStep}
+use Rattle.amqp_in_place.specs.Bodies.{HasEntries}
+use Rattle.amqp_in_place.specs.Walks.{ValueStep}
 use Rattle.amqp_in_place.specs.declared.refs.ValueRef.{ValueRef}
 use Rattle.amqp_in_place.specs.declared.refs.ValueRef.TheVariants as at
 use Rattle.amqp_json.specs.declared.printing.place.Place.{Place}
@@ -55,14 +56,16 @@ pub items_end : (a : List ℕ) (p : Place) (b : List ℕ) (q : Place) (c : List 
 items_end a p b q c r done target no_trees left step put puts e = subst (λ (ts : List Token). PutsTokens a p c r ts) e (tokens_more a b c p q r done (end_array ∷ []) put puts)
 items_end a p b q c r done target (tree v vs) left step put puts e = absurd step
 
--- ---- a table
+-- ---- a table: S is so of the entries that are left, and R of those after the first
 
-pub pair_put : (a : List ℕ) (p : Place) (b : List ℕ) (q : Place) (d : List ℕ) (m : Place) (c : List ℕ) (r : Place) (done target : List Token) (rest : Entries) (x : Bor (List ℕ) × ValueRef) (left : List ℕ)
-    → PairStep rest (Some x) left → PutsTokens a p b q done → PutsTokens b q d m (key (written_key x.0.now) ∷ []) → ((v : Tree) → Denotes x.1 v → PutsJson d m c r (written v))
+pub pair_put : (S R : Entries → Type 0) (a : List ℕ) (p : Place) (b : List ℕ) (q : Place) (d : List ℕ) (m : Place) (c : List ℕ) (r : Place) (done target : List Token) (rest : Entries) (x : Bor (List ℕ) × ValueRef)
+    → (S no_entries → ⊥) → ((k : List ℕ) (v : Tree) (es : Entries) → S (entry k v es) → (x.0.now ≡ k) × Denotes x.1 v × R es)
+    → S rest → PutsTokens a p b q done → PutsTokens b q d m (key (written_key x.0.now) ∷ []) → ((v : Tree) → Denotes x.1 v → PutsJson d m c r (written v))
     → done ++ members_tokens (members_written rest) ≡ target
-    → (more : List Token) × (ys : Entries) × TableBody left ys × PutsTokens a p c r more × (more ++ members_tokens (members_written ys) ≡ target)
-pair_put a p b q d m c r done target no_entries x left step put keyed puts e = absurd step
-pair_put a p b q d m c r done target (entry k v es) x left step put keyed puts e =
+    → (more : List Token) × (ys : Entries) × R ys × PutsTokens a p c r more × (more ++ members_tokens (members_written ys) ≡ target)
+pair_put S R a p b q d m c r done target no_entries x none first is put keyed puts e = absurd (none is)
+pair_put S R a p b q d m c r done target (entry k v es) x none first is put keyed puts e =
+    let step = first k v es is in
     let value = json_tokens (written v) in
     let more = members_tokens (members_written es) in
     let name = key (written_key k) in
@@ -74,29 +77,30 @@ pair_put a p b q d m c r done target (entry k v es) x left step put keyed puts e
       append_assoc done (name ∷ value) more ∙ e,
     )
 
-pub pairs_end : (a : List ℕ) (p : Place) (b : List ℕ) (q : Place) (c : List ℕ) (r : Place) (done target : List Token) (rest : Entries) (left : List ℕ) → PairStep rest None left
-    → PutsTokens a p b q done → PutsTokens b q c r (end_object ∷ []) → done ++ members_tokens (members_written rest) ≡ target → PutsTokens a p c r target
-pairs_end a p b q c r done target no_entries left step put puts e = subst (λ (ts : List Token). PutsTokens a p c r ts) e (tokens_more a b c p q r done (end_object ∷ []) put puts)
-pairs_end a p b q c r done target (entry k v es) left step put puts e = absurd step
+pub pairs_end : (S : Entries → Type 0) (a : List ℕ) (p : Place) (b : List ℕ) (q : Place) (c : List ℕ) (r : Place) (done target : List Token) (rest : Entries)
+    → ((k : List ℕ) (v : Tree) (es : Entries) → S (entry k v es) → ⊥)
+    → S rest → PutsTokens a p b q done → PutsTokens b q c r (end_object ∷ []) → done ++ members_tokens (members_written rest) ≡ target → PutsTokens a p c r target
+pairs_end S a p b q c r done target no_entries some is put puts e = subst (λ (ts : List Token). PutsTokens a p c r ts) e (tokens_more a b c p q r done (end_object ∷ []) put puts)
+pairs_end S a p b q c r done target (entry k v es) some is put puts e = absurd (some k v es is)
+
+-- if the keys ascend, the entries are the pairs
+pub pairs_are_entries : (a : List ℕ) (p : Place) (c : List ℕ) (e : Place) (s : List ℕ) (es : Entries) (has : HasEntries s es) → IsRising has.0 → PutsJson a p c e (object (members_written has.0)) → PutsJson a p c e (object (members_written es))
+pairs_are_entries a p c e s es (ps, body, mean) rises puts =
+    subst (λ (xs : Entries). PutsJson a p c e (object (members_written xs))) (sym (one_mean ps ps es ps refl mean (rising_mean ps rises))) puts
 
 -- ---- a value that is a container
 
-pub array_put : (a : List ℕ) (p : Place) (c : List ℕ) (result : Option Place) (r : ValueRef) (x : ArrayRef) → r ≡ at.FieldArray x
-    → IfSome result (λ e. (vs : Trees) → ArrayBody (array_body x) vs → PutsJson a p c e (written (values.array vs))) → IfSome result (λ e. (v : Tree) → Denotes r v → PutsJson a p c e (written v))
-array_put a p c None r x is puts = puts
-array_put a p c (Some e) r x is puts = λ v denotes.
+pub array_put : (a : List ℕ) (p : Place) (c : List ℕ) (e : Place) (r : ValueRef) (x : ArrayRef) → r ≡ at.FieldArray x
+    → ((vs : Trees) → ArrayBody (array_body x) vs → PutsJson a p c e (written (values.array vs))) → (v : Tree) → Denotes r v → PutsJson a p c e (written v)
+array_put a p c e r x is puts v denotes =
     let means : Denotes (at.FieldArray x) v = subst (λ (y : ValueRef). Denotes y v) is denotes in
     subst (λ (u : Tree). PutsJson a p c e (written u)) (sym means.2) (puts means.0 means.1)
 
-pub table_put : (a : List ℕ) (p : Place) (c : List ℕ) (result : Option Place) (r : ValueRef) (x : TableRef) → r ≡ at.FieldTable x
-    → IfSome result (λ _. (ps : Entries) → TableBody (table_body x) ps → IsRising ps) → IfSome result (λ e. (ps : Entries) → TableBody (table_body x) ps → PutsJson a p c e (object (members_written ps)))
-    → IfSome result (λ e. (v : Tree) → Denotes r v → PutsJson a p c e (written v))
-table_put a p c None r x is rises puts = puts
-table_put a p c (Some e) r x is rises puts = λ v denotes.
+pub table_put : (a : List ℕ) (p : Place) (c : List ℕ) (e : Place) (r : ValueRef) (x : TableRef) → r ≡ at.FieldTable x
+    → ((es : Entries) → HasEntries (table_body x) es → PutsJson a p c e (object (members_written es))) → (v : Tree) → Denotes r v → PutsJson a p c e (written v)
+table_put a p c e r x is puts v denotes =
     let means : Denotes (at.FieldTable x) v = subst (λ (y : ValueRef). Denotes y v) is denotes in
-    let (es, has, same) = means in
-    let pairs : es ≡ has.0 = one_mean has.0 has.0 es has.0 refl has.2 (rising_mean has.0 (rises has.0 has.1)) in
-    subst (λ (u : Tree). PutsJson a p c e (written u)) (sym (same ∙ ap table pairs)) (puts has.0 has.1)
+    subst (λ (u : Tree). PutsJson a p c e (written u)) (sym means.2) (puts means.0 means.1)
 
 -- ---- what is left is no longer
 

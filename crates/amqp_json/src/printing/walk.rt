@@ -6,7 +6,7 @@ ghost use Rattle.std.specs.Cmp.Lexicographic.{slice_cmp};
 ghost use Rattle.std.specs.declared.cmp.Ordering.TheVariants.{Less};
 ghost use Rattle.amqp_value_core.specs.Values.{Tree, Trees, Entries, array as array_tree};
 ghost use Rattle.amqp_value_core.specs.Grammar.{ArrayBody, TableBody};
-ghost use Rattle.amqp_value_core.specs.Maps.{IsRising};
+ghost use Rattle.amqp_in_place.specs.Bodies.{HasEntries};
 ghost use Rattle.amqp_in_place.specs.Canonicals.{IsAbove};
 ghost use Rattle.amqp_in_place.specs.Places.{IsViewIn};
 ghost use Rattle.amqp_in_place.specs.Refs.{Denotes, array_body, table_body};
@@ -57,10 +57,8 @@ fn put_array(buffer: &mut [u8], place: Place, array: ArrayRef<'_>) -> Option<Pla
 #[cycle(walk)]
 #[inline(never)]
 fn put_table(buffer: &mut [u8], place: Place, table: TableRef<'_>) -> Option<Place>
-    ensures json { IfSome result (λ end. (ps : Entries) → TableBody (table_body table.entry) ps
-        → PutsJson buffer.old place buffer.new end (object (members_written ps))) }
-    ensures rise { IfSome result (λ _. (ps : Entries) → TableBody (table_body table.entry) ps
-        → IsRising ps) }
+    ensures json { IfSome result (λ end. (es : Entries) → HasEntries (table_body table.entry) es
+        → PutsJson buffer.old place buffer.new end (object (members_written es))) }
     ensures order { (ps : Entries) → TableBody (table_body table.entry) ps
         → IfTableAscends result (table_body table.entry) }
 {

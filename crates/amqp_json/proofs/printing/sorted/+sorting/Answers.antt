@@ -1,13 +1,14 @@
 use Rattle.std.proofs.Common.{◌≡◌, ◌∷◌, [], List, ℕ, length, refl, ap, subst, rules, arith}
 use Rattle.std.specs.Borrow.{Bor}
+use Rattle.std.proofs.lemmas.Result.{IfOk-weaker}
 use Rattle.json.specs.Token.{begin_array, begin_object}
 use Rattle.amqp_value_core.specs.Grammar.{ArrayBody}
 use Rattle.amqp_in_place.specs.declared.refs.ValueRef.{ValueRef}
 use Rattle.amqp_in_place.specs.Refs.{array_body}
 use Rattle.amqp_in_place.specs.Suffix.{values_left}
 use Rattle.amqp_json.proofs.Ascents.{no_container}
-use Rattle.amqp_json.proofs.PrintedContainers.{item_put, items_end, left_of}
-use Rattle.amqp_json.proofs.PrintedEntries.{referred_put, referred_end, array_put, table_put}
+use Rattle.amqp_json.specs.Sorting.{Refer}
+use Rattle.amqp_json.proofs.PrintedContainers.{item_put, items_end, pair_put, pairs_end, array_put, table_put, left_of}
 use Rattle.amqp_json.proofs.printing.sorted.+sorting.Goals as goal
 
 -- ---- an array
@@ -50,21 +51,21 @@ put_entries-loop-key-preserved t c =
       search rules,
       λ es is.
           let at = l.invariant.1 es is in
-          referred_put _ _ _ _ _ _ _ _ at.0 _ at.1 x c.next.new.self (search rules) at.3 c.put_key-keyed.ensures c.in_ok-end.ensures at.4,
+          pair_put (Refer (x ∷ c.next.new.self)) (Refer c.next.new.self) _ _ _ _ _ _ _ _ at.0 _ at.1 x (λ h. h) (λ k v es h. h) (search rules) at.3 c.put_key-keyed.ensures c.in_ok-end.ensures at.4,
     )
 
 pub put_entries-returns : goal.put_entries-returns
 put_entries-returns t c = λ es is.
     let at = c.loop-key.invariant.1 es is in
-    referred_end _ _ _ _ _ _ at.0 _ at.1 (search rules) at.3 c.put_token.ensures at.4
+    pairs_end (Refer []) _ _ _ _ _ _ at.0 _ at.1 (λ k v es h. h) (search rules) at.3 c.put_token.ensures at.4
 
 -- ---- a value
 
 pub put_any_value-returns-in-FieldArray : goal.put_any_value-returns-in-FieldArray
-put_any_value-returns-in-FieldArray t c = array_put _ _ _ c.put_items.result c.args.value c.in-FieldArray.array c.in-FieldArray.is c.put_items.ensures
+put_any_value-returns-in-FieldArray t c = IfOk-weaker c.put_items.result _ _ (λ e. array_put _ _ _ e c.args.value c.in-FieldArray.array c.in-FieldArray.is) c.put_items.ensures
 
 pub put_any_value-returns-in-FieldTable : goal.put_any_value-returns-in-FieldTable
-put_any_value-returns-in-FieldTable t c = table_put _ _ _ c.put_entries.result c.args.value c.in-FieldTable.table c.in-FieldTable.is c.put_entries.ensures
+put_any_value-returns-in-FieldTable t c = IfOk-weaker c.put_entries.result _ _ (λ e. table_put _ _ _ e c.args.value c.in-FieldTable.table c.in-FieldTable.is) c.put_entries.ensures
 
 pub put_any_value-put_leaf-requires : goal.put_any_value-put_leaf-requires
 put_any_value-put_leaf-requires t c = no_container c.args.value c.in_default.not-FieldArray c.in_default.not-FieldTable

@@ -1,14 +1,16 @@
 use Rattle.std.proofs.Common.{◌≡◌, ◌∷◌, [], List, ℕ, length, Option, Some, None, refl, sym, ap, subst, rules, arith}
 use Rattle.std.specs.Borrow.{Bor}
+use Rattle.std.proofs.lemmas.Option.{IfSome_then}
 use Rattle.json.specs.Token.{begin_array, begin_object}
 use Rattle.amqp_value_core.specs.Grammar.{ArrayBody, TableBody}
 use Rattle.amqp_in_place.specs.declared.refs.ValueRef.{ValueRef}
 use Rattle.amqp_in_place.specs.Refs.{array_body, table_body}
 use Rattle.amqp_in_place.specs.Suffix.{values_left, pairs_left}
+use Rattle.amqp_in_place.specs.Walks.{PairStep}
 use Rattle.amqp_json.specs.Ascending.{IfValuesAscend, IfTableAscends}
 use Rattle.amqp_json.specs.declared.printing.place.Place.{Place}
 use Rattle.amqp_json.proofs.Ascents.{ValuesGoOn, PairsGoOn, values_all, values_step, values_fall, values_over, pairs_all, pairs_step, pairs_fall, pairs_over, table_order, table_falls, pairs_fall_in_table, rises_on, rises_no_more, all_rise, leaf_order, no_container, array_at, table_at}
-use Rattle.amqp_json.proofs.PrintedContainers.{item_put, items_end, pair_put, pairs_end, array_put, table_put, left_of, left_of_pair}
+use Rattle.amqp_json.proofs.PrintedContainers.{item_put, items_end, pair_put, pairs_end, pairs_are_entries, array_put, table_put, left_of, left_of_pair}
 use Rattle.amqp_json.proofs.printing.walk.+walk.Goals as goal
 
 -- ---- an array
@@ -80,7 +82,7 @@ put_table-loop-key-preserved t c =
           pairs_step (table_body c.args.table) s left at.0 x at.2 at.1 (c.in-Some.ensures.steps.0 at.0 at.1) inside (λ v d. c.in_ok-end.ensures.order inside.0 left v inside.2 d),
       λ all body.
           let at = l.invariant.2 all body in
-          pair_put _ _ _ _ _ _ _ _ at.0 _ at.1 x left (c.in-Some.ensures.steps.0 at.1 at.2) at.3 c.put_key-keyed.ensures c.in_ok-end.ensures.json at.4,
+          pair_put (λ e. PairStep e (Some x) left) (TableBody left) _ _ _ _ _ _ _ _ at.0 _ at.1 x (λ h. h) (λ k v es h. h) (c.in-Some.ensures.steps.0 at.1 at.2) at.3 c.put_key-keyed.ensures c.in_ok-end.ensures.json at.4,
       rises_on (table_body c.args.table) s left l.previous c.as_bytes-bytes.result x l.invariant.3 c.as_bytes-bytes.ensures.value (c.is_above.ensures.yes c.if-not-is_above.false) c.in-Some.ensures.steps.0,
     )
 
@@ -103,14 +105,13 @@ put_table-returns-in_err-end-clause-order t c = λ ps body.
     (pairs_fall_in_table (table_body c.args.table) (pairs_fall (table_body c.args.table) s left at.0 x at.2 at.1 (c.in-Some.ensures.steps.0 at.0 at.1) inside (λ v d. c.in_err-end.ensures.order inside.0 left v inside.2 d)))
 
 pub put_table-returns-clause-json : goal.put_table-returns-clause-json
-put_table-returns-clause-json t c = λ ps body.
-    let at = c.loop-key.invariant.2 ps body in
-    pairs_end _ _ _ _ _ _ at.0 _ at.1 (pairs_left c.next.new.self) (c.in-None.ensures.steps.0 at.1 at.2) at.3 c.put_token.ensures at.4
-
-pub put_table-returns-clause-rise : goal.put_table-returns-clause-rise
-put_table-returns-clause-rise t c =
+put_table-returns-clause-json t c = λ es has.
     let l = c.loop-key in
-    all_rise (table_body c.args.table) (pairs_left l.key-iterator) (pairs_left c.next.new.self) l.previous l.invariant.3 c.in-None.ensures.steps.0
+    let at = l.invariant.2 has.0 has.1 in
+    let left = pairs_left c.next.new.self in
+    let rises = all_rise (table_body c.args.table) (pairs_left l.key-iterator) left l.previous l.invariant.3 c.in-None.ensures.steps.0 has.0 has.1 in
+    pairs_are_entries _ _ _ _ (table_body c.args.table) es has rises
+    (pairs_end (λ e. PairStep e None left) _ _ _ _ _ _ at.0 _ at.1 (λ k v es h. h) (c.in-None.ensures.steps.0 at.1 at.2) at.3 c.put_token.ensures at.4)
 
 pub put_table-returns-clause-order : goal.put_table-returns-clause-order
 put_table-returns-clause-order t c = λ ps body.
@@ -123,13 +124,13 @@ put_table-returns-clause-order t c = λ ps body.
 -- ---- a value
 
 pub put_value-returns-in-FieldArray-clause-json : goal.put_value-returns-in-FieldArray-clause-json
-put_value-returns-in-FieldArray-clause-json t c = array_put _ _ _ c.put_array.result c.args.value c.in-FieldArray.array c.in-FieldArray.is c.put_array.ensures.json
+put_value-returns-in-FieldArray-clause-json t c = IfSome_then c.put_array.result c.put_array.ensures.json (λ e. array_put _ _ _ e c.args.value c.in-FieldArray.array c.in-FieldArray.is)
 
 pub put_value-returns-in-FieldArray-clause-order : goal.put_value-returns-in-FieldArray-clause-order
 put_value-returns-in-FieldArray-clause-order t c = λ s rest v x d. array_at c.put_array.result c.args.value c.in-FieldArray.array s rest v c.in-FieldArray.is x d c.put_array.ensures.order
 
 pub put_value-returns-in-FieldTable-clause-json : goal.put_value-returns-in-FieldTable-clause-json
-put_value-returns-in-FieldTable-clause-json t c = table_put _ _ _ c.put_table.result c.args.value c.in-FieldTable.table c.in-FieldTable.is c.put_table.ensures.rise c.put_table.ensures.json
+put_value-returns-in-FieldTable-clause-json t c = IfSome_then c.put_table.result c.put_table.ensures.json (λ e. table_put _ _ _ e c.args.value c.in-FieldTable.table c.in-FieldTable.is)
 
 pub put_value-returns-in-FieldTable-clause-order : goal.put_value-returns-in-FieldTable-clause-order
 put_value-returns-in-FieldTable-clause-order t c = λ s rest v x d. table_at c.put_table.result c.args.value c.in-FieldTable.table s rest v c.in-FieldTable.is x d c.put_table.ensures.order
