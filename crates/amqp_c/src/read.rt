@@ -17,7 +17,7 @@ use amqp_in_place::Rules;
 use amqp_value_core::input::{ParsableInput, SliceInput};
 use amqp_value_core::types::AMQPType;
 
-/// Reads the value within the limits by the rules, checks all of it, and returns its entry.
+/// Reads the value within the limits by the rules: its entry by its type tag and its length, and then checks all of it.
 #[inline(always)]
 pub fn read(input: &Input<'_>, rules: Rules) -> Result<Entry, ReadError>
     ensures error { MatchResult result
@@ -28,10 +28,11 @@ pub fn read(input: &Input<'_>, rules: Rules) -> Result<Entry, ReadError>
     ensures grammar { rules ≡ Reading → FailsByGrammar input.now }
     ensures inside { HasProblemInside rules input.now }
 {
+    let peeked = peek(input);
     if let Some(error) = input.read_error(rules) {
         return Err(error);
     }
-    match peek(input) {
+    match peeked {
         Ok(entry) => Ok(entry),
         Err(_fault) => unreachable!(),
     }
