@@ -41,7 +41,7 @@ fresh:
 	$(step) tests/fresh README.md
 
 # (`rt ci` refuses links, which a build by CMake has)
-proofs: ## prove all crates from nothing, but for what was proved on this machine (an hour)
+proofs: ## prove all crates from nothing, except what was proved on this machine (an hour)
 	@rm -rf out/build out/lib out/aarch64
 	$(step) rt ci $(ANEW)
 

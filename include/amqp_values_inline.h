@@ -356,7 +356,7 @@ static inline amqpv_result amqpv_get(const amqpv_input *in, const amqpv_entry *t
     return amqpv_find_(in, table, &step, 1, entry);
 }
 
-/* (after a text was written to a buffer but for its last byte: the NUL, or the room for it) */
+/* (after a text was written to a buffer except its last byte: the NUL, or the room for it) */
 static inline amqpv_result amqpv_ended_(amqpv_result result, char *buffer, size_t *length) {
     if (result == AMQPV_OK) {
         buffer[*length] = 0;

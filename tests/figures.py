@@ -137,7 +137,7 @@ def tables_of_no_run() -> Iterator[str]:
 
 
 def versions_by_hand() -> Iterator[str]:
-    """Yields the places that name a version of RabbitMQ that no test runs, but for docs/INTEROP.md, which has the day."""
+    """Yields the places that name a version of RabbitMQ that no test runs, except docs/INTEROP.md, which has the day."""
     (by_hand,) = re.findall(r"(?m)([\d.]+) of Debian sid was tested by hand on \d+ \w+ \d{4}", read(INTEROP))
     tracked = subprocess.run(["git", "ls-files", *NAMING], cwd=TOP, capture_output=True, text=True, check=True).stdout
     for name in tracked.splitlines():

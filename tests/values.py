@@ -56,7 +56,7 @@ def of_decimal(value: Decimal) -> bytes:
     return struct.pack(">BI", -int(exponent), int("".join(map(str, digits))))
 
 
-# Of each type of the package, but for those of integers, the type tag and the content.
+# Of each type of the package, except those of integers, the type tag and the content.
 FORMS: dict[type, Callable[[Any], Value]] = {
     list: lambda it: ("A", [form(each) for each in it]),
     dict: lambda it: ("F", {key if type(key) is bytes else key.encode(): form(each) for key, each in it.items()}),

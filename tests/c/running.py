@@ -7,6 +7,6 @@ from tests.transcripts import Case
 
 
 def assert_as_transcript(case: Case, program: Words, **others: Any) -> None:
-    """A case ends as its transcript has it, but for standard error."""
+    """A case ends as its transcript has it, except standard error."""
     done: Any = run([*program, *case.words], text=False, input=case.given, **others)
     assert (done.stdout, done.returncode) == (case.wants.out, case.wants.status), done.stderr[-500:]

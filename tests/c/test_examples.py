@@ -27,7 +27,7 @@ class Way(NamedTuple):
     needs: tuple[str, ...] = ()
 
 
-# One processor is as old as x86-64 itself but for SSE3.
+# One processor is as old as x86-64 itself except for SSE3.
 OLD_PROCESSOR = ["qemu-x86_64", "-cpu", "Opteron_G1-v1"]
 CC_OF_AARCH64 = [COMPILERS[AARCH64][0], *FLAGS]
 SANITIZED, ON_AARCH64 = "sanitized", "on aarch64"

@@ -3,7 +3,7 @@
 nested.c makes the calls that recurse, on the stacks that docs/PROMISES.md names, and with the limits that the header recommends
 on the stacks that it names (tests/model/nesting.py), with --built for aarch64 too.
 
-C is compiled with the address and undefined behaviour sanitizers if they link, threads.c with ThreadSanitizer, but for nested.c.
+C is compiled with the address and undefined behaviour sanitizers if they link, threads.c with ThreadSanitizer, except nested.c.
 They don't see into the libraries, so most programs have pages about their bytes that can't be accessed.
 """
 

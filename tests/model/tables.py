@@ -234,7 +234,7 @@ def in_order(version: str, pairs: Iterable[tuple[bytes, bytes]]) -> bytes:
 
 
 def sorted_by_key(version: str, data: bytes) -> bytes:
-    """A table as it is dead-lettered, but for what is added."""
+    """A table as it is dead-lettered, without what is added."""
     return in_order(version, parts(rewritten(data)))
 
 

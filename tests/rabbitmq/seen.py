@@ -1,6 +1,6 @@
 """What applications of Python's clients see of a table, and what they mean by one, by the model and each client's manual.
 
-With the adapters each version sees and means that; without them it does but for the rows of docs/PYTHON.md.
+With the adapters each version sees and means that; without them it does, except for the rows of docs/PYTHON.md.
 """
 
 import struct

@@ -415,7 +415,7 @@ def test_odd_headers(name: str, broker: Broker, connection: Connection, make: Ra
     assert connection.count(f"{name} kept") == rows["none"] + rows["none, unread here"]
 
 
-# What is done with a table but for headers.
+# What is done with a table, except headers.
 ACTS: dict[str, Callable[[Connection, bytes], object]] = {
     "queue.declare": lambda connection, data: connection.queue("", data),
     "queue.bind": lambda connection, data: connection.bind("closing", "closing", "", data),

@@ -1,7 +1,7 @@
 """The drop-in of the Rust crate, which bindings/rust/drop-in makes.
 
 It stops with the place on sources that it doesn't know. All tests of the crate pass over the drop-in, as many as over the
-crate. equal.rs: on random inputs both give the same, but for claims above the limit. refused.rs: what is beyond each limit is
+crate. equal.rs: on random inputs both give the same, except for claims above the limit. refused.rs: what is beyond each limit is
 what the process chose, in debug and release builds. cargo takes the drop-in if the client's Cargo.lock has the crate's version,
 after `cargo update`, and if the client asks for exactly this version, with --keep-version. The programs of the reports in
 docs/upstream print what the reports have.

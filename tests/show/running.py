@@ -25,7 +25,7 @@ def fill(folder: Path) -> None:
 
 
 def opened(output: Output) -> int:
-    """What standard output is, but for a terminal."""
+    """What standard output is, except to a terminal."""
     if output is Output.FULL:
         return os.open("/dev/full", os.O_WRONLY)
     if output is Output.CLOSED:

@@ -67,7 +67,7 @@ PyObject *documented(const State *state, PyObject *made);
 /* Raises an Error: its kind, offset and missing bytes, and in the words of PyUnicode_FromFormat what was expected. */
 void raise_error(const State *state, const char *kind, size_t offset, size_t missing, const char *format, ...);
 
-/* Makes what a caller's own methods have raised an Error, but for a TypeError, a MemoryError, an Error, and what is no
+/* Makes what a caller's own methods have raised an Error, except a TypeError, a MemoryError, an Error, and what is no
    Exception, as KeyboardInterrupt. */
 void raise_foreign(const State *state, size_t offset);
 

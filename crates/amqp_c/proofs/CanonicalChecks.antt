@@ -37,7 +37,7 @@ module _ (input : Input) (bytes : IsBytes (encoding input)) where
       let is = read_is_value f.0 v (bytes_before f.0 rest (subst IsBytes f.2 bytes)) wire in
       (v, rest, within, λ e. none (length (text v)) (text v, rest, v, e, refl, text_is_canon v is read.0 read.1, within))
 
--- what is told of a search for a canonical encoding, which gives its length but for the type tag
+-- what is told of a search for a canonical encoding, which gives its length without the type tag
 pub told : (input : Input) → IsBytes input.bytes.now → (l : Limits) (s : List ℕ) (b : Bool) → l ≡ limits input → s ≡ input.bytes.now → is_untagged input ≡ b → (all : ℕ → ℕ) (r : Option ℕ)
     → IfSome r (λ n. IsCanonicalLen l (if b then tagged FieldTable s else s) (all n)) → (r ≡ None → (n : ℕ) → IsCanonicalLen l (if b then tagged FieldTable s else s) n → ⊥)
     → (c : Bool) → c ≡ is_some r → MatchBool c (IsTold input (Ok true)) (FindsValue (limits input) (encoding input) → IsEncodedSo false input)

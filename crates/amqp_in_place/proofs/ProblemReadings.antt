@@ -226,7 +226,7 @@ framed_tells mean c len b x is there h = by x (mean (take (counted w32 b) (drop 
     by None None h = absurd h
     by (Some p) (Some v) h = absurd h
 
--- a type with a length field has it in four bytes, but for short strings
+-- a type with a length field has it in four bytes, except a short string
 four_bytes : (type : AMQPType) → fixed type ≡ None → type ≢ amqp.ShortString → length_field type ≡ w32
 four_bytes amqp.ShortString row long = absurd (long refl)
 four_bytes _ row long = refl

@@ -16,7 +16,7 @@ use Rattle.amqp_in_place.specs.declared.problems.ProblemKind.TheVariants.{Unknow
 use Rattle.amqp_in_place.specs.declared.problems.Rules.{Rules}
 use Rattle.amqp_in_place.specs.declared.problems.Rules.TheVariants.{Reading, RabbitMq}
 
--- the type that the rules know a byte as: that of a type tag, but for RabbitMQ's `U`
+-- the type that the rules know a byte as: that of a type tag, except RabbitMQ's `U`
 abbrev pub known : Rules → ℕ → Option AMQPType
 known RabbitMq c = if c == 85 then None else kind c
 known _ c = kind c

@@ -32,7 +32,7 @@ def deep(levels: int) -> bytes:
     return found
 
 
-# A value of each type tag that all clients read alike, but for what `Client.otherwise` names.
+# A value of each type tag that all clients read alike, except what `Client.otherwise` names.
 READ = {
     "t": b"t\1", "b": b"b\5", "B": b"B\5", "s": b"s\xff\xfe", "U": b"U\xff\xfe", "u": b"u\xff\xff", "I": b"I\xff\xff\xff\xfb",
     "i": b"i\xff\xff\xff\xff", "l": b"l" + bytes(7) + b"\5", "L": b"L" + b"\xff" * 8, "f": b"f\x3f\xc0\0\0",

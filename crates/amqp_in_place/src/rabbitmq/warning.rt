@@ -141,7 +141,7 @@ pub fn warnings_in_table(
     })
 }
 
-// Whether a value of this length, but for its type tag, and its frame are more than the frame-max.
+// Whether a value of this length, without its type tag, and its frame are more than the frame-max.
 fn exceeds(len: usize, frame_max: u32) -> bool
     requires { len < 2 ^ 63 }
     ensures { result ≡ nat_lt 0 frame_max && nat_lt frame_max (len - 1 + 8) }
