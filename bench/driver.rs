@@ -67,7 +67,7 @@ fn crate_from_json(text: &[u8], out: &mut [u8]) -> i64 {
     serde_json::from_slice(text).map_or(-1, |value| written(&value, out))
 }
 
-// ---- this library, by what crates/amqp_bench exports and the calls for C; and librabbitmq, by bench/rabbitmq.c
+// ---- this library, by what crates/amqp_bench exports and the C API; and librabbitmq, by bench/rabbitmq.c
 
 unsafe extern "C" {
     fn amqp_bench_decode(bytes: *const u8, length: usize) -> i64;

@@ -83,7 +83,7 @@ def objects(given: argparse.Namespace) -> tuple[list[str], list[Path | str]]:
     if installed.exists():
         flags, found = ["--cfg", "installed"], [library, installed]
     else:
-        note(f"the calls for C and JSON are left out: there is no {installed} (make)")
+        note(f"the C API and JSON are left out: there is no {installed} (make)")
     if not Path("/usr/include/amqp.h").exists():
         note("librabbitmq is left out: librabbitmq-dev isn't installed")
         return flags, found
@@ -149,7 +149,7 @@ def sides(given: argparse.Namespace) -> Lanes:
 
 
 def python_sides(given: argparse.Namespace) -> Lanes:
-    """Builds the package for Python over the calls for C, and starts it and the clients of Python as one process."""
+    """Builds the package for Python over the C API, and starts it and the clients of Python as one process."""
     library = given.installed.resolve() / "lib/libamqp_values.a"
     if not library.exists():
         note(f"Python is left out: there is no {library} (make)")

@@ -57,7 +57,7 @@ def right_tasks(headers: Input, lanes: Lanes) -> Lanes:
     """The lanes of tasks: each has written the right bytes, or found the right number in message headers."""
     chosen = {it: process for it, process in lanes.items() if it.partition(".")[2] in TASKS}
     if not chosen:
-        note("the tasks are left out: they need the calls for C and librabbitmq")
+        note("the tasks are left out: they need the C API and librabbitmq")
     load(headers.given, chosen)
     right = ten.queue_arguments()[1:]
     for lane in chosen:

@@ -1,4 +1,4 @@
-"""What is built, and from which copy: a copy of the repository, the archives of the calls for C, and what they make."""
+"""What is built, and from which copy: a copy of the repository, the archives of the C API, and what they make."""
 
 import fcntl
 import os
@@ -10,8 +10,8 @@ from pathlib import Path
 
 from crates import TOP, Crates, kit, said_by
 
-# The crates of the calls for C: those that don't allocate, and those that do. The second uses the first as a library.
-CALLS_FOR_C = ("amqp_c", "amqp_c_alloc")
+# The crates of the C API: those that don't allocate, and those that do. The second uses the first as a library.
+C_API = ("amqp_c", "amqp_c_alloc")
 # What these are compiled for: a target, and the processor, of each target the one whose code every other runs.
 X86_64, AARCH64, WASM64 = "x86_64-unknown-linux-gnu", "aarch64-unknown-linux-gnu", "wasm64-unknown-unknown"
 TARGETS = {X86_64: "x86-64", AARCH64: "generic", WASM64: "lime1"}
@@ -103,13 +103,13 @@ def build_archive(crates: Crates, name: str, is_built: bool, target: str = X86_6
 
 
 def shared_object(crates: Crates, folder: Path, is_built: bool) -> tuple[Path, str]:
-    """Builds the libraries of the calls for C, and a shared object of both in a folder; its path, and what went wrong."""
+    """Builds the libraries of the C API, and a shared object of both in a folder; its path, and what went wrong."""
     path = folder / "libamqp_values.so"
-    for name in CALLS_FOR_C:
+    for name in C_API:
         done = build_archive(crates, name, is_built)
         if done.returncode:
             return path, f"lib{name}.a: {(done.stderr or done.stdout)[-1000:]}"
-    whole = ["-Wl,--whole-archive", *(archive(crates, it) for it in CALLS_FOR_C), "-Wl,--no-whole-archive"]
+    whole = ["-Wl,--whole-archive", *(archive(crates, it) for it in C_API), "-Wl,--no-whole-archive"]
     words = ["cc", "-shared", "-fPIC", "-O2", "-o", path, MALLOC, *whole]
     done = subprocess.run([str(it) for it in words], capture_output=True, text=True)
     return path, (done.stderr or "cc failed")[-1000:] if done.returncode else ""
@@ -117,7 +117,7 @@ def shared_object(crates: Crates, folder: Path, is_built: bool) -> tuple[Path, s
 
 def before_librabbitmq(crates: Crates, folder: Path, is_built: bool) -> tuple[Path, str]:
     """Builds the shared object that comes before librabbitmq in a folder; its path, and what went wrong."""
-    path, name = folder / "libamqp_values_rabbitmq.so", CALLS_FOR_C[0]
+    path, name = folder / "libamqp_values_rabbitmq.so", C_API[0]
     done = build_archive(crates, name, is_built)
     if not done.returncode:
         words = ["cc", "-std=c11", "-shared", "-fPIC", "-O2", f"-I{TOP / 'include'}", "-o", path]

@@ -9,7 +9,7 @@ import tempfile
 from collections.abc import Iterator, Sequence
 from pathlib import Path
 
-from building import AARCH64, CALLS_FOR_C, COMPILERS, MALLOC, X86_64, archive, build_archive
+from building import AARCH64, C_API, COMPILERS, MALLOC, X86_64, archive, build_archive
 from crates import TOP, Crates, said_by
 
 PACKAGE, INCLUDE, LIBRARY = TOP / "bindings/python", TOP / "include", "libamqp_values.a"
@@ -40,7 +40,7 @@ def build_package(crates: Crates, folder: Path, is_built: bool, options: Words =
 
 
 def compile_package(library: Path, folder: Path, options: Words = ()) -> str:
-    """Puts the package over an archive of the calls for C into a folder, for Debian's Python; what went wrong."""
+    """Puts the package over an archive of the C API into a folder, for Debian's Python; what went wrong."""
     made = folder / "amqp_values"
     shutil.copytree(PACKAGE / "amqp_values", made, ignore=shutil.ignore_patterns("*.so", "__pycache__"))
     python = ran([PYTHON, "-c", "import sysconfig; print(sysconfig.get_path('include'))"])[0].strip()
@@ -52,9 +52,9 @@ def compile_package(library: Path, folder: Path, options: Words = ()) -> str:
 def put_library(crates: Crates, folder: Path, is_built: bool, target: str = X86_64) -> str:
     """Puts libamqp_values.a into a folder, of the objects that CMakeLists.txt makes it of; what went wrong."""
     compiler, archiver = COMPILERS[target]
-    objects = [folder / f"{name}.o" for name in (*CALLS_FOR_C, "malloc")]
+    objects = [folder / f"{name}.o" for name in (*C_API, "malloc")]
     steps: list[Words] = [[compiler, "-c", "-O2", "-fPIC", "-o", objects[-1], MALLOC]]
-    for name, made in zip(CALLS_FOR_C, objects):
+    for name, made in zip(C_API, objects):
         done = build_archive(crates, name, is_built, target)
         if done.returncode:
             return f"lib{name}.a: {(done.stderr or done.stdout)[-1000:]}"

@@ -17,7 +17,7 @@ from crates import TOP, Crates
 from hypothesis import settings
 from processes import end_descendants, end_on_signals
 
-from tests import calls_for_c
+from tests import c_api
 
 # What WITHOUT names, and lines that are printed at the end.
 WITHOUT = os.environ.get("WITHOUT", "").split()
@@ -35,7 +35,7 @@ def pytest_addoption(parser: pytest.Parser) -> None:
     group.addoption("--random", action="store_true", help="another seed in each run")
     group.addoption("--seed", type=int, help="of what is random (1)")
     group.addoption("--program", type=Path, metavar="PATH", help="amqp_show, by default as rt ci left it")
-    group.addoption("--library", metavar="PATH", help="the library of the calls for C, built otherwise")
+    group.addoption("--library", metavar="PATH", help="the library of the C API, built otherwise")
     group.addoption("--built", action="store_true", help="build it over what `rt ci` has left")
 
 
@@ -144,10 +144,10 @@ def program(request: pytest.FixtureRequest) -> Path:
 
 @pytest.fixture(scope="session")
 def library(request: pytest.FixtureRequest, tmp_path_factory: pytest.TempPathFactory) -> str:
-    """The path of the shared object of the calls for C, which calls_for_c.py has loaded."""
+    """The path of the shared object of the C API, which c_api.py has loaded."""
     path = request.config.getoption("--library")
     if not path:
         path, wrong = shared_object(Crates(), tmp_path_factory.mktemp("library"), request.config.getoption("--built"))
         assert not wrong, wrong
-    calls_for_c.load(str(path))
+    c_api.load(str(path))
     return str(path)

@@ -2,7 +2,7 @@
 
 `unproved.py tests CRATE` runs the tests of a crate (rt try --test). `unproved.py runs CRATE` runs a program over its file stdin and
 compares what it prints with its file stdout, and of amqp_show also the cases of tests/show. `make check` tests what needs the
-programs that the proofs leave: standard error, statuses, terminals, failed allocations, and the calls for C.
+programs that the proofs leave: standard error, statuses, terminals, failed allocations, and the C API.
 """
 
 import re

@@ -20,7 +20,7 @@ TARGET = os.environ.get("AMQP_VALUES_TARGET") or f"{platform.machine()}-unknown-
 PROCESSOR = TARGET.partition("-")[0]
 NAME = "libamqp_values.a"
 SOURCES = ("codec", "errors", "json", "module", "read", "write")
-# (on no other path are the calls for C in the module's own symbols)
+# (on no other path the C API is among the module's own symbols)
 LINKING = ["-Wl,-s", "-Wl,--exclude-libs,ALL", "-Wl,--gc-sections", "-Wl,-z,relro,-z,now"]
 
 

@@ -1,5 +1,5 @@
 /*
- * The three functions that the calls for C which allocate ask for, over those of the C library. They do what the kit's
+ * The three functions that the calls of the C API which allocate use, over those of the C library. They do what the kit's
  * own do (its libc/src/heap.rt states their contracts, which are trusted): an alignment is at most that of malloc, and a
  * block of no bytes is one of `align`.
  */

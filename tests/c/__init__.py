@@ -1,1 +1,1 @@
-"""The calls for C, as C and C++ see them, and what is installed of them."""
+"""The C API, as C and C++ see it, and what is installed of it."""

@@ -1,4 +1,4 @@
-/* What the programs that try the calls for C share: CHECK, by which they end, and allocations that are counted and fail. */
+/* What the programs that try the C API share: CHECK, by which they end, and allocations that are counted and fail. */
 #ifndef CHECK_H
 #define CHECK_H
 

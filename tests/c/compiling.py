@@ -1,10 +1,10 @@
-"""How C is compiled over the libraries of the calls for C, and run."""
+"""How C is compiled over the libraries of the C API, and run."""
 
 import re
 from pathlib import Path
 from typing import Any
 
-from building import CALLS_FOR_C, MALLOC, archive
+from building import C_API, MALLOC, archive
 from crates import TOP, Crates
 
 from tests.checks import Done as Done
@@ -15,10 +15,10 @@ from tests.checks import run as run
 HERE = Path(__file__).resolve().parent
 HEADER, EXAMPLES = TOP / "include/amqp_values.h", TOP / "examples/c"
 CRATES = Crates()
-PLAIN, ALLOCATING = CALLS_FOR_C
+PLAIN, ALLOCATING = C_API
 FLAGS = ["-std=c11", "-Wall", "-Wextra", "-Werror", f"-I{HEADER.parent}"]
 C = ["cc", *FLAGS]
-LIBRARIES = {crate: archive(CRATES, crate) for crate in CALLS_FOR_C}
+LIBRARIES = {crate: archive(CRATES, crate) for crate in C_API}
 LINKED = (*LIBRARIES.values(), MALLOC)
 # What memory.c is linked with.
 WRAPPED = [f"-Wl,--wrap={it}" for it in ("malloc", "realloc", "free")]

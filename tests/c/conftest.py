@@ -1,4 +1,4 @@
-"""What the tests of the calls for C are given: the libraries, what is made of them, and a folder to work in."""
+"""What the tests of the C API are given: the libraries, what is made of them, and a folder to work in."""
 
 import shutil
 import tempfile
@@ -8,7 +8,7 @@ from functools import partial
 from pathlib import Path
 
 import pytest
-from building import AARCH64, CALLS_FOR_C, build_archive
+from building import AARCH64, C_API, build_archive
 from crates import TOP
 
 from tests.c.compiling import C, CRATES, assert_well, run
@@ -38,7 +38,7 @@ def pytest_collection_modifyitems(config: pytest.Config, items: list[pytest.Item
 @pytest.fixture(scope="session")
 def folder() -> Iterator[Path]:
     """A folder to work in, which isn't kept."""
-    with tempfile.TemporaryDirectory(prefix="calls-for-c-") as name:
+    with tempfile.TemporaryDirectory(prefix="c-api-") as name:
         yield Path(name)
 
 
@@ -47,7 +47,7 @@ def libraries(request: pytest.FixtureRequest) -> None:
     """The libraries are built, two at a time if nothing is proved."""
     is_built = bool(request.config.getoption("--built"))
     with ThreadPoolExecutor(2 if is_built else 1) as pool:
-        for done in [*pool.map(partial(build_archive, CRATES, is_built=is_built), CALLS_FOR_C)]:
+        for done in [*pool.map(partial(build_archive, CRATES, is_built=is_built), C_API)]:
             assert_well(done)
 
 
@@ -79,6 +79,6 @@ def prefix(libraries: None, folder: Path) -> Path:
 @pytest.fixture(scope="session")
 def made_for_aarch64(libraries: None, folder: Path) -> Path:
     """Where it is installed for aarch64."""
-    for it in CALLS_FOR_C:
+    for it in C_API:
         assert_well(build_archive(CRATES, it, True, AARCH64))
     return installed(folder / "aarch64", "--toolchain", str(TOP / "packaging/aarch64.cmake"))

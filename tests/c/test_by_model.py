@@ -7,8 +7,8 @@ from typing import Any
 
 import pytest
 
-from tests import calls_for_c as calls
-from tests.calls_for_c import ANY_KEYS, FIRST_KEY, INVALID, NONE, NOWHERE, OK, RABBITMQ, STREAMS, UNTAGGED
+from tests import c_api as calls
+from tests.c_api import ANY_KEYS, FIRST_KEY, INVALID, NONE, NOWHERE, OK, RABBITMQ, STREAMS, UNTAGGED
 from tests.model.json_format import LEVELS, Rejected, json_of, some_value, text_for, texts, value_of_json
 from tests.model.encoding import COUNTED, SIGNED, TYPES, extent, field, is_utf8, lack, read, write
 from tests.model.inputs import inputs, nested, untagged, value_of

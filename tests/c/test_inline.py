@@ -5,10 +5,10 @@ from random import Random
 
 import pytest
 
-from tests import calls_for_c as calls
+from tests import c_api as calls
 from tests.c.compiling import HERE, compiled, printed
 from tests.c.test_by_model import KEYS, NUMBERS, VALUES, encoding, is_inside, looked_up, stepped, wanted_problem
-from tests.calls_for_c import INVALID, MAX_DEPTH, OK
+from tests.c_api import INVALID, MAX_DEPTH, OK
 from tests.model.encoding import TYPES, extent, field, is_utf8, lack
 from tests.model.inputs import value_of
 from tests.model.tables import odd_table

@@ -6,7 +6,7 @@ from collections.abc import Iterator
 from pathlib import Path
 
 import pytest
-from building import CALLS_FOR_C, archive
+from building import C_API, archive
 from crates import TOP, Crates, kit
 
 from tests.c.places import NAME
@@ -56,14 +56,14 @@ def licences(library: str) -> set[str]:
 
 
 def test_libraries_are_those_of_crates_txt() -> None:
-    of_calls, all_linked = linked(*CALLS_FOR_C), linked(*CALLS_FOR_C, "amqp_show")
+    of_calls, all_linked = linked(*C_API), linked(*C_API, "amqp_show")
     assert listed("Used by all of these") == sorted(of_calls)
     assert listed("Used by amqp_show besides") == sorted(all_linked - of_calls)
 
 
 def test_each_library_has_its_notices() -> None:
     """And one without a licence file is named as that."""
-    libraries = linked(*CALLS_FOR_C, "amqp_show")
+    libraries = linked(*C_API, "amqp_show")
     assert sorted(name for name, _ in notices()) == sorted(it for lib in libraries for it in licences(lib))
     assert listed("for itself") == sorted(it for it in libraries if not licences(it))
 
@@ -73,7 +73,7 @@ def test_what_is_linked_is_listed(libraries: None) -> None:
     """Also by the symbols of what is built, where a library that is inlined has none."""
     own = {*Crates().below}
     of_show = linked_by_symbols(TOP / "crates/amqp_show/out/amqp_show")
-    of_calls = set[str]().union(*(linked_by_symbols(archive(Crates(), it)) for it in CALLS_FOR_C))
+    of_calls = set[str]().union(*(linked_by_symbols(archive(Crates(), it)) for it in C_API))
     assert of_calls & own and of_show & own
     assert of_calls - own - UNLISTED <= {*listed("Used by all of these")}
     assert of_show - own - UNLISTED <= {*listed("Used by all of these"), *listed("Used by amqp_show besides")}
@@ -87,7 +87,7 @@ def test_notice_is_that_of_the_kit(name: str, text: str) -> None:
 
 def test_copyright_of_debian_names_each_library() -> None:
     words = re.findall(r"\w+", (TOP / "debian/copyright").read_text())
-    assert sorted(linked(*CALLS_FOR_C, "amqp_show") - {*words}) == []
+    assert sorted(linked(*C_API, "amqp_show") - {*words}) == []
 
 
 @pytest.mark.needs("--built")

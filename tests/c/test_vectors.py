@@ -1,10 +1,10 @@
-"""The calls for C on each case of vectors/: what is read, the problem, the canonical encoding and the JSON."""
+"""The C API on each case of vectors/: what is read, the problem, the canonical encoding and the JSON."""
 
 from typing import Any
 
 import pytest
 
-from tests import calls_for_c as calls
+from tests import c_api as calls
 from tests.vectors.cases import CASES, PROBLEMS, Case, none_of
 
 pytestmark = pytest.mark.usefixtures("library")

@@ -9,14 +9,14 @@ from collections.abc import Iterator
 from pathlib import Path
 from typing import NamedTuple
 
-from building import CALLS_FOR_C, MALLOC, archive, build_archive
+from building import C_API, MALLOC, archive, build_archive
 from crates import TOP, Crates
 
 from tests.checks import Words, assert_well, run
 from tests.counts.inputs import INPUTS
 
 SOURCE = Path(__file__).with_name("counts.c")
-LIBRARIES = (*CALLS_FOR_C, "amqp_bench")
+LIBRARIES = (*C_API, "amqp_bench")
 # How counts.c is compiled. The libraries use no other function of the C library than these.
 WRAPPED = [f"-Wl,--wrap={it}" for it in ("malloc", "realloc", "free", "memcpy", "memmove", "memset")]
 C = ["cc", "-O1", "-g", "-std=c11", "-Wall", "-Wextra", "-Werror", f"-I{TOP}/include", *WRAPPED, "-Wl,-z,now"]

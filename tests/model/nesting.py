@@ -1,6 +1,6 @@
 """What nesting takes of the stack: the table of docs/PROMISES.md, and the runs that hold it.
 
-`checks` has those runs, and `recommended` those of the calls for C with the header's default limit, on the stack that it
+`checks` has those runs, and `recommended` those of the C API with the header's default limit, on the stack that it
 names. The page's table has a column for x86-64, and one for aarch64.
 
 `python3 -m tests.model.nesting PROGRAM NAME..` prints what a level takes of each call, and the call besides. PROGRAM is
@@ -266,7 +266,7 @@ def in_header(column: int) -> InHeader:
 
 
 def recommended(column: int = 0) -> Iterator[Check]:
-    """Yields the checks of the calls for C with the header's limit.
+    """Yields the checks of the C API with the header's limit.
 
     Each is done on the stack that the header's figures make, which is at most what it names for this limit. What nests
     deeper is rejected on the latter.

@@ -216,7 +216,7 @@ def test_depth(form: str) -> None:
     assert rows and wrong == []
 
 
-# What a process does that may have less memory than the calls for C ask for.
+# What a process does that may have less memory than the C API asks for.
 NO_MEMORY = """
 import resource, sys
 sys.path.insert(0, sys.argv[1])

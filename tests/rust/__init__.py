@@ -1,1 +1,1 @@
-"""The Rust crates over the calls for C, and the drop-in."""
+"""The Rust crates over the C API, and the drop-in."""

@@ -15,7 +15,7 @@ from tests.checks import assert_well as assert_well
 from tests.checks import run as run
 
 HERE, OUT = TOP / "tests/rust", TOP / "out/rust"
-# What is ours: the crates over the calls for C, and what is added to the Rust crate.
+# What is ours: the crates over the C API, and what is added to the Rust crate.
 RUST = TOP / "bindings/rust"
 CRATES, DROP_IN = ("amqp-values-sys", "amqp-values"), RUST / "drop_in"
 TARGET, COPIES = OUT / "target", OUT / "crates"
@@ -27,7 +27,7 @@ TRIPLE = "x86_64-unknown-linux-gnu"
 PROFILES: dict[str, list[str]] = {"debug": [], "release": ["--release"]}
 # The packages that programs here use.
 PACKAGES = ('cookie-factory = "0.3"', 'nom = "8"', 'serde_json = "1"')
-# The oldest compiler that the crates over the calls for C are for, and where Debian has it.
+# The oldest compiler that the crates over the C API are for, and where Debian has it.
 OLDEST, OF_DEBIAN = "rustc 1.63", Path("/usr/bin")
 
 
@@ -74,7 +74,7 @@ def cargo(folder: Path, *words: str, tools: Path | None = None, seconds: int = 6
 
 
 class Given(NamedTuple):
-    """The Rust crate, the archive of the calls for C, and the folder that cargo takes packages from."""
+    """The Rust crate, the archive of the C API, and the folder that cargo takes packages from."""
 
     crate: Path
     library: Path

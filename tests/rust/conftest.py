@@ -43,7 +43,7 @@ def installed() -> Path | None:
 
 @pytest.fixture(scope="session")
 def archive(request: pytest.FixtureRequest) -> Path:
-    """The archive of the calls for C: as it is named, as it is made over what `rt ci` has left, or as it is installed."""
+    """The archive of the C API: as it is named, as it is made over what `rt ci` has left, or as it is installed."""
     path = request.config.getoption("--library")
     if path:
         return Path(path).resolve()

@@ -1,4 +1,4 @@
-"""The crates over the calls for C, amqp-values-sys and amqp-values, of which neither needs another package.
+"""The crates over the C API, amqp-values-sys and amqp-values, of which neither needs another package.
 
 amqp-values-sys links the archive of its folder, or of the one that AMQP_VALUES_LIB_DIR names. The tests of both pass, also by
 the oldest compiler that they are for, if it is there as Debian has it, and clippy and rustdoc have no warning. Their examples

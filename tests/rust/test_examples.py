@@ -69,7 +69,7 @@ def literal(data: bytes) -> str:
 
 
 class Made(NamedTuple):
-    """What examples are run over: the archive of the calls for C, and the Rust crates; and a folder to work in."""
+    """What examples are run over: the archive of the C API, and the Rust crates; and a folder to work in."""
 
     archive: Path
     copies: Path

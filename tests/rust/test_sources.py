@@ -1,4 +1,4 @@
-"""The Rust sources, and the declarations of the calls for C in them: what needs no Rust crate, and nothing that is built."""
+"""The Rust sources, and the declarations of the C API in them: what needs no Rust crate, and nothing that is built."""
 
 import re
 from collections.abc import Iterator
@@ -14,7 +14,7 @@ LAYOUT = "max_width=120,use_small_heuristics=Max"
 
 
 def sources(edition: str) -> Iterator[Path]:
-    """The sources of an edition: the crates over the calls for C are of the older one."""
+    """The sources of an edition: the crates over the C API are of the older one."""
     if edition == "2024":
         folders = (DROP_IN, HERE, *(TOP / it for it in ("vectors/adapters", "tests/oracle", "bench")))
         yield from (it for folder in folders for it in folder.glob("*.rs"))
@@ -54,7 +54,7 @@ def test_version(name: str) -> None:
     assert {*versions} == {*version}
 
 
-# The modules that state the stack for each level, and the calls for C that take it.
+# The modules that state the stack for each level, and the calls of the C API that take it.
 STATED = {"limits": ("read", "measure"), "json": ("to_json", "from_json"), "rabbitmq": ("warn",)}
 
 
@@ -68,7 +68,7 @@ def test_stack(module: str) -> None:
     assert max(figures[f"amqpv_{it}"] for it in STATED[module]) == [*map(int, stated)]
 
 
-# The pages and modules that state the memory for each byte, and the calls for C that take it, in their order.
+# The pages and modules that state the memory for each byte, and the calls of the C API that take it, in their order.
 MEMORY = {
     "bindings/rust/amqp-values/src/json.rs": ("to_json", "from_json"),
     "bindings/rust/amqp-values/src/rabbitmq.rs": ("warn",),

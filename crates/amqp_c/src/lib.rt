@@ -1,9 +1,9 @@
-//! Calls for C that don't allocate: reading in place, building arrays and tables in a buffer, and writing JSON of
-//! tables whose keys ascend.
+//! The calls of the C API that don't allocate: reading in place, building arrays and tables in a
+//! buffer, and writing JSON of tables whose keys ascend.
 //!
 //! No call allocates, keeps state, prints or ends the process. Each checks what it is passed: whatever is in a cursor,
 //! an entry or a container, no byte outside the input is read, none outside the buffer is written, and each offset
-//! that is returned is inside the input. After an error nothing is changed, but where a call's comment says otherwise.
+//! that is returned is inside the input. After an error nothing is changed, except where a call's comment says so.
 //! `include/amqp_values.h` declares the calls, and docs/PROMISES.md has their stack use.
 #![tactic(auto)]
 

@@ -1,5 +1,5 @@
-//! Calls for C that allocate: the canonical encoding of a value, between encodings and JSON texts, and what a client
-//! or a stream queue may not accept in a value that RabbitMQ accepts.
+//! The calls of the C API that allocate: the canonical encoding of a value, between encodings and
+//! JSON texts, and what a client or a stream queue may not accept in a value that RabbitMQ accepts.
 //!
 //! They allocate by C's `malloc`, `realloc` and `free` (the canonical encoding only if the value isn't encoded so
 //! already, a JSON text only if the keys of a table don't ascend), and free all of it. They keep no state, print

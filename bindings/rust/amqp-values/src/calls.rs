@@ -1,4 +1,4 @@
-//! The calls for C as safe functions. No other module has `unsafe`.
+//! The C API as safe functions. No other module has `unsafe`.
 //!
 //! What the header asks of callers holds for references: structs are aligned, what is written overlaps nothing else, and no slice
 //! has more than `isize::MAX` bytes. [`Limits`] says how much stack is needed.

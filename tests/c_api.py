@@ -1,4 +1,4 @@
-"""The calls for C, by ctypes. `load` is first.
+"""The C API, by ctypes. `load` is first.
 
 What a call reads, and the buffer that it writes to, end where a page begins that can't be accessed. A function returns the
 call's result and what the call has set; a struct that is as it was before is None.
