@@ -3,7 +3,7 @@
 //!
 //! `--as-it-is` prints what differs from this library on purpose as the crate answers it.
 
-mod departures;
+mod differences;
 mod words;
 
 use amq_protocol_types::flags::AMQPFlags;
@@ -23,7 +23,7 @@ type Answer = words::Result<String>;
 fn main() {
     // a panic is an answer
     std::panic::set_hook(Box::new(|_| {}));
-    let departs = std::env::args().nth(1).as_deref() != Some("--as-it-is");
+    let differs = std::env::args().nth(1).as_deref() != Some("--as-it-is");
     let mut text = String::new();
     io::stdin().read_to_string(&mut text).expect("standard input is UTF-8");
     let mut out = io::BufWriter::new(io::stdout().lock());
@@ -39,7 +39,7 @@ fn main() {
             Ok(Err(Unknown)) => "no request".to_owned(),
             Err(_) => "panic".to_owned(),
         };
-        let answer = if departs { departures::translated(&words, answer) } else { answer };
+        let answer = if differs { differences::translated(&words, answer) } else { answer };
         writeln!(out, "{request} => {answer}").expect("standard output can be written");
     }
 }

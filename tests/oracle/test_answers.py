@@ -19,7 +19,7 @@ from tests.oracle.crate import Driver
 from tests.oracle.inputs import request as made
 
 CALLS = TOP / "crates/test_calls"
-STORED, DEPARTURES = DATA / "rust.calls", DATA / "departures.calls"
+STORED, STORED_DIFFERENCES = DATA / "rust.calls", DATA / "differences.calls"
 # How many requests are made and asked at once: `rt try` takes no more than 1 MiB of standard error.
 BLOCK = 10_000
 # What the driver answers to a request for which the Rust crate has no call.
@@ -44,12 +44,12 @@ def test_other_rows(driver: Driver, file: Path, notes: list[str]) -> None:
     assert {request: said[request] for request in wants} == wants
 
 
-def test_departures(driver: Driver) -> None:
-    """The crate itself answers as the line above each row of departures.calls has it."""
-    found = re.findall(r"(?m)^# There: (.*)\n(.*?) => ", DEPARTURES.read_text())
+def test_differences(driver: Driver) -> None:
+    """The crate itself answers as the line above each row of differences.calls has it."""
+    found = re.findall(r"(?m)^# There: (.*)\n(.*?) => ", STORED_DIFFERENCES.read_text())
     said = driver.as_it_is("".join(f"{request}\n" for _, request in found).encode()).decode()
     assert [*rows(said)] == [(request, theirs) for theirs, request in found]
-    assert len(found) == len([*rows(DEPARTURES.read_text())])
+    assert len(found) == len([*rows(STORED_DIFFERENCES.read_text())])
 
 
 def answered(driver: Driver, seed: int, count: int) -> bytes:
