@@ -17,7 +17,7 @@ UNPROVED := $(PROGRAMS:%=%-runs) $(TESTED:%=%-tests) stored-output
 # What needs no proofs, and what runs over the programs and libraries that they leave.
 ALONE := docs lint test-model test-vendor test-vectors
 SUITES := show alloc-failures sizes wire c python counts web rust crate broker
-CHECKED := proofs $(ALONE) $(SUITES:%=test-%) wrong-bodies
+CHECKED := proofs $(ALONE) $(SUITES:%=test-%) mutants
 
 $(PROGRAMS:%=%-runs): %-runs:
 	$(step) python3 -m tests.unproved runs $*
@@ -50,8 +50,8 @@ test-show: ## test-NAME runs one suite over the proofs: show, wire, c, python, r
 $(SUITES:%=test-%): test-%: proofs
 	$(step) tests/run $(or $(NAME_$*),$*) $(OPTIONS_$*)
 
-wrong-bodies: proofs ## try wrong bodies, which the prover must refuse (15 minutes; later only of what changed)
-	$(step) tests/wrong_bodies --built $(ALL)
+mutants: proofs ## try mutants, which the prover must refuse (15 minutes; later only of what changed)
+	$(step) tests/mutants --built $(ALL)
 
 # What tests/run calls a suite, if it has another name there, and its options.
 NAME_alloc-failures = memory/alloc-failures

@@ -217,7 +217,7 @@ def other_lengths() -> Iterator[str]:
     for what, count in wanted.items():
         if abs(stated.get(what, 0) - count) > (0 if "headline" in what else ROUNDED * count):
             yield f"{VERIFICATION}: the lines of {what} are {count:,}, and not {stated.get(what)}: write that in the table"
-    blocks = "".join(it.read_text() for it in TOP.glob("crates/*/wrong"))
+    blocks = "".join(it.read_text() for it in TOP.glob("crates/*/mutants"))
     mutants = len(re.findall(r"(?m)^## ", blocks)) + len([*TOP.glob("crates/*/must-fail/*.edit")])
     answers = len(re.findall(r"(?m)^(?!#|$)", read(ANSWERS)))
     for words in (f"more than {mutants // 100 * 100} mutants", f"{answers} stored ones"):
