@@ -1,6 +1,6 @@
-# Builds, tests, installs and packs the C library and amqp_show; `make help` lists the targets. All need the Rattle kit. `make`,
-# `make lib` and `make test` need nothing else but python3, git, cmake and a C compiler; the others need what `make setup`
-# installs. What is installed or packed needs neither.
+# Builds, tests, installs and packs the C library and amqp_show; `make help` lists the targets. All need the Rattle toolchain.
+# `make`, `make lib` and `make test` need nothing else but python3, git, cmake and a C compiler; the others need what
+# `make setup` installs. What is installed or packed needs neither.
 OUT = out
 # How the crates are proved: each once, here, or, with BUILT=--built, as `rt ci` has left them.
 BUILT = --once

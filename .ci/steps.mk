@@ -83,9 +83,9 @@ NO_CRATE = neither AMQ_PROTOCOL_TYPES names the Rust crate's folder nor cargo ha
 chosen = $(filter-out $(WITHOUT) $(WITHOUT:%=test-%),$(1))
 run = @rm -rf $(STEPS); begun=$$(date +%s); TMPDIR=$$(mktemp -d -t maolkint-XXXXXX); export TMPDIR; chmod 755 $$TMPDIR; \
     trap 'rm -rf $$TMPDIR' EXIT; $(MAKE) --no-print-directory -k -j$(2) $(chosen); .ci/count.py $(STEPS) $$begun $(chosen)
-needed = @rt version | grep -q '$(LOGIC)$$' || { echo "rt, of a Rattle kit with the $(LOGIC), is missing"; exit 1; }; .ci/setup --missing
+needed = @rt version | grep -q '$(LOGIC)$$' || { echo "rt, of a Rattle toolchain with the $(LOGIC), is missing"; exit 1; }; .ci/setup --missing
 
-test: ## run the tests that need only the kit, python3, make and git (about 5 minutes)
+test: ## run the tests that need only the Rattle toolchain, python3, make and git (about 5 minutes)
 	$(call run,$(UNPROVED),$$(nproc))
 
 check: override WITHOUT := $(strip $(WITHOUT) $(if $(HAS_CRATE)$(filter crate,$(WITHOUT)),,crate))

@@ -8,7 +8,7 @@ from pathlib import Path
 
 # What has each, as Debian's packages are called.
 PACKAGES = {
-    "rt": "the Rattle kit",
+    "rt": "the Rattle toolchain",
     "cc": "gcc",
     "ar": "binutils",
     "cmake": "cmake",

@@ -51,7 +51,7 @@ def write_case(path: Path, stdin: bytes, stdout: bytes, words: Sequence[str]) ->
 
 
 def runs(crate: Path) -> Tried:
-    """The stored run of a program, and of amqp_show the cases of tests/show."""
+    """The expected output of a program, and of amqp_show the cases of tests/show."""
     with tempfile.TemporaryDirectory() as folder:
         args = content(crate / "args").decode().splitlines()
         write_case(Path(folder) / "stored_run", content(crate / "stdin"), (crate / "stdout").read_bytes(), args)

@@ -25,7 +25,7 @@ def pytest_configure(config: pytest.Config) -> None:
     lacks = [it for it in ("rt", "cc", "c++", "nm") if not shutil.which(it)]
     if lacks:
         raise pytest.UsageError(
-            f"tests/run c needs {', '.join(lacks)} (rt is of the Rattle kit, make setup installs all else)"
+            f"tests/run c needs {', '.join(lacks)} (rt is of the Rattle toolchain, make setup installs all else)"
         )
 
 
