@@ -1,4 +1,4 @@
-"""What is tested from outside. What the tests share with the gate and with what is packed is in packaging."""
+"""What is tested from outside. What the tests share with CI and with what is packed is in packaging."""
 
 import sys
 from pathlib import Path

@@ -10,7 +10,7 @@ from crates import TOP
 
 HEADER, SPEED, INTEROP, CONTRIBUTING = "include/amqp_values.h", "docs/SPEED.md", "docs/INTEROP.md", "CONTRIBUTING.md"
 VERIFICATION, ANSWERS = "docs/VERIFICATION.md", "crates/test_calls/data/rust.calls"
-# The steps of the gate, which ask for a kit of one logic.
+# The steps of CI, which ask for a kit of one logic.
 STEPS = ".ci/steps.mk"
 # The page on what a new type touches.
 A_TYPE = "docs/ADDING-A-TYPE.md"
@@ -147,7 +147,7 @@ def versions_by_hand() -> Iterator[str]:
 
 
 def other_logics() -> Iterator[str]:
-    """Yields the pages that ask for a kit of another logic than the gate does."""
+    """Yields the pages that ask for a kit of another logic than CI does."""
     (wanted,) = re.findall(r"(?m)^LOGIC = (logic [0-9a-f]+)$", read(STEPS))
     for name in ("README.md", CONTRIBUTING):
         found = re.findall(r"logic [0-9a-f]{16}", read(name))

@@ -9,7 +9,7 @@ import pytest
 from crates import TOP, Crates
 from wheels import PYTHON, build_package
 
-# How many damaged tables are read: in the gate, and before a release.
+# How many damaged tables are read: by CI, and before a release.
 SAMPLE, WHOLE = 4_000, 100_000
 FLAGS = ("-O1", "-fsanitize=address,undefined", "-fno-sanitize-recover=undefined", "-fno-omit-frame-pointer")
 DEBUG = "python3-dbg"
