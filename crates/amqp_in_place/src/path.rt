@@ -80,6 +80,13 @@ impl<'a> ValueRef<'a> {
 
 impl<'a> TableRef<'a> {
     /// Returns the value that the steps lead to: as [`ValueRef::get_path`] from this table.
+    ///
+    /// # Examples
+    ///
+    /// ```rust
+    /// let path = [PathStep::Key("x-death"), PathStep::Index(0), PathStep::Key("count")];
+    /// let count = headers.get_path(&path, EqualKeys::First);
+    /// ```
     pub fn get_path(self, path: &[PathStep<'_>], of_equal: EqualKeys) -> Option<ValueRef<'a>>
         ensures written { (t : Tree) → IsWrittenAs (at.FieldTable self.entry) t
             → WrittenIs (at_path of_equal path.now t) result }

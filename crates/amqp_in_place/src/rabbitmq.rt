@@ -28,6 +28,15 @@ pub fn first_problem(bytes: &[u8], limits: Limits) -> Option<Problem>
 /// Returns the first problem that RabbitMQ has with a table without its type tag, or `None` if it
 /// accepts the table and the table is within the limits: `amqp_in_place::first_problem_in_table` by
 /// `Rules::RabbitMq`.
+///
+/// # Examples
+///
+/// ```rust
+/// if let Some(problem) = first_problem_in_table(headers, LIMITS) {
+///     println!(rt; "publishing: {:?} at byte {}", problem.kind, problem.offset)?;
+///     return Ok(());
+/// }
+/// ```
 pub fn first_problem_in_table(table: &[u8], limits: Limits) -> Option<Problem>
     ensures first { result ≡ problem_in_table_of RabbitMq limits table.now }
     ensures inside { IfSome result (λ p. p.offset ≤ length table.now) }

@@ -35,6 +35,13 @@ use simdutf8::basic::Utf8Error;
 ///
 /// All of the value is validated, keys' UTF-8 too. Nothing is copied or allocated. By measurements
 /// it uses stack for at most `limits.depth` levels; docs/PROMISES.md has what one takes.
+///
+/// # Examples
+///
+/// ```rust
+/// let (value, _rest) = read_in_place(b"I\0\0\x27\x10", LIMITS)?;
+/// println!(rt; "in place: {} {:?}", value.get_type(), value.as_long_int())?;
+/// ```
 #[tactic(auto, using(crate::proofs::OneValue::one_value, crate::proofs::Reading::left_after, amq_protocol_types::proofs::ParsingLaws::unknown_within, amq_protocol_types::proofs::ParsingLaws::lacks_within))]
 pub fn read_in_place(bytes: &[u8], limits: Limits) -> Result<(ValueRef<'_>, &[u8]), ParserError>
     ensures within { MatchResult result
@@ -81,6 +88,13 @@ pub fn read_in_place_unlimited(bytes: &[u8]) -> Result<(ValueRef<'_>, &[u8]), Pa
 /// It returns what `read_in_place` does of the type tag `F` and the bytes, within the same limits:
 /// `frame` counts the type tag, and `depth` the table. Nothing is copied or allocated. It recurses
 /// at most `limits.depth` levels deep, as `read_in_place` does.
+///
+/// # Examples
+///
+/// ```rust
+/// let (headers, _rest) = read_table_in_place(HEADERS, LIMITS)?;
+/// let retry = headers.get("retry").and_then(|value| value.as_bool());
+/// ```
 #[inline(always)]
 pub fn read_table_in_place(
     bytes: &[u8],

@@ -23,6 +23,16 @@ impl<'a> TableRef<'a> {
     /// If the keys ascend by their bytes, as in a canonical encoding, it doesn't allocate.
     /// Otherwise keys are retained in a set, in at most some 40 bytes each, until one is repeated:
     /// n log n comparisons for n pairs, whoever picks the keys.
+    ///
+    /// # Examples
+    ///
+    /// ```rust
+    /// let (table, _rest) = read_table_in_place(headers, LIMITS)?;
+    /// match table.repeated_key(alloc)? {
+    ///     Some(key) => bail!("rejected, the key {key:?} is repeated"),
+    ///     None => Ok(table),
+    /// }
+    /// ```
     pub fn repeated_key(self, alloc: Global) -> Result<Option<&'a str>, AllocError>
         ensures repeated { IfOk result (λ key. (ps : Entries) → TableBody (table_body self.entry) ps → RepeatedIs ps key) }
         ensures err { OnErr result ((ps : Entries) → TableBody (table_body self.entry) ps → IsRising ps → ⊥) }

@@ -76,6 +76,15 @@ fn canonical_encoding(alloc: Global, json: &str, levels: u32) -> Result<Vec<u8>,
 /// Converts a JSON text to the value that it means. Errors and the limit on nesting are as in
 /// `encoding_of_json`; docs/JSON.md has the most memory that it allocates for each byte of the
 /// text.
+///
+/// # Examples
+///
+/// ```rust
+/// const ARGUMENTS: &str = "{\"x-queue-type\": \"quorum\", \"x-max-length\": {\"$LongInt\": 10000}}";
+///
+/// let arguments = from_json(alloc, ARGUMENTS)?;
+/// println!(rt; "json: {}", to_json(alloc, &arguments)?)?;
+/// ```
 pub fn from_json(alloc: Global, json: &str) -> Result<AMQPValue, JsonError>
     ensures ok { IfOk result (λ v. meant json.now ≡ Some (view v)) }
     ensures refused { IfErr result (λ e. IsRefusedWithin most_levels e json.now) }

@@ -2,7 +2,7 @@
 
 use crate::headers::{HEADERS, LIMITS};
 use amq_protocol_types::parsing::ParserError;
-use amqp_in_place::{EqualKeys, Limits, PathStep, read_table_in_place};
+use amqp_in_place::{EqualKeys, Limits, PathStep, read_in_place, read_table_in_place};
 use anyhow::Result;
 
 /// How often a message was dead-lettered, by its headers' bytes, which anyone may have sent.
@@ -22,7 +22,8 @@ fn deaths(headers: &[u8]) -> Result<Option<i64>, ParserError> {
 }
 
 /// Prints how often, whether the message is to be tried again, and whether its headers can be
-/// compared by their bytes: they are in their canonical encoding.
+/// compared by their bytes: they are in their canonical encoding. Prints a value with its type tag
+/// too.
 pub fn run<P: Print>(rt: &P) -> Result<()> {
     if let Some(count) = deaths(HEADERS)? {
         println!(rt; "in place: dead-lettered {count} times")?;
@@ -32,5 +33,7 @@ pub fn run<P: Print>(rt: &P) -> Result<()> {
     println!(rt; "in place: retry is {retry:?}")?;
     let canonical = amqp_in_place::is_canonical_table(HEADERS, LIMITS);
     println!(rt; "in place: in canonical encoding: {canonical}")?;
+    let (value, _rest) = read_in_place(b"I\0\0\x27\x10", LIMITS)?;
+    println!(rt; "in place: {} {:?}", value.get_type(), value.as_long_int())?;
     Ok(())
 }

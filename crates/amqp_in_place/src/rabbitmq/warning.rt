@@ -105,6 +105,13 @@ pub fn warnings(
 /// Finds what may go wrong with a table without its type tag, which begins with its length. Finds
 /// what `warnings` finds in the table with its type tag; the offsets count from the length on, and
 /// are 0 for the table itself.
+///
+/// # Examples
+///
+/// ```rust
+/// let warned = warnings_in_table(alloc, headers, LIMITS, FRAME_MAX, CLIENT_LEVELS)?;
+/// println!(rt; "publishing: the first empty key: {:?}", warned.empty_key)?;
+/// ```
 pub fn warnings_in_table(
     alloc: Global,
     table: &[u8],
