@@ -18,7 +18,7 @@ mod UntaggedContainers
 -- writing
 mod Capacities
 mod Steps
-mod Puts
+mod FlagPuts
 mod Slices
 mod Arrays
 mod Tables

@@ -4,7 +4,7 @@ use Rattle.std.proofs.lemmas.Result.{err_from_is_err_and}
 use Rattle.std.specs.Slice.Iter.{chunks_rest}
 use Rattle.amq_protocol_types.specs.Flags.{listed, flags_of, values_of, pack, bytes_for}
 use Rattle.amq_protocol_types.proofs.FlagBits.{flags_chunk, flags_read_back, count_packed}
-use Rattle.amq_protocol_types.proofs.Puts.{capacity_promised, capacity_refused, put_more, refused_later, one_fits}
+use Rattle.amq_protocol_types.proofs.FlagPuts.{capacity_promised, capacity_refused, put_more, refused_later, one_fits}
 use Rattle.amq_protocol_types.proofs.generation.flags.gen_flags.Goals as goal
 
 pub returns-in_err-make_room-clause-written : goal.returns-in_err-make_room-clause-written

@@ -3,7 +3,7 @@ use Rattle.std.proofs.Common.{◌≡◌, ◌++◌, List, ℕ, length}
 use Rattle.std.specs.Slice.Iter.{chunks_rest, chunks_size}
 use Rattle.amq_protocol_types.specs.generation.Contexts.{start_of, state_of}
 use Rattle.amq_protocol_types.specs.Flags.{listed, values_of, flags_of, pack}
-use Rattle.amq_protocol_types.proofs.Puts.{PutSoFar}
+use Rattle.amq_protocol_types.proofs.FlagPuts.{PutSoFar}
 use Rattle.amq_protocol_types.proofs.generation.flags.gen_flags.Given as goal
 
 -- the bytes of some flags were put, and those of the others are left
