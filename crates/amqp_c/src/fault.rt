@@ -1,4 +1,5 @@
-//! Why a call fails.
+//! Why a call fails. The numbers are also in specs/ReturnCodes.antt, which `code` is proved to return, and in
+//! include/amqp_values.h, whose values tests/c/stable.c holds.
 
 ghost use Rattle.std.specs.Prelude.{◌≡◌};
 ghost use Rattle.amqp_c.specs.ReturnCodes.{header_fault, code_of};

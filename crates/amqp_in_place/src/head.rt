@@ -1,4 +1,4 @@
-//! What follows a type tag, one level deep.
+//! A type tag and one level behind it; a bare table and a key likewise. crates/test_calls/data/in_place.calls has the rows.
 
 // Tactics at functions: each names what all arms of a `match`, or all errors, are proved by.
 
@@ -88,6 +88,7 @@ fn read_payload_head<'a>(
             let (i, n) = parse_long_long_int(i)?;
             Ok((i, Head::Plain(ValueRef::LongLongInt(n))))
         }
+        // (no type tag is read as it)
         AMQPType::LongLongUInt => {
             let (i, n) = parse_long_long_int(i)?;
             Ok((i, Head::Plain(ValueRef::LongLongInt(n))))

@@ -1,4 +1,4 @@
-"""What the package makes of objects whose own methods lie, raise, and change what is written; of stacks, threads and memory.
+"""Objects whose own methods lie, raise, and change what is written; then the stack, threads, memory and failing allocations.
 
 watched.py writes hostile objects, under sanitizers.
 """
