@@ -4,7 +4,7 @@ use Rattle.std.specs.Borrow.{Bor}
 use Rattle.amqp_value_core.specs.declared.types.amqp_type.AMQPType.TheVariants as amqp
 use Rattle.amqp_value_core.specs.Bytes.{IsShort}
 use Rattle.amqp_value_core.specs.Values as values
-use Rattle.amqp_value_core.specs.Values.{Tree, scalar, array, table, Trees, no_trees, tree, Entries, no_entries, entry, ComesBefore}
+use Rattle.amqp_value_core.specs.Values.{Tree, array, table, Trees, no_trees, tree, Entries, no_entries, entry, ComesBefore}
 use Rattle.amqp_value_core.specs.Maps.{insert_all, IsRising}
 use Rattle.amqp_value_core.specs.Grammar.{short_field, long_field, Wire, wire, raw_fixed, raw_short, raw_long, raw_octets, raw_array, raw_table, ArrayBody, no_values, value, TableBody, no_pairs, pair}
 use Rattle.amqp_value_core.proofs.GrammarLaws.{put_mean}

@@ -1,5 +1,5 @@
 -- An object whose first key is a type key: `$` and a name.
-use Rattle.std.proofs.Common.{◌≡◌, ℕ, zero, suc, ◌-◌, List, [], ◌∷◌, length, drop, true, Option, Some, None, option_map, option_and_then, refl, sym, ap, ◌∙◌, arith, Bor, ◌⊎◌, inl, inr}
+use Rattle.std.proofs.Common.{◌≡◌, ℕ, zero, suc, ◌-◌, List, ◌∷◌, length, drop, true, Option, Some, None, option_map, option_and_then, refl, sym, ap, ◌∙◌, arith, Bor, ◌⊎◌, inl, inr}
 use Rattle.json.specs.Token as spec
 use Rattle.json.specs.Token.{Token, key, number, string}
 use Rattle.json.specs.Json as json
@@ -11,7 +11,7 @@ use Rattle.json.proofs.Grammar.{value_is, members_end, members_more, members_no_
 use Rattle.amqp_value_core.specs.declared.types.amqp_type.AMQPType.{AMQPType}
 use Rattle.amqp_value_core.specs.Values.{Tree}
 use Rattle.amqp_json.specs.Names.{type_named}
-use Rattle.amqp_json.specs.Meaning.{is_type_key, meaning, pairs_of, object_of, value_as, number_as, string_as}
+use Rattle.amqp_json.specs.Meaning.{is_type_key, value_as, number_as, string_as}
 use Rattle.amqp_json.specs.Puts.{IsLeaf, IsNoLeaf, IsLeafRefusal, IsNamed, IsRefusal, members_at, object_meant, converted}
 use Rattle.amqp_json.specs.declared.error.JsonError.{JsonError}
 use Rattle.amqp_json.specs.declared.error.JsonError.TheVariants.{OutOfMemory, TooLarge, Syntax, TooDeep, NotAValue}
