@@ -131,11 +131,10 @@ fn sorted_text(alloc: Global, value: ValueRef<'_>) -> Result<String, AllocError>
     ensures text { IfOk result (λ s. (v : Tree) → Denotes value.entry v → string_bytes s ≡ json_text v) }
 {
     let mut first = vec![in alloc; 0u8; len_inside(value).saturating_mul(4)]?;
-    let room = first.as_mut_slice();
-    let end = put_any_value(alloc, room, Place::START, value)?;
-    if end.count <= room.len() {
-        let text = Vec::from_slice(alloc, &room[..end.count])?;
-        return Ok(unsafe { String::from_utf8_unchecked(text) });
+    let end = put_any_value(alloc, first.as_mut_slice(), Place::START, value)?;
+    if end.count <= first.len() {
+        first.truncate(end.count);
+        return Ok(unsafe { String::from_utf8_unchecked(first) });
     }
     let mut text = vec![in alloc; 0u8; end.count]?;
     put_any_value(alloc, text.as_mut_slice(), Place::START, value)?;
