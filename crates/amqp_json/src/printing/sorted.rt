@@ -70,9 +70,9 @@ fn put_entries(
 {
     let entries = entries_of(alloc, table)?;
     let mut end = put_token(buffer, place, Token::BeginObject);
-    for (key, value) in entries {
-        let keyed = put_key(buffer, end, key);
-        end = put_any_value(alloc, buffer, keyed, value)?;
+    for (key, value) in entries.iter() {
+        let keyed = put_key(buffer, end, *key);
+        end = put_any_value(alloc, buffer, keyed, *value)?;
     }
     Ok(put_token(buffer, end, Token::EndObject))
 }

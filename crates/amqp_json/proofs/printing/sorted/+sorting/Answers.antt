@@ -47,7 +47,7 @@ put_entries-loop-key-init t c = (
 pub put_entries-loop-key-preserved : goal.put_entries-loop-key-preserved
 put_entries-loop-key-preserved t c =
     let l = c.loop-key in
-    let x : Bor (List ℕ) × ValueRef = (c.in-Some.key, c.in-Some.value) in (
+    let x : Bor (List ℕ) × ValueRef = (c.in-Some.key.now, c.in-Some.value.now) in (
       search rules,
       λ es is.
           let at = l.invariant.1 es is in
