@@ -10,6 +10,7 @@ pub mod Back
 pub mod ReadBack
 pub mod Encoded
 pub mod Bytes
+pub mod Plain
 pub mod Printed
 pub mod PrintedContainers
 pub mod Rising

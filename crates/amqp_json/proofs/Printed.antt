@@ -59,23 +59,23 @@ digits_plain (b ∷ bs) h =
 
 -- ---- a text with its escapes
 
-pub escaped_end : (text done close whole : List ℕ) (from stop : ℕ) → stop ≡ from + prefix_len is_plain (drop from text) → stop ≡ length text → done ++ (escape (drop from text) ++ close) ≡ whole
-    → (done ++ take (stop - from) (drop from text)) ++ close ≡ whole
-escaped_end text done close whole from stop is end e =
+pub escaped_end : (text done whole : List ℕ) (from stop : ℕ) → stop ≡ from + prefix_len is_plain (drop from text) → stop ≡ length text → done ++ escape (drop from text) ≡ whole
+    → done ++ take (stop - from) (drop from text) ≡ whole
+escaped_end text done whole from stop is end e =
     let part = take (stop - from) (drop from text) in
-    append_assoc done part close
-    ∙ ap (λ l. done ++ (part ++ l)) (sym (escape_end text stop close (omega (arith, end)) ∙ append-nil close))
-    ∙ ap (λ l. done ++ l) (sym (escape_to_stop text from stop close is)) ∙ e
+    ap (λ l. done ++ l)
+    (sym (append-nil part) ∙ ap (λ l. part ++ l) (sym (escape_end text stop [] (omega (arith, end)))) ∙ sym (escape_to_stop text from stop [] is) ∙ append-nil (escape (drop from text)))
+    ∙ e
 
-pub escaped_more : (text done close whole : List ℕ) (from stop : ℕ) → stop ≡ from + prefix_len is_plain (drop from text) → stop < length text → done ++ (escape (drop from text) ++ close) ≡ whole
-    → ((done ++ take (stop - from) (drop from text)) ++ escape_byte (get_or text stop 0)) ++ (escape (drop (stop + 1) text) ++ close) ≡ whole
-escaped_more text done close whole from stop is less e =
+pub escaped_more : (text done whole : List ℕ) (from stop : ℕ) → stop ≡ from + prefix_len is_plain (drop from text) → stop < length text → done ++ escape (drop from text) ≡ whole
+    → ((done ++ take (stop - from) (drop from text)) ++ escape_byte (get_or text stop 0)) ++ escape (drop (stop + 1) text) ≡ whole
+escaped_more text done whole from stop is less e =
     let part = take (stop - from) (drop from text) in
-    let rest = escape (drop (stop + 1) text) ++ close in
-    append_assoc (done ++ part) (escape_byte (get_or text stop 0)) rest
-    ∙ append_assoc done part (escape_byte (get_or text stop 0) ++ rest)
-    ∙ ap (λ l. done ++ (part ++ l)) (sym (escape_at text stop close less))
-    ∙ ap (λ l. done ++ l) (sym (escape_to_stop text from stop close is)) ∙ e
+    let byte = escape_byte (get_or text stop 0) in
+    let rest = escape (drop (stop + 1) text) in
+    append_assoc (done ++ part) byte rest ∙ append_assoc done part (byte ++ rest)
+    ∙ ap (λ l. done ++ (part ++ l)) (ap (λ l. byte ++ l) (sym (append-nil rest)) ∙ sym (escape_at text stop [] less))
+    ∙ ap (λ l. done ++ l) (sym (escape_to_stop text from stop [] is) ∙ append-nil (escape (drop from text))) ∙ e
 
 -- ---- bytes that a buffer isn't large enough for
 

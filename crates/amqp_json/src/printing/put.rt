@@ -3,13 +3,16 @@
 
 // The tactic at the function opens the definition of an escape, by which a byte needs none.
 
-ghost use Rattle.std.specs.Prelude.{◌≡◌, ◌+◌, ◌<◌, ◌≤◌, ◌∷◌, [], ◌++◌, length, take, drop};
+ghost use Rattle.std.specs.Prelude.{◌≡◌, ◌+◌, ◌<◌, ◌≤◌, length, take, drop, map};
 ghost use Rattle.std.specs.List.{prefix_len};
 ghost use Rattle.std.specs.Char.{digit_char};
+ghost use Rattle.std.specs.Simd.Lanes.{mask_l};
 ghost use Rattle.hex.specs.Hex.{encode_lower};
 ghost use Rattle.json.specs.Print.{escape_letter, escape_byte, escape};
-ghost use Rattle.json.specs.Run.{is_plain};
+ghost use Rattle.json.specs.Run.{is_plain, is_stop};
 ghost use Rattle.amqp_json.specs.Printing.{PutsBytes};
+
+use std::simd::prelude::*;
 
 #[inline(always)]
 pub(crate) fn put(buffer: &mut [u8], at: usize, bytes: &[u8]) -> usize
@@ -35,9 +38,9 @@ pub(crate) fn put_hexadecimal(buffer: &mut [u8], at: usize, bytes: &[u8]) -> usi
     }
 }
 
-/// A text with its escapes, and then `close`.
-pub(crate) fn put_escaped(buffer: &mut [u8], at: usize, text: &[u8], close: &[u8]) -> usize
-    ensures { PutsBytes buffer.old at buffer.new result (escape text.now ++ close.now) }
+/// A text with its escapes.
+pub(crate) fn put_escaped(buffer: &mut [u8], at: usize, text: &[u8]) -> usize
+    ensures { PutsBytes buffer.old at buffer.new result (escape text.now) }
 {
     let mut at = at;
     let mut from = 0;
@@ -45,7 +48,7 @@ pub(crate) fn put_escaped(buffer: &mut [u8], at: usize, text: &[u8], close: &[u8
         let stop = plain_end(text, from);
         at = put(buffer, at, &text[from..stop]);
         if stop == text.len() {
-            return put(buffer, at, close);
+            return at;
         }
         let (escape, count) = escape_of(text[stop]);
         at = put(buffer, at, &escape[..count]);
@@ -53,8 +56,33 @@ pub(crate) fn put_escaped(buffer: &mut [u8], at: usize, text: &[u8], close: &[u8
     }
 }
 
-// The first place from this one on that has a quote, a backslash or a control character, or the end.
+// The first place from this one on that has a quote, a backslash or a control character, or the end. Eight bytes
+// without one are passed at once.
+#[inline(always)]
 fn plain_end(bytes: &[u8], from: usize) -> usize
+    requires { from ≤ length bytes.now }
+    ensures value { result ≡ from + prefix_len is_plain (drop from bytes.now) }
+    ensures bound { result ≤ length bytes.now }
+{
+    let mut at = from;
+    while bytes.len() - at >= 8 && stops(u8x8::from_slice(&bytes[at..])) == 0 {
+        at += 8;
+    }
+    stop_of(bytes, at)
+}
+
+// A bit for each byte that has to be escaped.
+#[inline(always)]
+fn stops(bytes: u8x8) -> u64
+    ensures { result ≡ mask_l (map is_stop bytes) }
+{
+    (bytes.simd_eq(u8x8::splat(b'"'))
+        | bytes.simd_eq(u8x8::splat(b'\\'))
+        | bytes.simd_lt(u8x8::splat(0x20))).to_bitmask()
+}
+
+#[inline(always)]
+fn stop_of(bytes: &[u8], from: usize) -> usize
     requires { from ≤ length bytes.now }
     ensures value { result ≡ from + prefix_len is_plain (drop from bytes.now) }
     ensures bound { result ≤ length bytes.now }

@@ -27,22 +27,29 @@ pub(crate) fn put_token(buffer: &mut [u8], place: Place, token: Token<'_>) -> Pl
 }
 
 /// The key of an entry: one that begins with `$` is written with one more.
+#[inline(always)]
 pub(crate) fn put_key(buffer: &mut [u8], place: Place, name: &str) -> Place
     ensures { PutsTokens buffer.old place buffer.new result (key (written_key name.now) ∷ []) }
 {
     let at = put_separator(buffer, place, true);
-    let at = put(buffer, at, quote_of(name));
+    let at = put_key_quote(buffer, at, name);
+    let at = put_escaped(buffer, at, name.as_bytes());
     Place {
-        count: put_escaped(buffer, at, name.as_bytes(), b"\":"),
+        count: put(buffer, at, b"\":"),
         after_value: false,
     }
 }
 
 // The quote before a key, with the `$` before another.
-fn quote_of(name: &str) -> &'static [u8]
-    ensures { result.now ≡ cond (is_marked name.now) (34 ∷ 36 ∷ []) (34 ∷ []) }
+#[inline(always)]
+fn put_key_quote(buffer: &mut [u8], at: usize, name: &str) -> usize
+    ensures { PutsBytes buffer.old at buffer.new result (cond (is_marked name.now) (34 ∷ 36 ∷ []) (34 ∷ [])) }
 {
-    if name.starts_with('$') { b"\"$" } else { b"\"" }
+    if name.starts_with('$') {
+        put(buffer, at, b"\"$")
+    } else {
+        put(buffer, at, b"\"")
+    }
 }
 
 /// The string of the bytes in hexadecimal digits.
@@ -112,11 +119,13 @@ fn put_text(buffer: &mut [u8], at: usize, token: Token<'_>) -> usize
 }
 
 // A text in quotes, of which `close` is the last one with what follows.
+#[inline(always)]
 fn put_quoted(buffer: &mut [u8], at: usize, text: &[u8], close: &[u8]) -> usize
     ensures { PutsBytes buffer.old at buffer.new result (34 ∷ (escape text.now ++ close.now)) }
 {
     let at = put(buffer, at, b"\"");
-    put_escaped(buffer, at, text, close)
+    let at = put_escaped(buffer, at, text);
+    put(buffer, at, close)
 }
 
 // Whether it is the first token of a value or a member.
