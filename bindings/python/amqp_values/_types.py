@@ -159,7 +159,10 @@ class Timestamp(_Integer):
 
     @classmethod
     def of(cls, time: datetime) -> Any:
-        """The seconds of a datetime with a time zone, rounded down."""
+        """Returns the seconds of a datetime with a time zone, rounded down.
+
+        A datetime without a time zone, or before 1970, raises an `Error`; an object of another type a TypeError.
+        """
         from . import dumps
 
         if not issubclass(type(time), datetime):
@@ -167,7 +170,7 @@ class Timestamp(_Integer):
         return cls(int.from_bytes(dumps(time)[1:], "big"))
 
     def as_datetime(self) -> datetime:
-        """The time in UTC; an `Error` from the year 10000 on."""
+        """Returns the time as a datetime in UTC. From the year 10000 on it raises an `Error`."""
         try:
             return datetime.fromtimestamp(int(self), timezone.utc)
         except (OverflowError, ValueError, OSError):
@@ -199,7 +202,7 @@ class Float(float):
 
     @classmethod
     def of_bits(cls, bits: Any) -> Any:
-        """The Float of 32 bits, which are given as an integer."""
+        """Returns the Float that has these 32 bits, which are given as an integer from 0 to 2**32 - 1."""
         number = _index(LongUInt(bits))
         if number >> 23 & 0xFF != 0xFF or not number & 0x7FFFFF:
             return float.__new__(cls, struct.unpack(">f", number.to_bytes(4, "big"))[0])

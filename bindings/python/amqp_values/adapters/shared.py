@@ -24,7 +24,11 @@ class IncompatibleClient(RuntimeError):
 
 
 class Headers(dict[Any, Any]):
-    """A table with the bytes that it came as. A copy by `dict` has none, nor has one that was pickled."""
+    """A message's headers: a `dict` that also keeps the bytes it was read from, as `raw`.
+
+    If it is published unchanged, these bytes are sent. They take memory for as long as the headers exist. A copy by `dict` or
+    by pickling has no `raw`.
+    """
 
     __slots__ = ("raw",)
     raw: bytes
@@ -43,9 +47,10 @@ class Headers(dict[Any, Any]):
 
 
 class Refused(Headers):
-    """A table that isn't read: it has no entries, and is true. `problem` says what is wrong, `raw` are its bytes.
+    """The headers of a message whose table was refused: a `dict` with no entries that is true nevertheless.
 
-    A message with it can be rejected without requeue, or published again with the same headers, which sends these bytes.
+    `problem` is the `Error` that says what is wrong, and `raw` has the table's bytes. Reject such a message without requeue,
+    or publish it again with the same headers, which sends these bytes.
     """
 
     __slots__ = ("problem",)
@@ -197,7 +202,9 @@ class Client:
             exact=True         headers keep their bytes, which are sent if they are published unchanged; False for a `dict`
             raises=False       True raises the client's exception in place of a `Refused`, so that the connection is lost
 
-        If it raises an exception, nothing has changed: the client has its own codec, or that of an earlier `install`.
+        If it raises an exception, nothing has changed: the client has its own codec, or that of an earlier `install`. It raises
+        an `IncompatibleClient` if the self-check fails, and an `amqp_values.Error` or a TypeError for a wrong option. For a
+        version of the client that wasn't tested it issues an `UntestedVersion` warning.
         """
         options: dict[str, Any] = {"depth": depth, "max_bytes": max_bytes, "equal_keys": equal_keys, "exact": exact}
         options |= {"raises": raises}
