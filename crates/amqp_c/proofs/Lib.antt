@@ -5,6 +5,7 @@ mod Parts
 mod Prefixes
 mod Stepping
 mod LookUps
+mod PairLists
 mod Paths
 mod ByRules
 mod AnyKeys

@@ -8,6 +8,7 @@ pub mod Entries
 pub mod Heads
 pub mod Steps
 pub mod LookUps
+pub mod PairLists
 pub mod Paths
 pub mod CallResults
 pub mod Measures

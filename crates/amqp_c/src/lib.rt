@@ -34,6 +34,7 @@ mod getter;
 mod input;
 mod json;
 mod key;
+pub mod laws;
 mod lookup;
 mod measure;
 mod nest;
