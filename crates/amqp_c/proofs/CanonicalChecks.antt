@@ -13,7 +13,7 @@ use Rattle.amqp_in_place.specs.ProblemResults.{FindsValue}
 use Rattle.amqp_c.specs.declared.input.Input.{Input}
 use Rattle.amqp_c.specs.Inputs.{limits, is_untagged, encoding}
 use Rattle.amqp_c.proofs.ReadErrors.{of_parts, read_without_error}
-use Rattle.amqp_c.specs.Canonical.{IsEncodedSo, IsTold}
+use Rattle.amqp_c.specs.Reads.{IsEncodedSo, IsTold}
 
 encoding_bytes : (input : Input) → IsBytes input.bytes.now → IsBytes (encoding input)
 encoding_bytes input bytes = by (is_untagged input)

@@ -16,10 +16,11 @@ use Rattle.amqp_c.specs.declared.entry.Entry.{Entry}
 use Rattle.amqp_c.specs.declared.fault.Fault.{Fault}
 use Rattle.amqp_c.specs.declared.fault.Fault.TheVariants.{Cut}
 use Rattle.amqp_c.specs.declared.span.Span.{Span}
+use Rattle.amqp_c.specs.Heads.{array_tag, table_tag}
 use Rattle.amqp_c.specs.Spans.{part, rest_after, last, SpanIsIn}
 use Rattle.amqp_c.specs.Entries.{IsTagged, IsTrueTo, EntryIsIn}
-use Rattle.amqp_c.specs.Steps.{array_tag, table_tag, IsHeaded, HasNoPair, StandsAlone, StandsKeyed, EndsIn}
-use Rattle.amqp_c.specs.LookUps.{HasPair, none_left, first_here, one_more, HasNth, too_few, here, later, HasEntriesBy, IsOf, GivesFound, GivesBytes, StandsAtKey, IsFoundIn, FindsIn, LooksUp, LooksUpNth, IsPlaceOf, HasNoKey, IsRestOf}
+use Rattle.amqp_c.specs.Steps.{IsHeaded, HasNoPair, StandsAlone, StandsKeyed, EndsIn}
+use Rattle.amqp_c.specs.LookUps.{HasPair, none_left, first_here, one_more, HasNth, too_few, here, later, HasEntriesBy, IsOf, GivesFound, GivesBytes, StandsAtKey, IsFoundIn, FindsIn, LooksUp, LooksUpNth, IsPlaceOf, HasNoKey}
 use Rattle.amqp_c.proofs.Parts.{part_after, part_length, part_last}
 use Rattle.amqp_c.proofs.Stepping.{one_key}
 
@@ -109,6 +110,10 @@ one_value _ _ _ _ (here s whole) (too_few n) = absurd (omega (arith, whole.0, wh
 one_value _ _ _ _ (later n s w whole rest) (too_few m) = absurd (omega (arith, whole.0, whole.1))
 
 -- ---- what is left while searching
+
+-- the bytes are what is in s after some of its bytes
+abbrev IsRestOf : List ℕ → List ℕ → Type 0
+IsRestOf s rest = (n : ℕ) × (0 < n) × (n ≤ length s) × (rest ≡ drop n s)
 
 -- what is after the pair at the start
 pub pair_after : (left name value rest : List ℕ) → left ≡ short_field name ++ value → rest ≡ drop (extent value) value → extent value ≤ length value → IsRestOf left rest

@@ -4,7 +4,8 @@ use Rattle.std.specs.Bool.{MatchBool}
 use Rattle.std.proofs.lemmas.List.{take_at, length-take-le}
 use Rattle.amqp_c.specs.Spans.{SpanIsIn}
 use Rattle.amqp_c.specs.declared.container.Container.{Container}
-use Rattle.amqp_c.specs.Containers.{IsContainerTag, HasNoneOpen, HasOneOpen, IsKeyOf, named, end_of, entry_of}
+use Rattle.amqp_c.specs.Heads.{IsContainerTag}
+use Rattle.amqp_c.specs.Containers.{HasNoneOpen, HasOneOpen, IsKeyOf, named, end_of, entry_of}
 use Rattle.amqp_c.specs.Growth.{IsOpen}
 
 -- lists that are the same with one element after each are the same

@@ -6,11 +6,12 @@ use Rattle.amqp_value_core.specs.Grammar.{short_field}
 use Rattle.amqp_value_core.specs.Maps.{same_bytes}
 use Rattle.amq_protocol_types.specs.parsing.Headers.{extent}
 use Rattle.amqp_in_place.proofs.Lookups.{or_none}
-use Rattle.amqp_c.specs.Steps.{array_tag, table_tag, IsHeaded}
+use Rattle.amqp_c.specs.Steps.{IsHeaded}
 use Rattle.std.specs.Prelude.{slice_get}
 use Rattle.amqp_c.specs.declared.cursor.Cursor.{Cursor}
 use Rattle.amqp_c.specs.declared.entry.Entry.{Entry}
 use Rattle.amqp_c.specs.declared.fault.Fault.{Fault}
+use Rattle.amqp_c.specs.Heads.{array_tag, table_tag}
 use Rattle.amqp_c.specs.Spans.{part}
 use Rattle.amqp_c.specs.LookUps.{HasPair, none_left, first_here, one_more, HasNth, too_few, here, later, IsOf, GivesBytes, LooksUp, LooksUpNth}
 use Rattle.amqp_c.specs.PairLists.{ArePairEncodings, no_pair_encodings, pair_encoding, last_of_pairs, first_of_pairs, HasLast, HasFirst, never, at_once, after_another, AreEncodings, no_encodings, encoding}

@@ -12,10 +12,11 @@ use Rattle.amqp_c.specs.declared.entry.Entry.{Entry}
 use Rattle.amqp_c.specs.declared.lookup.Step.{Step}
 use Rattle.amqp_c.specs.declared.fault.Fault.{Fault}
 use Rattle.amqp_c.specs.declared.fault.Fault.TheVariants.{Invalid}
+use Rattle.amqp_c.specs.Heads.{array_tag, table_tag}
 use Rattle.amqp_c.specs.Spans.{part}
 use Rattle.amqp_c.specs.Entries.{IsEntry}
 use Rattle.amqp_c.specs.declared.span.Span.{Span}
-use Rattle.amqp_c.specs.Steps.{array_tag, table_tag, contents}
+use Rattle.amqp_c.specs.Steps.{contents}
 use Rattle.amqp_c.specs.LookUps.{GivesFound, IsFoundIn, LooksUp, LooksUpNth}
 use Rattle.amqp_c.specs.Paths.{Fits, IsInside, StepLeads, StepsLead, arrives, finds_none, fails, goes_on, value_by, value_on, LooksUpOn}
 use Rattle.amqp_c.proofs.Prefixes.{fixed_tag}
@@ -42,8 +43,8 @@ plain_wire : (w : List ℕ) (v : Tree) (x : Scalar) → Wire w v → v ≡ scala
 plain_wire _ _ x (wire c type b v tag raw) e = plain_raw type b v x raw e
 
 apart : (step : Step) (e : Entry) (tag : ℕ) → e.tag ≡ tag → IsPlainTag tag → Fits step e → ⊥
-apart step e tag is plain (inl to, same) = plain.1 (sym is ∙ (same ∙ to))
-apart step e tag is plain (inr to, same) = plain.0 (sym is ∙ (same ∙ to))
+apart step e tag is plain (inl to, same) = plain.0 (sym is ∙ (same ∙ to))
+apart step e tag is plain (inr to, same) = plain.1 (sym is ∙ (same ∙ to))
 
 -- ---- a step
 
@@ -93,7 +94,7 @@ pub leads_nth : (s : List ℕ) (first : Bool) (step : Step) (e : Entry) (r : Res
 leads_nth s first step e r to same looks = record {
   keyed = λ table is. absurd (omega (arith, table, to));
   indexed = λ to is. looks;
-  elsewhere = λ no. absurd (no (inr to, same));
+  elsewhere = λ no. absurd (no (inl to, same));
   inside = found_inside _ s e.content r looks.finds.entry;
 }
 
@@ -101,7 +102,7 @@ pub leads_by : (s : List ℕ) (first : Bool) (step : Step) (e : Entry) (r : Resu
 leads_by s first step e r to same looks = record {
   keyed = λ to is. looks;
   indexed = λ array is. absurd (omega (arith, array, to));
-  elsewhere = λ no. absurd (no (inl to, same));
+  elsewhere = λ no. absurd (no (inr to, same));
   inside = found_inside _ s e.content r looks.finds.entry;
 }
 

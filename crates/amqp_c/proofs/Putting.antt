@@ -6,10 +6,12 @@ use Rattle.std.proofs.lemmas.List.{take_at}
 use Rattle.amqp_value_core.specs.declared.types.amqp_type.AMQPType.TheVariants.{FieldTable}
 use Rattle.amqp_value_core.specs.Grammar.{Wire}
 use Rattle.amqp_value_core.specs.Ids.{id_of}
+use Rattle.amqp_value_core.specs.Outcomes.{found}
 use Rattle.amqp_value_core.specs.Texts.{text}
 use Rattle.amqp_value_core.specs.Values.{Tree, Scalar, scalar, long, octets}
 use Rattle.amqp_value_core.proofs.GrammarLaws.{text_is_wire, prefix_within, wire_of}
 use Rattle.amq_protocol_types.specs.parsing.Headers.{extent, wanted}
+use Rattle.amq_protocol_types.specs.parsing.Limits.{Within}
 use Rattle.amq_protocol_types.specs.parsing.Untagged.{tagged}
 use Rattle.amq_protocol_types.proofs.ParsingLaws.{wire_extent}
 use Rattle.amqp_in_place.specs.declared.problems.Problem as in_place
@@ -23,11 +25,11 @@ use Rattle.amqp_c.specs.declared.input.Input.{Input}
 use Rattle.amqp_c.specs.Inputs.{limits, is_untagged, encoding}
 use Rattle.amqp_c.specs.ReadErrors.{first_problem, error_of, read_error}
 use Rattle.amqp_c.specs.declared.container.Container.{Container}
+use Rattle.amqp_c.specs.Buffers.{LacksRoom}
 use Rattle.amqp_c.specs.Containers.{IsPlace, end_with, entry_of, up_to}
-use Rattle.amqp_c.specs.BuiltEntries.{IsScalarOf, IsScalarEncoding, IsStringTag, IsOfBytes, IsEncodingAtStart}
-use Rattle.amqp_c.specs.ByRules.{IsEncodingBy}
+use Rattle.amqp_c.specs.BuiltEntries.{IsScalarOf, IsStringTag, IsStringValue, IsEncodingBy}
 use Rattle.amqp_c.specs.Items.{Item, encoded, IsPutEncoding, IsReadEncoding, IsEncodedBy, item_depth, missing_tag}
-use Rattle.amqp_c.specs.Faults.{LacksCapacityFor, IsPutFault}
+use Rattle.amqp_c.specs.Faults.{IsPutFault}
 use Rattle.amqp_c.specs.Growth.{IsAppended, IsEntryPut}
 use Rattle.amqp_c.proofs.AnyKeys.{IsPlain, start_reads, value_whole}
 use Rattle.amqp_c.proofs.Growing.{part_grown, grows_by}
@@ -35,7 +37,7 @@ use Rattle.amqp_c.proofs.Growing.{part_grown, grows_by}
 -- what is appended is put
 pub put_of : (item : Item) (old new k w : List ℕ) (into : Container) (r : Result Container Fault)
     → IsPlace (length old) into k → IsPutEncoding item w → ((rules : Rules) (depth : ℕ) → IsEncodedBy item rules → item_depth item ≤ depth → IsEncodingBy rules depth w)
-    → MatchResult r (λ grown. IsAppended old into k w new × (grown ≡ up_to (end_with into k w) into)) (LacksCapacityFor old into k w)
+    → MatchResult r (λ grown. IsAppended old into k w new × (grown ≡ up_to (end_with into k w) into)) (LacksRoom (end_with into k w) (length old))
     → MatchResult r (IsEntryPut item old into k new) (IsPutFault item old into k)
 put_of item old new k w into (Ok grown) place encodes reads (is, reaches) = record {
   encoding = w;
@@ -48,20 +50,18 @@ put_of item old new k w into (Ok grown) place encodes reads (is, reaches) = reco
 put_of item old new k w into (Err f) place encodes reads lacks = inr (place, inr (w, encodes, lacks))
 
 -- a value of fixed width
-pub scalar_encoding : (tag bits scale : ℕ) (w : List ℕ) (x : Scalar) → IsScalarOf tag bits scale x → w ≡ text (scalar x)
-    → IsScalarEncoding tag bits scale w (scalar x) × Wire w (scalar x)
-scalar_encoding tag bits scale w x tells same =
-    ((x, tells, refl, same), subst (λ (t : List ℕ). Wire t (scalar x)) (sym same) (text_is_wire (scalar x) tells.in_range tt refl))
+pub scalar_wire : (tag bits scale : ℕ) (w : List ℕ) (x : Scalar) → IsScalarOf tag bits scale x → w ≡ text (scalar x) → Wire w (scalar x)
+scalar_wire tag bits scale w x tells same = subst (λ (t : List ℕ). Wire t (scalar x)) (sym same) (text_is_wire (scalar x) tells.in_range tt refl)
 
 -- a long string or a byte array, after its length
 pub strings : (tag : ℕ) (b head w : List ℕ) → IsStringTag tag → length b < 2 ^ 32 → head ≡ tag ∷ to_be_bytes w32 (length b)
-    → w ≡ head ++ b → (v : Tree) × IsOfBytes tag b w v × Wire w v × IsPlain v
+    → w ≡ head ++ b → (v : Tree) × IsStringValue tag b v × (length b < 2 ^ 32) × (w ≡ text v) × Wire w v × IsPlain v
 strings tag b head w (inl is) fits counts written =
     let same : w ≡ text (long b) = written ∙ ap (λ (u : List ℕ). u ++ b) (counts ∙ ap (λ (n : ℕ). n ∷ to_be_bytes w32 (length b)) is) in
-    (long b, (inl (is, refl), same, fits), subst (λ (u : List ℕ). Wire u (long b)) (sym same) (text_is_wire (long b) tt fits refl), tt)
+    (long b, inl (is, refl), fits, same, subst (λ (u : List ℕ). Wire u (long b)) (sym same) (text_is_wire (long b) tt fits refl), tt)
 strings tag b head w (inr is) fits counts written =
     let same : w ≡ text (octets b) = written ∙ ap (λ (u : List ℕ). u ++ b) (counts ∙ ap (λ (n : ℕ). n ∷ to_be_bytes w32 (length b)) is) in
-    (octets b, (inr (is, refl), same, fits), subst (λ (u : List ℕ). Wire u (octets b)) (sym same) (text_is_wire (octets b) tt fits refl), tt)
+    (octets b, inr (is, refl), fits, same, subst (λ (u : List ℕ). Wire u (octets b)) (sym same) (text_is_wire (octets b) tt fits refl), tt)
 
 -- ---- values that are read
 
@@ -104,13 +104,13 @@ module _ (rules : Rules) (input : Input) where
       → IsReadEncoding rules input w
   read_encoding w none finds is = record { read = none; bytes = is; value = λ reading. by (finds reading) }
     where
-      by : FindsValue (limits input) (encoding input) → (v : Tree) × IsEncodingAtStart (limits input) (encoding input) w v × Wire w v
+      by : FindsValue (limits input) (encoding input) → (v : Tree) × (rest : List ℕ) × Within (limits input) (encoding input) (found v rest) × (encoding input ≡ w ++ rest) × Wire w v
       by (v, rest, x) =
           let f = prefix_within input.max_depth (encoding input) rest v x.1 in
           let p = wire_of input.max_depth f.0 v f.1 in
           let count : extent (encoding input) ≡ length f.0 = ap extent f.2 ∙ wire_extent f.0 rest v p in
           let same : f.0 ≡ w = sym (is ∙ (ap₂ (λ (n : ℕ) (t : List ℕ). take n t) count f.2 ∙ take_at f.0 rest (length f.0) refl)) in
-          (v, (rest, x, f.2 ∙ ap (λ (t : List ℕ). t ++ rest) same), subst (λ (t : List ℕ). Wire t v) same p)
+          (v, rest, x, f.2 ∙ ap (λ (t : List ℕ). t ++ rest) same, subst (λ (t : List ℕ). Wire t v) same p)
 
   -- the type tag that the input lacks, and then bytes of it
   abbrev tag_if : Bool → List ℕ

@@ -11,7 +11,7 @@ use Rattle.amqp_in_place.specs.declared.refs.TableRef.{TableRef}
 use Rattle.amqp_in_place.specs.declared.refs.ValueRef.TheVariants as at
 use Rattle.amqp_in_place.specs.Bodies.{HasEntries}
 use Rattle.amqp_in_place.specs.Refs.{table_body}
-use Rattle.amqp_c.specs.Views.{IsViewOf}
+use Rattle.amqp_c.specs.Reads.{IsViewOf}
 
 -- a table without its type tag
 pub table_view : (l : Limits) (s : List ℕ) (t : TableRef) (rest : List ℕ) → IsBytes s → s ≡ long_field (table_body t) ++ rest → length (table_body t) < 2 ^ 32

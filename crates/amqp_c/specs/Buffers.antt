@@ -15,6 +15,6 @@ StandsAt at bytes buffer = take (length bytes) (drop at buffer) ≡ bytes
 abbrev pub IsPutAtStart : List ℕ → List ℕ → List ℕ → ℕ → Type 0
 IsPutAtStart bytes old new n = (n ≡ length bytes) × (n ≤ length old) × (new ≡ bytes ++ drop n old)
 
--- a buffer of that many bytes is too small for these, and the fault reports how many they are
-abbrev pub LacksRoom : List ℕ → ℕ → Fault → Type 0
-LacksRoom bytes capacity f = (f ≡ NoRoom (length bytes)) × (capacity < length bytes)
+-- a buffer of that many bytes is too small, and the fault reports how many are needed
+abbrev pub LacksRoom : ℕ → ℕ → Fault → Type 0
+LacksRoom needed capacity f = (f ≡ NoRoom needed) × (capacity < needed)

@@ -2,18 +2,9 @@
 use Rattle.std.specs.Prelude.{ℕ, ◌≡◌, ◌+◌, ◌-◌, ◌<◌, ◌≤◌, List, [], ◌++◌, ◌==◌, if◌then◌else◌, length, ◌⊎◌}
 use Rattle.amqp_value_core.specs.Bytes.{IsShort}
 use Rattle.amqp_value_core.specs.Grammar.{short_field}
+use Rattle.amqp_c.specs.Heads.{array_tag, table_tag, IsContainerTag}
 use Rattle.amqp_c.specs.Spans.{SpanIsIn}
 use Rattle.amqp_c.specs.declared.container.Container.{Container}
-
--- the type tags of an array and of a table, `A` and `F`
-abbrev pub array_tag : ℕ
-array_tag = 65
-
-abbrev pub table_tag : ℕ
-table_tag = 70
-
-abbrev pub IsContainerTag : ℕ → Type 0
-IsContainerTag tag = (tag ≡ array_tag) ⊎ (tag ≡ table_tag)
 
 -- no entry is open in the container, and one is; it has another number only if that was written from outside
 abbrev pub HasNoneOpen : Container → Type 0

@@ -1,17 +1,13 @@
 -- When each fault is right.
-use Rattle.std.specs.Prelude.{ℕ, ◌≡◌, ◌<◌, ◌≤◌, ◌^◌, Some, List, length, ◌⊎◌}
+use Rattle.std.specs.Prelude.{ℕ, ◌≡◌, ◌≤◌, ◌^◌, List, length, ◌⊎◌}
 use Rattle.amqp_value_core.specs.Values.{Scalar}
-use Rattle.amqp_in_place.specs.declared.problems.Rules.{Rules}
-use Rattle.amqp_in_place.specs.declared.problems.Rules.TheVariants.{Reading}
-use Rattle.amqp_in_place.specs.ProblemResults.{FindsValue}
-use Rattle.amqp_c.specs.declared.fault.Fault.{Fault}
-use Rattle.amqp_c.specs.declared.fault.Fault.TheVariants.{TooLarge, Invalid, NoRoom, BadKey, BadTag, OutOfRange}
-use Rattle.amqp_c.specs.declared.input.Input.{Input}
-use Rattle.amqp_c.specs.declared.problem.ReadError.{ReadError}
-use Rattle.amqp_c.specs.Inputs.{limits, encoding}
-use Rattle.amqp_c.specs.ReadErrors.{read_error}
 use Rattle.amqp_c.specs.declared.container.Container.{Container}
-use Rattle.amqp_c.specs.Containers.{IsContainerIn, IsContainerTag, IsKeyOf, IsPlace, end_with}
+use Rattle.amqp_c.specs.declared.fault.Fault.{Fault}
+use Rattle.amqp_c.specs.declared.fault.Fault.TheVariants.{TooLarge, Invalid, BadKey, BadTag, OutOfRange}
+use Rattle.amqp_c.specs.Buffers.{LacksRoom}
+use Rattle.amqp_c.specs.Heads.{IsContainerTag}
+use Rattle.amqp_c.specs.ReadErrors.{IsReadFault}
+use Rattle.amqp_c.specs.Containers.{IsContainerIn, IsKeyOf, IsPlace, end_with}
 use Rattle.amqp_c.specs.BuiltEntries.{IsScalarOf, IsScalarTag, IsStringTag, tag_and_zeros}
 use Rattle.amqp_c.specs.Growth.{IsOpen}
 use Rattle.amqp_c.specs.Items.{Item, fixed_width, byte_string, encoded, IsPutEncoding}
@@ -22,10 +18,6 @@ abbrev pub RefusesPlace : ℕ → Container → List ℕ → Fault → Type 0
 RefusesPlace n into k Invalid = IsContainerIn n into → ⊥
 RefusesPlace n into k BadKey = IsContainerIn n into × (IsKeyOf into k → ⊥)
 RefusesPlace n into k _ = ⊥
-
--- the buffer is too small for the entry of this encoding, and the fault has the capacity with which it isn't
-abbrev pub LacksCapacityFor : List ℕ → Container → List ℕ → List ℕ → Fault → Type 0
-LacksCapacityFor buffer into k w f = (f ≡ NoRoom (end_with into k w)) × (length buffer < end_with into k w)
 
 -- a fault of a number is right: no value of fixed width has the type tag, or none with it has these
 -- bits and this scale
@@ -40,19 +32,15 @@ IsStringFault tag b BadTag = IsStringTag tag → ⊥
 IsStringFault tag b TooLarge = IsStringTag tag × (2 ^ 32 ≤ length b)
 IsStringFault tag b _ = ⊥
 
--- the value at the start of the input isn't read by the rules, for the reason that reading reports
-abbrev pub IsReadFault : Rules → Input → Fault → Type 0
-IsReadFault rules input f = ((e : ReadError) × (read_error rules input ≡ Some e) × (f ≡ e.fault)) × (rules ≡ Reading → FindsValue (limits input) (encoding input) → ⊥)
-
 -- a fault of an item is right, wherever it is to be put
 abbrev pub IsItemFault : Item → Fault → Type 0
 IsItemFault (fixed_width tag bits scale) f = RefusesNumber tag bits scale f
 IsItemFault (byte_string tag b) f = IsStringFault tag b f
 IsItemFault (encoded rules input) f = IsReadFault rules input f
 
--- the buffer is too small for the entry of the item's encoding
+-- the buffer is too small for the entry of the item's encoding, and the fault has the capacity with which it isn't
 abbrev pub IsBufferFault : Item → List ℕ → Container → List ℕ → Fault → Type 0
-IsBufferFault item buffer into k f = (w : List ℕ) × IsPutEncoding item w × LacksCapacityFor buffer into k w f
+IsBufferFault item buffer into k f = (w : List ℕ) × IsPutEncoding item w × LacksRoom (end_with into k w) (length buffer) f
 
 -- a fault of putting an item is right: that of the place, otherwise that of the item, otherwise that of
 -- the buffer
@@ -67,7 +55,7 @@ abbrev pub RefusesToOpen : ℕ → List ℕ → Container → List ℕ → Fault
 RefusesToOpen tag buffer into k f =
     RefusesPlace (length buffer) into k f
     ⊎ (IsPlace (length buffer) into k
-    × (((f ≡ BadTag) × (IsContainerTag tag → ⊥)) ⊎ (IsContainerTag tag × LacksCapacityFor buffer into k (tag_and_zeros tag) f)))
+    × (((f ≡ BadTag) × (IsContainerTag tag → ⊥)) ⊎ (IsContainerTag tag × LacksRoom (end_with into k (tag_and_zeros tag)) (length buffer) f)))
 
 -- a fault of closing an entry is right: the body isn't of one that is open there, or has too many bytes
 abbrev pub RefusesToClose : List ℕ → Container → Container → Fault → Type 0

@@ -8,9 +8,9 @@ use Rattle.amqp_in_place.specs.declared.problems.Rules.{Rules}
 use Rattle.amqp_in_place.specs.Problems.{allow_key}
 use Rattle.amqp_c.specs.Spans.{part, SpanIsIn}
 use Rattle.amqp_c.specs.declared.container.Container.{Container}
-use Rattle.amqp_c.specs.Containers.{array_tag, table_tag, IsContainerTag, HasNoneOpen, HasOneOpen, IsKeyOf, IsPlace, end_of, entry_of, end_with, empty_at, up_to}
-use Rattle.amqp_c.specs.BuiltEntries.{tag_and_zeros, IsOfBody}
-use Rattle.amqp_c.specs.ByRules.{IsEncodingBy, AreValuesBy, ArePairsBy, IsBodyBy}
+use Rattle.amqp_c.specs.Heads.{array_tag, table_tag, IsContainerTag}
+use Rattle.amqp_c.specs.Containers.{HasNoneOpen, HasOneOpen, IsKeyOf, IsPlace, end_of, entry_of, end_with, empty_at, up_to}
+use Rattle.amqp_c.specs.BuiltEntries.{tag_and_zeros, IsOfBody, IsEncodingBy, AreValuesBy, ArePairsBy, IsBodyBy}
 use Rattle.amqp_c.specs.Items.{Item, IsPutEncoding, IsEncodedBy, item_depth}
 use Rattle.amqp_c.specs.Buffers.{with_bytes, StandsAt}
 

@@ -1,5 +1,5 @@
 -- The call that writes JSON text without an allocator.
-use Rattle.std.specs.Prelude.{ℕ, ◌≡◌, ◌<◌, ℤ, List, length, false, Result, Err, MatchResult, ◌⊎◌}
+use Rattle.std.specs.Prelude.{ℕ, ◌≡◌, ℤ, List, length, false, Result, Err, MatchResult, ◌⊎◌}
 use Rattle.amqp_value_core.specs.Outcomes.{found}
 use Rattle.amqp_value_core.specs.Values.{Tree}
 use Rattle.amq_protocol_types.specs.parsing.Limits.{Within}
@@ -7,12 +7,12 @@ use Rattle.amqp_json.specs.Ascending.{OutOfOrder}
 use Rattle.amqp_json.specs.Conversions.{IsOrderedJsonOf}
 use Rattle.amqp_json.specs.Written.{counted}
 use Rattle.amqp_c.specs.declared.fault.Fault.{Fault}
-use Rattle.amqp_c.specs.declared.fault.Fault.TheVariants.{Invalid, NoRoom, Unordered}
+use Rattle.amqp_c.specs.declared.fault.Fault.TheVariants.{Invalid, Unordered}
 use Rattle.amqp_c.specs.declared.input.Input.{Input}
-use Rattle.amqp_c.specs.Buffers.{IsPutAtStart}
+use Rattle.amqp_c.specs.Buffers.{IsPutAtStart, LacksRoom}
 use Rattle.amqp_c.specs.Inputs.{limits, has_known_flags, encoding}
+use Rattle.amqp_c.specs.ReadErrors.{IsInputFault}
 use Rattle.amqp_c.specs.ReturnCodes.{return_code_of, length_of}
-use Rattle.amqp_c.specs.Views.{IsInputFault}
 
 -- the JSON text of the value that is read is put into the buffer, and in its tables the keys ascend
 abbrev pub IsOrderedJsonPut : Input → List ℕ → List ℕ → ℕ → Type 0
@@ -24,7 +24,7 @@ HasUnorderedKeys input = (v : Tree) × (rest : List ℕ) × Within (limits input
 
 -- that text has more bytes than the buffer, as many as the fault reports
 abbrev pub IsTextTooLong : Input → ℕ → Fault → Type 0
-IsTextTooLong input buffer f = (t : List ℕ) × (rest : List ℕ) × IsOrderedJsonOf (limits input) (encoding input) t rest × (f ≡ NoRoom (counted t)) × (buffer < counted t)
+IsTextTooLong input buffer f = (t : List ℕ) × (rest : List ℕ) × IsOrderedJsonOf (limits input) (encoding input) t rest × LacksRoom (counted t) buffer f
 
 -- a fault is right, for a buffer of that many bytes: the value isn't read, or has keys that don't ascend, or the text is
 -- too long

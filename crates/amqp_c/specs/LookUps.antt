@@ -11,9 +11,10 @@ use Rattle.amqp_c.specs.declared.cursor.Cursor.{Cursor}
 use Rattle.amqp_c.specs.declared.entry.Entry.{Entry}
 use Rattle.amqp_c.specs.declared.fault.Fault.{Fault}
 use Rattle.amqp_c.specs.declared.span.Span.{Span}
+use Rattle.amqp_c.specs.Heads.{array_tag, table_tag}
 use Rattle.amqp_c.specs.Spans.{part, last, SpanIsIn}
 use Rattle.amqp_c.specs.Entries.{IsEntry, IsTagged, IsTrueTo, EntryIsIn}
-use Rattle.amqp_c.specs.Steps.{array_tag, table_tag, IsHeaded, StandsAlone, StandsKeyed, EndsIn, RefusedBy}
+use Rattle.amqp_c.specs.Steps.{IsHeaded, StandsAlone, StandsKeyed, EndsIn, RefusedBy}
 
 -- ---- what is meant
 
@@ -101,7 +102,3 @@ pub record IsPlaceOf (Has : Option (List ℕ) → Type 0) (before s : List ℕ) 
 -- no key with a byte after it is at the start
 abbrev pub HasNoKey : List ℕ → Type 0
 HasNoKey s = (k rest : List ℕ) → s ≡ short_field k ++ rest → 0 < length rest → ⊥
-
--- the bytes are what is in s after some of its bytes
-abbrev pub IsRestOf : List ℕ → List ℕ → Type 0
-IsRestOf s rest = (n : ℕ) × (0 < n) × (n ≤ length s) × (rest ≡ drop n s)

@@ -1,5 +1,5 @@
 -- Looking a value up by a path.
-use Rattle.std.specs.Prelude.{ℕ, ◌≡◌, List, [], ◌∷◌, length, Bool, false, ◌==◌, if◌then◌else◌, Option, Some, None, IfSome, Result, Ok, Err, IfOk, ◌⊎◌}
+use Rattle.std.specs.Prelude.{ℕ, ◌≡◌, List, [], ◌∷◌, length, Bool, false, ◌==◌, if◌then◌else◌, Option, Some, None, IfSome, Result, Ok, Err, IfOk}
 use Rattle.amqp_value_core.specs.Values.{Tree, array, table}
 use Rattle.amqp_value_core.specs.Maps.{value_at}
 use Rattle.amqp_in_place.specs.Walks.{tree_at}
@@ -7,14 +7,15 @@ use Rattle.amqp_c.specs.declared.entry.Entry.{Entry}
 use Rattle.amqp_c.specs.declared.lookup.Step.{Step}
 use Rattle.amqp_c.specs.declared.fault.Fault.{Fault}
 use Rattle.amqp_c.specs.declared.fault.Fault.TheVariants.{Invalid}
+use Rattle.amqp_c.specs.Heads.{array_tag, table_tag, IsContainerTag}
 use Rattle.amqp_c.specs.Spans.{SpanIsIn}
 use Rattle.amqp_c.specs.Entries.{IsEntry}
-use Rattle.amqp_c.specs.Steps.{array_tag, table_tag, contents}
+use Rattle.amqp_c.specs.Steps.{contents}
 use Rattle.amqp_c.specs.LookUps.{GivesFound, LooksUp, LooksUpNth}
 
 -- the step is into a table or an array, and the entry is of one
 abbrev pub Fits : Step → Entry → Type 0
-Fits step e = ((step.into ≡ table_tag) ⊎ (step.into ≡ array_tag)) × (e.tag ≡ step.into)
+Fits step e = IsContainerTag step.into × (e.tag ≡ step.into)
 
 -- the offsets of an entry are inside n bytes
 abbrev pub IsInside : ℕ → Entry → Type 0

@@ -1,5 +1,5 @@
 -- Why and where reading failed.
-use Rattle.std.specs.Prelude.{ℕ, zero, Option, option_map, if◌then◌else◌}
+use Rattle.std.specs.Prelude.{ℕ, zero, ◌≡◌, true, false, Option, Some, option_map, if◌then◌else◌, ◌⊎◌}
 use Rattle.amq_protocol_types.specs.declared.parsing.header.Header.{Header}
 use Rattle.amq_protocol_types.specs.declared.parsing.header.Header.TheVariants.{Lacks}
 use Rattle.amq_protocol_types.specs.parsing.Headers.{wanted}
@@ -7,12 +7,14 @@ use Rattle.amqp_in_place.specs.declared.problems.Problem as in_place
 use Rattle.amqp_in_place.specs.declared.problems.ProblemKind.{ProblemKind}
 use Rattle.amqp_in_place.specs.declared.problems.ProblemKind.TheVariants as kind
 use Rattle.amqp_in_place.specs.declared.problems.Rules.{Rules}
+use Rattle.amqp_in_place.specs.declared.problems.Rules.TheVariants.{Reading}
+use Rattle.amqp_in_place.specs.ProblemResults.{FindsValue}
 use Rattle.amqp_in_place.specs.Problems.{problem_of, problem_in_table_of}
 use Rattle.amqp_c.specs.declared.fault.Fault.{Fault}
-use Rattle.amqp_c.specs.declared.fault.Fault.TheVariants.{More, UnknownTag, Cut, KeyCut, KeyNotUtf8, NotFinite, TooDeep, TooLarge}
+use Rattle.amqp_c.specs.declared.fault.Fault.TheVariants.{More, UnknownTag, Cut, KeyCut, KeyNotUtf8, NotFinite, TooDeep, TooLarge, Invalid}
 use Rattle.amqp_c.specs.declared.input.Input.{Input}
 use Rattle.amqp_c.specs.declared.problem.ReadError.{ReadError}
-use Rattle.amqp_c.specs.Inputs.{limits, is_untagged, encoding}
+use Rattle.amqp_c.specs.Inputs.{limits, is_untagged, has_known_flags, encoding}
 
 -- the first problem by the rules within the limits, by its offset in the bytes
 abbrev pub first_problem : Rules → Input → Option in_place.Problem
@@ -47,6 +49,15 @@ error_of p n = record { fault = fault_of p.offset p.kind n; problem = record { o
 -- what is reported of the value, if it isn't read by the rules
 abbrev pub read_error : Rules → Input → Option ReadError
 read_error rules input = option_map (λ p. error_of p (wanted (encoding input))) (first_problem rules input)
+
+-- the value at the start of the input isn't read by the rules, for the reason that is reported; by the rules of reading
+-- the grammar has none there
+abbrev pub IsReadFault : Rules → Input → Fault → Type 0
+IsReadFault rules input f = (e : ReadError) × (read_error rules input ≡ Some e) × (f ≡ e.fault) × (rules ≡ Reading → FindsValue (limits input) (encoding input) → ⊥)
+
+-- a fault of a call that reads by these rules only is right: a flag is unknown, or no value is read
+abbrev pub IsInputFault : Input → Fault → Type 0
+IsInputFault input f = ((has_known_flags input ≡ false) × (f ≡ Invalid)) ⊎ ((has_known_flags input ≡ true) × IsReadFault Reading input f)
 
 -- ---- on the way
 

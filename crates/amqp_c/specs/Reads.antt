@@ -1,22 +1,33 @@
--- Reading the value at the start of an input.
-use Rattle.std.specs.Prelude.{ℕ, ◌≡◌, ◌+◌, ◌≤◌, ℤ, pos, Bool, true, false, List, length, Option, IfSome, MatchOption, Ok}
+-- Reading the value at the start of an input, measuring it, and whether it is encoded canonically.
+use Rattle.std.specs.Prelude.{ℕ, ◌≡◌, ◌+◌, ◌≤◌, ℤ, pos, Bool, true, false, List, ◌++◌, length, drop, Option, None, IfSome, MatchOption, Result, Ok, Err}
 use Rattle.amqp_value_core.specs.declared.types.amqp_type.AMQPType.TheVariants.{FieldTable}
-use Rattle.amqp_value_core.specs.Values.{Tree, table}
+use Rattle.amqp_value_core.specs.Bytes.{IsBytes}
+use Rattle.amqp_value_core.specs.Values.{Tree, table, count, depth}
 use Rattle.amqp_value_core.specs.Outcomes.{Outcome, found}
+use Rattle.amqp_value_core.specs.Texts.{text}
 use Rattle.amq_protocol_types.specs.declared.parsing.within.Limits.{Limits}
 use Rattle.amq_protocol_types.specs.parsing.Bodies.{IsLengthPrefixed}
 use Rattle.amq_protocol_types.specs.parsing.Headers.{extent}
+use Rattle.amq_protocol_types.specs.parsing.Limits.{Within}
 use Rattle.amq_protocol_types.specs.parsing.Untagged.{tagged}
 use Rattle.amqp_in_place.specs.declared.problems.Rules.{Rules}
 use Rattle.amqp_in_place.specs.declared.problems.Rules.TheVariants.{Reading}
+use Rattle.amqp_in_place.specs.declared.measure.Measure.{Measure}
+use Rattle.amqp_in_place.specs.declared.refs.ValueRef.{ValueRef}
 use Rattle.amqp_in_place.specs.Bodies.{HasEntries}
+use Rattle.amqp_in_place.specs.Measures.{OfEncoding}
+use Rattle.amqp_in_place.specs.Places.{IsViewIn}
 use Rattle.amqp_in_place.specs.ProblemResults.{FailsAt}
+use Rattle.amqp_in_place.specs.Refs.{Denotes}
+use Rattle.amqp_in_place.specs.Written.{written}
 use Rattle.amqp_c.specs.declared.entry.Entry.{Entry}
+use Rattle.amqp_c.specs.declared.fault.Fault.{Fault}
 use Rattle.amqp_c.specs.declared.input.Input.{Input}
+use Rattle.amqp_c.specs.declared.measure.Size.{Size}
 use Rattle.amqp_c.specs.declared.problem.Problem.{Problem}
 use Rattle.amqp_c.specs.declared.problem.ReadError.{ReadError}
 use Rattle.amqp_c.specs.Inputs.{limits, is_untagged, encoding}
-use Rattle.amqp_c.specs.ReadErrors.{first_problem}
+use Rattle.amqp_c.specs.ReadErrors.{first_problem, read_error, IsReadFault}
 use Rattle.amqp_c.specs.ReturnCodes.{code_of}
 use Rattle.amqp_c.specs.Spans.{part}
 use Rattle.amqp_c.specs.CallResults.{IsValueTaken, IsTableTaken, GivesFirst, untagged_table}
@@ -71,7 +82,52 @@ pub record ReadsAs {T : Type 0} (Is : T → Type 0) (error : Option ReadError) (
   pub given : MatchOption error (Is new) (λ e. new ≡ old)
   pub problem : MatchOption error (stored ≡ was) (λ e. stored ≡ e.problem)
 
+-- ---- measuring
+
+-- these numbers in C's struct
+abbrev pub same_measure : Measure → Size
+same_measure m = record { bytes = m.bytes; values = m.values; levels = m.levels }
+
+-- the value at the start of s is read within the limits, and ends after the first n.bytes of `given`, which are s,
+-- perhaps without its type tag; n.values values are written in its encoding, whose containers nest n.levels levels
+-- deep, and its tree has no more of either
+pub record HasSize (n : Size) (l : Limits) (given s : List ℕ) : Type 0 where
+  pub meaning : Tree
+  pub read : Within l s (found meaning (drop n.bytes given))
+  pub inside : n.bytes ≤ length given
+  pub values : OfEncoding s (λ w v p. n.values ≡ count (written w v p))
+  pub levels : OfEncoding s (λ w v p. n.levels ≡ depth (written w v p))
+  pub tree : OfEncoding s (λ w v p. (count v ≤ n.values) × (depth v ≤ n.levels))
+
+abbrev pub IsMeasured : Input → Size → Type 0
+IsMeasured input n = HasSize n (limits input) input.bytes.now (encoding input)
+
+-- ---- whether it is canonical
+
+-- a value is read from s, whose encoding is what is written for it, or is another
+abbrev pub IsEncodedSo : Bool → Input → Type 0
+IsEncodedSo true input = (v : Tree) × (rest : List ℕ) × Within (limits input) (encoding input) (found v rest) × (encoding input ≡ text v ++ rest)
+IsEncodedSo false input = (v : Tree) × (rest : List ℕ) × Within (limits input) (encoding input) (found v rest) × (encoding input ≡ text v ++ rest → ⊥)
+
+-- whether it is, or why no value is read
+abbrev pub IsTold : Input → Result Bool Fault → Type 0
+IsTold input (Ok b) = (read_error Reading input ≡ None) × IsEncodedSo b input
+IsTold input (Err f) = IsReadFault Reading input f
+
+-- the result: 0 if it is so, 1 if not
+abbrev pub code_if_told : Result Bool Fault → ℤ
+code_if_told (Ok true) = pos 0
+code_if_told (Ok false) = pos 1
+code_if_told (Err f) = code_of f
+
+abbrev pub TellsCanonical : Input → ℤ → Type 0
+TellsCanonical input code = (done : Result Bool Fault) × IsTold input done × (code ≡ code_if_told done)
+
 -- ---- on the way
+
+-- a value is read from the start of s within the limits, `view` refers to it, and `rest` is after it
+abbrev pub IsViewOf : Limits → List ℕ → ValueRef → List ℕ → Type 0
+IsViewOf l s view rest = IsBytes s × IsViewIn s view rest × ((v : Tree) × Denotes view v × Within l s (found v rest))
 
 -- e is the entry of a table without its type tag, whose body is after its length
 abbrev pub IsPrefixedTable : List ℕ → Entry → Type 0

@@ -1,5 +1,5 @@
 -- Stepping through the body of a container by a cursor.
-use Rattle.std.specs.Prelude.{ℕ, ◌≡◌, ◌+◌, ◌<◌, ◌≤◌, List, ◌++◌, length, Option, Some, None, Result, Ok, ◌⊎◌}
+use Rattle.std.specs.Prelude.{ℕ, ◌≡◌, ◌+◌, ◌<◌, ◌≤◌, List, ◌++◌, length, Option, Some, None, Result, Ok}
 use Rattle.amqp_value_core.specs.Values.{Tree, Trees, no_trees, tree, Entries, no_entries, entry}
 use Rattle.amqp_value_core.specs.Grammar.{short_field, ArrayBody, TableBody}
 use Rattle.amq_protocol_types.specs.parsing.Headers.{extent}
@@ -8,15 +8,9 @@ use Rattle.amqp_c.specs.declared.entry.Entry.{Entry}
 use Rattle.amqp_c.specs.declared.fault.Fault.{Fault}
 use Rattle.amqp_c.specs.declared.fault.Fault.TheVariants.{Cut, Invalid}
 use Rattle.amqp_c.specs.declared.span.Span.{Span}
+use Rattle.amqp_c.specs.Heads.{array_tag, table_tag, IsContainerTag}
 use Rattle.amqp_c.specs.Spans.{part, rest_after, SpanIsIn}
 use Rattle.amqp_c.specs.Entries.{IsEntry, IsTagged, IsTrueTo, EntryIsIn}
-
--- the type tags of an array and of a table, `A` and `F`
-abbrev pub array_tag : ℕ
-array_tag = 65
-
-abbrev pub table_tag : ℕ
-table_tag = 70
 
 -- the cursor before the first entry of a container
 abbrev pub contents : Entry → Cursor
@@ -24,7 +18,7 @@ contents e = record { left = e.content; tag = e.tag }
 
 -- the cursor is inside n bytes, and is of an array or a table
 abbrev pub IsOfContainer : ℕ → Cursor → Type 0
-IsOfContainer n c = SpanIsIn n c.left × ((c.tag ≡ array_tag) ⊎ (c.tag ≡ table_tag))
+IsOfContainer n c = SpanIsIn n c.left × IsContainerTag c.tag
 
 -- a type tag is at the start, and as many bytes as it and the length after it count
 abbrev pub IsHeaded : List ℕ → Type 0

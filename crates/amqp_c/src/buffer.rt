@@ -4,8 +4,7 @@ ghost use Rattle.std.specs.Prelude.{◌≡◌, ◌+◌, ◌≤◌, ◌<◌, ◌^
 ghost use Rattle.amqp_value_core.specs.Grammar.{short_field};
 ghost use Rattle.amqp_c.specs.Containers.{IsPlace, named, end_of, entry_of, end_with, up_to};
 ghost use Rattle.amqp_c.specs.Growth.{IsAppended};
-ghost use Rattle.amqp_c.specs.Faults.{LacksCapacityFor};
-ghost use Rattle.amqp_c.specs.Buffers.{with_bytes};
+ghost use Rattle.amqp_c.specs.Buffers.{with_bytes, LacksRoom};
 
 use crate::Fault;
 use crate::container::Container;
@@ -36,7 +35,7 @@ pub fn append(
     ensures appended { MatchResult result
         (λ grown. IsAppended buffer.old into key.now (head.now ++ content.now) buffer.new
         × (grown ≡ up_to (end_with into key.now (head.now ++ content.now)) into))
-        (LacksCapacityFor buffer.old into key.now (head.now ++ content.now)) }
+        (LacksRoom (end_with into key.now (head.now ++ content.now)) (length buffer.old)) }
     ensures kept { OnErr result (buffer.new ≡ buffer.old) }
 {
     let name_length = if into.tag == b'F' { 1 + key.len() } else { 0 };

@@ -3,7 +3,7 @@
 ghost use Rattle.std.specs.Prelude.{true, false, Ok, MatchBool};
 ghost use Rattle.amqp_in_place.specs.ProblemResults.{FindsValue};
 ghost use Rattle.amqp_c.specs.Inputs.{limits, encoding};
-ghost use Rattle.amqp_c.specs.Canonical.{IsEncodedSo, IsTold};
+ghost use Rattle.amqp_c.specs.Reads.{IsEncodedSo, IsTold};
 
 use crate::{Fault, Input};
 use amqp_in_place::{Rules, canonical_len, canonical_table_len};

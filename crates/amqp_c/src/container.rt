@@ -1,7 +1,8 @@
 //! Containers that are put together in a buffer.
 
 ghost use Rattle.std.specs.Prelude.{◌≡◌, ◌≤◌, ◌<◌, ◌^◌, ℕ, List, length, MatchBool, MatchResult};
-ghost use Rattle.amqp_c.specs.Containers.{IsContainerTag, IsKeyOf, HasNoneOpen, IsPlace, named, end_of, up_to, empty_at};
+ghost use Rattle.amqp_c.specs.Heads.{IsContainerTag};
+ghost use Rattle.amqp_c.specs.Containers.{IsKeyOf, HasNoneOpen, IsPlace, named, end_of, up_to, empty_at};
 ghost use Rattle.amqp_c.specs.Faults.{RefusesPlace};
 
 use crate::key::is_key;

@@ -8,8 +8,8 @@ ghost use Rattle.std.specs.Prelude.{◌↔◌, ℕ, List, Option, Result, true, 
 ghost use Rattle.amqp_c.specs.declared.cursor.Cursor.{Cursor};
 ghost use Rattle.amqp_c.specs.declared.entry.Entry.{Entry};
 ghost use Rattle.amqp_c.specs.declared.fault.Fault.{Fault};
+ghost use Rattle.amqp_c.specs.Heads.{array_tag, table_tag};
 ghost use Rattle.amqp_c.specs.Spans.{part};
-ghost use Rattle.amqp_c.specs.Steps.{array_tag, table_tag};
 ghost use Rattle.amqp_c.specs.LookUps.{HasPair, IsOf, GivesBytes, LooksUp, LooksUpNth};
 ghost use Rattle.amqp_c.specs.PairLists.{ArePairEncodings, last_of_pairs, first_of_pairs, HasLast, HasFirst, AreEncodings};
 

@@ -17,12 +17,10 @@ ghost use Rattle.amqp_c.specs.ReturnCodes.{code_of};
 ghost use Rattle.amqp_c.specs.BuildCalls.{PutsEntry, OpensContainer, ClosesContainer};
 ghost use Rattle.amqp_c.specs.CallResults.{HeaderFaults, Gives};
 ghost use Rattle.amqp_c.specs.Calls.{StepsToNext, FindsPath};
-ghost use Rattle.amqp_c.specs.Canonical.{TellsCanonical};
 ghost use Rattle.amqp_c.specs.Getters.{IsInteger, RefusesInt, RefusesUint};
 ghost use Rattle.amqp_c.specs.Items.{fixed_width, byte_string, encoded};
 ghost use Rattle.amqp_c.specs.JsonTexts.{WritesOrderedJson};
-ghost use Rattle.amqp_c.specs.Measures.{IsMeasured};
-ghost use Rattle.amqp_c.specs.Reads.{IsEntryOf, IsReadEntry, FailsByGrammar, HasProblemInside, ReadsAs};
+ghost use Rattle.amqp_c.specs.Reads.{IsEntryOf, IsReadEntry, FailsByGrammar, HasProblemInside, ReadsAs, IsMeasured, TellsCanonical};
 
 mod buffer;
 mod canonical;

@@ -5,7 +5,7 @@ ghost use Rattle.amqp_in_place.specs.declared.problems.Rules.TheVariants.{Readin
 ghost use Rattle.amqp_in_place.specs.ProblemResults.{FindsValue};
 ghost use Rattle.amqp_c.specs.Inputs.{limits, encoding};
 ghost use Rattle.amqp_c.specs.ReadErrors.{read_error};
-ghost use Rattle.amqp_c.specs.Measures.{same_measure, IsMeasured};
+ghost use Rattle.amqp_c.specs.Reads.{same_measure, IsMeasured};
 
 use crate::Input;
 use crate::problem::ReadError;

@@ -13,7 +13,7 @@ const OK: i32 = 0;
 pub fn put_at_start(bytes: &[u8], buffer: &mut [u8]) -> Result<usize, Fault>
     ensures put { MatchResult result
         (IsPutAtStart bytes.now buffer.old buffer.new)
-        (LacksRoom bytes.now (length buffer.old)) }
+        (LacksRoom (length bytes.now) (length buffer.old)) }
     ensures kept { OnErr result (buffer.new ≡ buffer.old) }
 {
     let count = bytes.len();

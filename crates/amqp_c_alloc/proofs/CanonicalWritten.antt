@@ -22,7 +22,7 @@ use Rattle.amqp_c.specs.declared.fault.Fault.{Fault}
 use Rattle.amqp_c.specs.declared.input.Input.{Input}
 use Rattle.amqp_c.specs.Buffers.{IsPutAtStart, LacksRoom}
 use Rattle.amqp_c.specs.Inputs.{limits, is_untagged, encoding}
-use Rattle.amqp_c.specs.Views.{IsViewOf}
+use Rattle.amqp_c.specs.Reads.{IsViewOf}
 use Rattle.amqp_c_alloc.specs.CanonicalCalls.{IsValueReadWithin, IsCanonicalText, IsCanonicalOf, IsNotCanonical, IsCanonicalWritten, IsCanonicalFault}
 
 -- ---- a type tag that the input lacks
@@ -89,7 +89,7 @@ module _ (l : Limits) (s : List ℕ) where
       record { value = v; rest = rest; read = is_read rest v x; same = prefix ∙ canon_is_text w v of_bytes is }
 
 module _ (input : Input) where
-  pub put_canonical : (bytes old new : List ℕ) (r : Result ℕ Fault) → IsCanonicalOf input bytes → MatchResult r (IsPutAtStart bytes old new) (LacksRoom bytes (length old))
+  pub put_canonical : (bytes old new : List ℕ) (r : Result ℕ Fault) → IsCanonicalOf input bytes → MatchResult r (IsPutAtStart bytes old new) (LacksRoom (length bytes) (length old))
       → MatchResult r (IsCanonicalWritten input old new) (IsCanonicalFault input (length old))
   put_canonical bytes old new (Ok n) is put = (bytes, is, put)
   put_canonical bytes old new (Err f) is lacks = inr (inr (bytes, is, lacks))

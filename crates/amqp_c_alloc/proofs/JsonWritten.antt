@@ -25,13 +25,13 @@ use Rattle.amqp_c_alloc.specs.JsonCalls.{IsTextOf, IsReadAs, IsEncodingFault, Is
 
 -- what is put is the canonical encoding of the value that was meant
 pub put_meant : (most : ℕ) (t bytes old new made : List ℕ) (v : Tree) (r : Result ℕ Fault) → IsTextOf most t v → bytes ≡ made → made ≡ text v → Wire made v
-    → MatchResult r (IsPutAtStart bytes old new) (LacksRoom bytes (length old)) → IsPutOrRejected most t old new r None
+    → MatchResult r (IsPutAtStart bytes old new) (LacksRoom (length bytes) (length old)) → IsPutOrRejected most t old new r None
 put_meant most t bytes old new made v r x same is encodes put = by r put
   where
     back : IsReadAs (text v) v
     back rest = wire_found (text v) rest v (subst (λ (b : List ℕ). Wire b v) is encodes)
 
-    by : (r : Result ℕ Fault) → MatchResult r (IsPutAtStart bytes old new) (LacksRoom bytes (length old)) → IsPutOrRejected most t old new r None
+    by : (r : Result ℕ Fault) → MatchResult r (IsPutAtStart bytes old new) (LacksRoom (length bytes) (length old)) → IsPutOrRejected most t old new r None
     by (Ok n) put = (v, x, back, subst (λ (b : List ℕ). IsPutAtStart b old new n) (same ∙ is) put)
     by (Err f) (e, less) = subst (IsEncodingFault most t (length old)) (sym e) (v, x, back, ap length (same ∙ is), less)
 
@@ -55,7 +55,7 @@ inside_of_text json.TooLarge n within = tt
 module _ (input : Input) where
   -- a text that was made is put
   pub text_put : (t bytes old new rest : List ℕ) (r : Result ℕ Fault) → IsJsonOf (limits input) (encoding input) t rest → bytes ≡ t → length bytes < 2 ^ 64
-      → MatchResult r (IsPutAtStart bytes old new) (LacksRoom bytes (length old)) → MatchResult r (IsJsonPut input old new) (IsJsonFault input (length old))
+      → MatchResult r (IsPutAtStart bytes old new) (LacksRoom (length bytes) (length old)) → MatchResult r (IsJsonPut input old new) (IsJsonFault input (length old))
   text_put t bytes old new rest (Ok n) is same few put = (t, rest, is, subst (λ (b : List ℕ). IsPutAtStart b old new n) same put)
   text_put t bytes old new rest (Err f) is same few (e, less) =
       let all : length bytes ≡ counted t = omega (arith, ap length same, few) in

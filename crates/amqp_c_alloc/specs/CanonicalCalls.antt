@@ -14,8 +14,8 @@ use Rattle.amqp_c.specs.declared.fault.Fault.TheVariants.{Invalid, NoMemory}
 use Rattle.amqp_c.specs.declared.input.Input.{Input}
 use Rattle.amqp_c.specs.Buffers.{IsPutAtStart, LacksRoom}
 use Rattle.amqp_c.specs.Inputs.{limits, is_untagged, has_known_flags, encoding}
+use Rattle.amqp_c.specs.ReadErrors.{IsInputFault}
 use Rattle.amqp_c.specs.ReturnCodes.{return_code_of, length_of}
-use Rattle.amqp_c.specs.Views.{IsInputFault}
 
 -- bytes after the type tag that the input lacks
 abbrev pub after_tag : Input → List ℕ → List ℕ
@@ -51,7 +51,7 @@ abbrev pub IsCanonicalFault : Input → ℕ → Fault → Type 0
 IsCanonicalFault input buffer f =
     IsInputFault input f
     ⊎ ((f ≡ NoMemory) × IsNotCanonical (limits input) (encoding input) × FindsValue (limits input) (encoding input))
-    ⊎ ((bytes : List ℕ) × IsCanonicalOf input bytes × LacksRoom bytes buffer f)
+    ⊎ ((bytes : List ℕ) × IsCanonicalOf input bytes × LacksRoom (length bytes) buffer f)
 
 -- the canonical encoding of the value is put into the buffer; or the fault is right, and the buffer as it was
 pub record WritesCanonical (input : Input) (old : List ℕ) (code : ℤ) (new : List ℕ) (n : ℕ) : Type 0 where

@@ -13,11 +13,11 @@ use Rattle.amqp_c.specs.declared.fault.Fault.{Fault}
 use Rattle.amqp_c.specs.declared.fault.Fault.TheVariants.{TooDeep, NotUtf8, NotJson, NotAValue, NoEncoding, Invalid, NoRoom, NoMemory}
 use Rattle.amqp_c.specs.declared.input.Input.{Input}
 use Rattle.amqp_c.specs.declared.problem.Problem.{Problem}
-use Rattle.amqp_c.specs.Buffers.{IsPutAtStart}
+use Rattle.amqp_c.specs.Buffers.{IsPutAtStart, LacksRoom}
 use Rattle.amqp_c.specs.JsonTexts.{HasUnorderedKeys}
 use Rattle.amqp_c.specs.Inputs.{limits, has_known_flags, encoding}
+use Rattle.amqp_c.specs.ReadErrors.{IsInputFault}
 use Rattle.amqp_c.specs.ReturnCodes.{return_code_of, length_of}
-use Rattle.amqp_c.specs.Views.{IsInputFault}
 
 -- ---- from an encoding to JSON text
 
@@ -25,17 +25,13 @@ use Rattle.amqp_c.specs.Views.{IsInputFault}
 abbrev pub IsJsonPut : Input → List ℕ → List ℕ → ℕ → Type 0
 IsJsonPut input old new n = (t : List ℕ) × (rest : List ℕ) × IsJsonOf (limits input) (encoding input) t rest × IsPutAtStart t old new n
 
--- the text has more bytes than the buffer, as many as the fault reports
-abbrev pub LacksRoomFor : List ℕ → ℕ → Fault → Type 0
-LacksRoomFor t buffer f = (f ≡ NoRoom (counted t)) × (buffer < counted t)
-
 -- a fault is right, for a buffer of that many bytes: the value isn't read; or memory ran out, for a value in which keys
 -- don't ascend; or the text has more bytes, as many as the fault reports
 abbrev pub IsJsonFault : Input → ℕ → Fault → Type 0
 IsJsonFault input buffer f =
     IsInputFault input f
     ⊎ ((f ≡ NoMemory) × HasUnorderedKeys input)
-    ⊎ ((t : List ℕ) × (rest : List ℕ) × IsJsonOf (limits input) (encoding input) t rest × LacksRoomFor t buffer f)
+    ⊎ ((t : List ℕ) × (rest : List ℕ) × IsJsonOf (limits input) (encoding input) t rest × LacksRoom (counted t) buffer f)
 
 -- the JSON text of the value is put into the buffer; or the fault is right, and the buffer as it was
 pub record WritesJson (input : Input) (old : List ℕ) (code : ℤ) (new : List ℕ) (n : ℕ) : Type 0 where

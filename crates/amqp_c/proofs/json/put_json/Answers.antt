@@ -15,7 +15,7 @@ returns-then-count-capacity-clause-written c =
     let input = c.args.input.now in
     let (rest, read) = c.in_ok-value.ensures.read in
     let (t, ordered, counted, put) = c.in-Some.ensures.written (limits input) (encoding input) rest read in
-    inr (inr (t, rest, ordered, ap NoRoom counted, omega (arith, counted)))
+    inr (inr (t, rest, ordered, (ap NoRoom counted, omega (arith, counted))))
 
 pub returns-clause-written : goal.returns-clause-written
 returns-clause-written c =

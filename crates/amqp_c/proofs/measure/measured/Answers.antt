@@ -3,7 +3,7 @@ use Rattle.amq_protocol_types.specs.declared.parsing.within.Limits.{Limits}
 use Rattle.amqp_in_place.specs.ProblemResults.{FindsValue}
 use Rattle.amqp_c.proofs.ReadErrors.{of_parts, read_without_error}
 use Rattle.amqp_in_place.proofs.Refusals.{not_read}
-use Rattle.amqp_c.specs.Measures.{same_measure, HasSize}
+use Rattle.amqp_c.specs.Reads.{same_measure, HasSize}
 use Rattle.amqp_c.proofs.measure.measured.Goals as goal
 
 pub returns-in-Ok : goal.returns-in-Ok

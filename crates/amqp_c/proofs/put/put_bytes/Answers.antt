@@ -14,4 +14,4 @@ returns-clause-put c =
     let counts : c.to_be_bytes.result ≡ to_be_bytes w32 (length b) = search rules in
     let is = strings tag b c.head_of-head.result w c.if-not-is_string_tag.ensures few (c.head_of-head.ensures ∙ ap (λ (l : List ℕ). tag ∷ l) counts) refl in
     put_of (byte_string tag b) c.args.buffer.now c.append.new.buffer c.args.key.now w c.args.into c.append.result
-    c.in_ok-at.ensures.0 (is.0, is.1, is.2) (λ rules depth any deep. plain_reads w is.0 is.2 is.3 rules depth any) c.append.ensures.appended
+    c.in_ok-at.ensures.0 (is.0, is.1, is.2, is.3, is.4) (λ rules depth any deep. plain_reads w is.0 is.4 is.5 rules depth any) c.append.ensures.appended
