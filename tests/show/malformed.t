@@ -134,8 +134,3 @@ json_of_malformed
   2> amqp_show: "unknown_id.hex": offset 7: a type tag is expected; 7a is none, in [1]
   2> amqp_show: "key_not_utf8.hex": offset 9: the key "\xff\xfe" isn't UTF-8
   [1]
-
-path_of_malformed
-  $ echo 46 00000017 00 46 00000011 0161 41 0000000a 56 41 00000004 56 56 56 7a | xxd -r -p | amqp_show --json
-  2> amqp_show: "-": offset 27: a type tag is expected; 7a is none, in ""."a"[1][3]
-  [1]
