@@ -1,5 +1,16 @@
 //! Shows AMQP field tables: as a tree, byte by byte, as JSON, or by what RabbitMQ makes of one; and
 //! encodes JSON.
+//!
+//! What comes in, through which modules, and what comes out:
+//!
+//! ```text
+//! arguments  arguments                                        Settings
+//! a file     input, with --hex by hexadecimal                 the bytes of a value
+//! the bytes  show, by parts and problems: tree, decode (to    Screen, Status
+//!            JSON), check (what RabbitMQ makes of it)
+//! JSON       encode                                           the bytes, or digits
+//! Screen     screen, by terminal; messages on standard error  what is printed
+//! ```
 #![tactic(auto)]
 
 ghost use Rattle.std.specs.Prelude.{◌≡◌};
