@@ -64,11 +64,21 @@ fn plain_end(bytes: &[u8], from: usize) -> usize
     ensures value { result ≡ from + prefix_len is_plain (drop from bytes.now) }
     ensures bound { result ≤ length bytes.now }
 {
+    if from < bytes.len() && !is_plain(bytes[from]) {
+        return from;
+    }
     let mut at = from;
     while bytes.len() - at >= 8 && stops(u8x8::from_slice(&bytes[at..])) == 0 {
         at += 8;
     }
     stop_of(bytes, at)
+}
+
+#[inline(always)]
+fn is_plain(byte: u8) -> bool
+    ensures { result ≡ is_plain byte }
+{
+    byte != b'"' && byte != b'\\' && byte >= 0x20
 }
 
 // A bit for each byte that has to be escaped.
@@ -88,7 +98,7 @@ fn stop_of(bytes: &[u8], from: usize) -> usize
     ensures bound { result ≤ length bytes.now }
 {
     let mut at = from;
-    while at < bytes.len() && bytes[at] != b'"' && bytes[at] != b'\\' && bytes[at] >= 0x20 {
+    while at < bytes.len() && is_plain(bytes[at]) {
         at += 1;
     }
     at
