@@ -45,8 +45,8 @@ help
   --check rabbitmq is rabbitmq-4.0, the newest version that this program's tests run. 4.3 was
   tested by hand, and does the same; 3.11 to 3.13, 4.1 and 4.2 weren't tested.
 
-  A line that begins with ! has the offset of the first problem and what it is,
-  one with * what readers may differ on, and one with = what came of reading.
+  A line that begins with ! shows the first error and its offset, one with * a warning,
+  since readers differ on what is there, and one with = the result.
 
   Exit status: 0 if each value was read, 1 if a value or JSON was rejected or is truncated, 2 after
   a mistake in the arguments or the hexadecimal, or if a file can't be read or the output written.

@@ -14,7 +14,7 @@ _ENDS = 4
 
 
 class Error(ValueError):
-    """What isn't read or can't be written, and why.
+    """Raised for bytes or text that can't be read, and for objects that can't be written; says what is wrong, and where.
 
     >>> from amqp_values import loads
     >>> try:

@@ -4,8 +4,8 @@ use amqp_values_sys::AMQPV_UNTAGGED;
 /// Reads the value at the start of the bytes, its type tag included: checks all of it, the UTF-8 of keys too, and returns it
 /// with the bytes after it.
 ///
-/// It is one pass, which doesn't look at the bytes of strings. If there are more of these than [`Limits::values`], another one
-/// counts the values.
+/// It reads in one pass, and doesn't look at the bytes of strings. If the encoding has more bytes than [`Limits::values`], a
+/// second pass counts the values.
 ///
 /// # Errors
 ///
