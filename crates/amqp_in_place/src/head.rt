@@ -1,4 +1,4 @@
-//! A type tag and one level behind it; a bare table and a key likewise. crates/test_calls/data/in_place.calls has the rows.
+//! A type tag and one level behind it; a bare table and a key likewise. `in_place.calls` of test_calls has the rows.
 
 // Tactics at functions: each names what all arms of a `match`, or all errors, are proved by.
 
