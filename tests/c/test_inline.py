@@ -13,7 +13,6 @@ from tests.model.encoding import TYPES, extent, field, is_utf8, lack
 from tests.model.inputs import value_of
 from tests.model.tables import odd_table
 
-LEVELS = 16
 ADDED = {
     "bool": "t", "timestamp": "T", "void": "V", "float": "f", "double": "d", "string": "S", "bytes": "x", "array": "A",
     "table": "F", "decimal": "D",
@@ -60,7 +59,7 @@ class Writer:
         return self.result == OK
 
     def begin(self, key: bytes | None, tag: str) -> None:
-        if self.result == OK and len(self.open) == LEVELS:
+        if self.result == OK and len(self.open) == MAX_DEPTH:
             self.result = calls.TOO_DEEP
         if self.append(key, tag.encode() + b"\0" * 4):
             self.open.append((tag, len(self.bytes)))
@@ -108,7 +107,8 @@ def some_line(make: Random, writer: Writer) -> str:
         return f"{line} {word(data)}"
     if what == "value":
         data, flags = make.choice(VALUES), make.choice([0, 0, 1, 2, 4, 16, 32])
-        whole, wrong = b"F" * (flags & 1) + data, INVALID if flags > 31 else wanted_problem(data, flags, 2**20, 64)[0]
+        by_reading = wanted_problem(data, flags, 2**20, MAX_DEPTH)[0]
+        whole, wrong = b"F" * (flags & 1) + data, INVALID if flags > 31 else by_reading
         writer.append(key, whole[: extent(whole)], wrong)
         return f"{line} {word(data)} {flags}"
     scale = make.randrange(256) * (what == "decimal")
@@ -141,7 +141,7 @@ def test_writer(inline: Program, seed: int) -> None:
 
 
 def test_levels_of_writer(inline: Program) -> None:
-    for levels, result in ((LEVELS - 1, 0), (LEVELS, calls.TOO_DEEP)):
+    for levels, result in ((MAX_DEPTH - 1, OK), (MAX_DEPTH, calls.TOO_DEEP)):
         lines = ["begin 400 0", *["table .6b"] * levels, *["end"] * levels, "finish"]
         assert lines_of(inline, lines)[0].split()[0] == str(result)
 
