@@ -50,25 +50,25 @@ $(OUT)/aarch64/built: FLAGS += --toolchain packaging/aarch64.cmake
 
 $(OUT)/build/built $(OUT)/lib/built $(OUT)/aarch64/built: $(SOURCES)
 	@mkdir -p $(@D) && rm -f $@ && touch $(@D)/begun
-	packaging/measured '$(WHAT)' packaging/archives $(BUILT) $(LIBRARY) $(or $(TARGET),$(X86_64))
+	packaging/measured.py '$(WHAT)' packaging/archives.py $(BUILT) $(LIBRARY) $(or $(TARGET),$(X86_64))
 	cmake -S . -B $(@D) $(FLAGS) $(CMAKE_FLAGS) && cmake --build $(@D)
 	@mv $(@D)/begun $@
 
 dist: $(OUT)/build/built $(OUT)/aarch64/built ## pack archives of the C library for x86-64 and aarch64, and of amqp_show
-	packaging/measured 'archives' packaging/pack $(OUT)/build $(OUT)/aarch64 $(OUT)/packed
+	packaging/measured.py 'archives' packaging/pack $(OUT)/build $(OUT)/aarch64 $(OUT)/packed
 
 deb: all ## make packages of Debian for x86-64
-	packaging/measured 'packages of Debian' debian/rules clean binary
+	packaging/measured.py 'packages of Debian' debian/rules clean binary
 
 # By Debian's Python and nothing else.
 wheel: $(OUT)/build/built ## make a wheel of the Python package for x86-64
-	packaging/measured 'the wheel' python3 packaging/wheels.py $(OUT)/wheel $(OUT)/build
+	packaging/measured.py 'the wheel' python3 packaging/wheels.py $(OUT)/wheel $(OUT)/build
 
 wheels: $(OUT)/build/built $(OUT)/aarch64/built ## make those for x86-64 and aarch64, as a release has them
-	packaging/measured 'wheels' python3 packaging/wheels.py $(OUT)/wheel $(OUT)/build $(OUT)/aarch64
+	packaging/measured.py 'wheels' python3 packaging/wheels.py $(OUT)/wheel $(OUT)/build $(OUT)/aarch64
 
 web: ## make the page that shows a field table, out/web/amqp.html
-	packaging/measured 'the page' packaging/web $(filter --built,$(BUILT)) $(OUT)/web/amqp.html
+	packaging/measured.py 'the page' packaging/web.py $(filter --built,$(BUILT)) $(OUT)/web/amqp.html
 
 rust: all ## put the library where the Rust crate amqp-values-sys links it
 	install -D -m 644 $(OUT)/build/libamqp_values.a bindings/rust/amqp-values-sys/lib/$(X86_64)/libamqp_values.a

@@ -29,7 +29,7 @@ stored-output:
 	$(step) python3 -m tests.model.stored_output
 
 docs: ## compare the pages with the sources (10 seconds)
-	$(step) tests/pages
+	$(step) tests/pages.py
 
 lint: ## check Python's types, layouts, scripts and spelling (a minute)
 	$(step) tests/lint
@@ -38,7 +38,7 @@ test-model test-vendor test-vectors: test-%:
 	$(step) tests/run $* $(OPTIONS_$*)
 
 fresh:
-	$(step) tests/fresh README.md
+	$(step) tests/fresh.py README.md
 
 # (`rt ci` refuses links, which a build by CMake has)
 proofs: ## prove all crates from nothing, except what was proved on this machine (an hour)
@@ -51,7 +51,7 @@ $(SUITES:%=test-%): test-%: proofs
 	$(step) tests/run $(or $(NAME_$*),$*) $(OPTIONS_$*)
 
 mutants: proofs ## try mutants, which the prover must refuse (15 minutes; later only of what changed)
-	$(step) tests/mutants --built $(ALL)
+	$(step) tests/mutants.py --built $(ALL)
 
 # What tests/run calls a suite, if it has another name there, and its options.
 NAME_alloc-failures = memory/alloc-failures

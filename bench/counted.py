@@ -1,4 +1,4 @@
-"""What bench/run counts once, since it is the same each time: the instructions of calls, and their requests for memory."""
+"""What bench/measure.py counts once, since it is the same each time: the instructions of calls, and their requests for memory."""
 
 import re
 import shutil

@@ -1,4 +1,4 @@
-//! The sides of bench/run that are one process: this library, the Rust crate, librabbitmq, and a loop by hand.
+//! The sides of bench/measure.py that are one process: this library, the Rust crate, librabbitmq, and a loop by hand.
 //!
 //! It first prints its lanes on a line, each a side and an operation, and then a line for each that it reads:
 //!

@@ -1,4 +1,4 @@
-"""The sides that bench/run times, each built and started as a process that takes the commands of bench/driver.rs."""
+"""The sides that bench/measure.py times, each built and started as a process that takes the commands of bench/driver.rs."""
 
 import argparse
 import json

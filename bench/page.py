@@ -1,4 +1,4 @@
-"""The tables that bench/run prints, and docs/SPEED.md and bench/RESULTS.md with them in place of their own."""
+"""The tables that bench/measure.py prints, and docs/SPEED.md and bench/RESULTS.md with them in place of their own."""
 
 import re
 import sys
@@ -8,7 +8,7 @@ from pathlib import Path
 # The pages: of the tables that users read, and of the others.
 SPEED, RESULTS = "docs/SPEED.md", "bench/RESULTS.md"
 # What is between these lines of a page is written anew, as all its tables are.
-BEGIN, END = "<!-- run: bench/run -->\n", "<!-- end of run -->\n"
+BEGIN, END = "<!-- run: bench/measure.py -->\n", "<!-- end of run -->\n"
 TABLE = re.compile(r"(?m)(?:^\|.*\n)+")
 
 

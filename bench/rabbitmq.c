@@ -1,4 +1,4 @@
-/* librabbitmq as a side of bench/run. It reads the table after the type tag; its strings point into the input. */
+/* librabbitmq as a side of bench/measure.py. It reads the table after the type tag; its strings point into the input. */
 #include <amqp.h>
 #include <stdint.h>
 

@@ -1,4 +1,4 @@
-"""What each side has to read and write before bench/run times anything."""
+"""What each side has to read and write before bench/measure.py times anything."""
 
 import sys
 from collections.abc import Iterable, Sequence

@@ -1,4 +1,4 @@
-%% RabbitMQ's own parser and generator as a side of bench/run, which takes the commands of driver.rs.
+%% RabbitMQ's own parser and generator as a side of bench/measure.py, which takes the commands of driver.rs.
 -module(side).
 -export([main/0]).
 

@@ -1,4 +1,4 @@
-// The Go client as a side of bench/run: compiled with the client's own files, it takes the commands of driver.rs.
+// The Go client as a side of bench/measure.py: compiled with the client's own files, it takes the commands of driver.rs.
 package main
 
 import (

@@ -1,4 +1,4 @@
-/* Two tasks of C programs, each by this library, as in docs/C.md, and by librabbitmq, for bench/run. */
+/* Two tasks of C programs, each by this library, as in docs/C.md, and by librabbitmq, for bench/measure.py. */
 #include <amqp.h>
 #include <amqp_values.h>
 

@@ -1,4 +1,4 @@
-"""Numbers, defaults and versions that pages and sources repeat: each is that of the place where it is made (tests/pages)."""
+"""Numbers, defaults and versions that pages and sources repeat: each is that of the place where it is made (tests/pages.py)."""
 
 import re
 import subprocess
@@ -14,7 +14,7 @@ VERIFICATION, ANSWERS = "docs/VERIFICATION.md", "crates/test_calls/data/rust.cal
 STEPS = ".ci/steps.mk"
 # The page on what a new type touches.
 A_TYPE = "docs/ADDING-A-TYPE.md"
-# The page with the tables of bench/run that docs/SPEED.md doesn't have.
+# The page with the tables of bench/measure.py that docs/SPEED.md doesn't have.
 RESULTS = "bench/RESULTS.md"
 # The default limits on bytes and on levels: where they are, and patterns of which each has groups for `bytes` or `depth`.
 DEFAULTS = {
@@ -102,7 +102,7 @@ def other_defaults() -> Iterator[str]:
 
 
 def other_ratios() -> Iterator[str]:
-    """Yields the ratios of README.md that aren't those of docs/SPEED.md, which bench/run writes."""
+    """Yields the ratios of README.md that aren't those of docs/SPEED.md, which bench/measure.py writes."""
     shown = re.search(r"takes (\d+)% of the Rust crate's time.*?takes (\d+)%", read("README.md"))
     rows = re.findall(r"(?m)^\|message headers\b[^|]*\|[^|]* us\|([\d.]+) \(", read(SPEED))
     wanted = [f"{100 * float(it):.0f}" for it in rows[:2]]
@@ -126,12 +126,12 @@ def long_pages() -> Iterator[str]:
 
 
 def tables_of_no_run() -> Iterator[str]:
-    """Yields the tables of docs/SPEED.md and bench/RESULTS.md that bench/run doesn't write, and those that both have."""
-    sources = "".join(it.read_text() for it in (TOP / "bench").iterdir() if it.suffix == ".py" or it.name == "run")
+    """Yields the tables of docs/SPEED.md and bench/RESULTS.md that bench/measure.py doesn't write, and those that both have."""
+    sources = "".join(it.read_text() for it in (TOP / "bench").glob("*.py"))
     heads = [(name, it) for name in (SPEED, RESULTS) for it in re.finditer(r"(?m)^\|([^|]*)\|.*\n\|---\|", read(name))]
     for name, it in heads:
         if f'"{it[1]}"' not in sources:
-            yield f"{place(name, it.start())}: bench/run writes no table that begins with {it[1]}: correct it"
+            yield f"{place(name, it.start())}: bench/measure.py writes no table that begins with {it[1]}: correct it"
         if sum(other[1] == it[1] for _, other in heads) > 1:
             yield f"{place(name, it.start())}: there is another table that begins with {it[1]}: keep one"
 

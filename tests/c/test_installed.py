@@ -186,7 +186,7 @@ NEW = ("include/amqp_values.h", "crates/amqp_c/src/lib.rt", "crates/amqp_value_c
 def test_what_is_made_anew(out: Path, name: str) -> None:
     done = make(out, "-n", *(["-W", name] if name else []))
     assert_well(done)
-    assert ("packaging/archives" in done.stdout) == bool(name)
+    assert ("packaging/archives.py" in done.stdout) == bool(name)
 
 
 def test_build_that_fails_is_not_installed(out: Path, tmp_path: Path) -> None:
@@ -211,11 +211,11 @@ def test_library_without_the_tool(out: Path, prefix: Path, tmp_path: Path) -> No
 @pytest.mark.parametrize(
     ("script", "program", "package"),
     (
-        ("packaging/archives --once", "cc", "gcc"),
-        ("packaging/archives --once", "ar", "binutils"),
-        ("packaging/archives --once", "cmake", "cmake"),
-        ("packaging/archives --once aarch64-unknown-linux-gnu", "aarch64-linux-gnu-gcc", "gcc-aarch64-linux-gnu"),
-        ("packaging/web", "wasm-opt", "binaryen"),
+        ("packaging/archives.py --once", "cc", "gcc"),
+        ("packaging/archives.py --once", "ar", "binutils"),
+        ("packaging/archives.py --once", "cmake", "cmake"),
+        ("packaging/archives.py --once aarch64-unknown-linux-gnu", "aarch64-linux-gnu-gcc", "gcc-aarch64-linux-gnu"),
+        ("packaging/web.py", "wasm-opt", "binaryen"),
     ),
 )
 def test_missing_program_is_named_before_any_proof(tmp_path: Path, script: str, program: str, package: str) -> None:

@@ -1,6 +1,6 @@
 """What each call takes over each input: counts.c makes it, by itself and under callgrind, which counts instructions.
 
-bench/run counts those of other libraries by the same runs of callgrind.
+bench/measure.py counts those of other libraries by the same runs of callgrind.
 """
 
 import re

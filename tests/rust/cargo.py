@@ -94,7 +94,7 @@ class Given(NamedTuple):
     def drop_in(self, to: Path, *words: str, crate: Path | None = None) -> Done:
         """Makes the drop-in of the Rust crate, or of another folder."""
         shutil.rmtree(to, ignore_errors=True)
-        return run([RUST / "drop-in", crate or self.crate, to, "--library", self.library, *words])
+        return run([RUST / "drop_in.py", crate or self.crate, to, "--library", self.library, *words])
 
 
 def given(crate: Path, packages: Path, library: Path) -> Given:

@@ -1,4 +1,4 @@
-"""The drop-in of the Rust crate, which bindings/rust/drop-in makes.
+"""The drop-in of the Rust crate, which bindings/rust/drop_in.py makes.
 
 It stops with the place on sources that it doesn't know. All tests of the crate pass over the drop-in, as many as over the
 crate. equal.rs: on random inputs both give the same, except for claims above the limit. refused.rs: what is beyond each limit is

@@ -1,4 +1,4 @@
-"""Which libamqp_values.a bindings/rust/drop-in takes, for a crate that has only what it edits."""
+"""Which libamqp_values.a bindings/rust/drop_in.py takes, for a crate that has only what it edits."""
 
 import os
 import shutil
@@ -48,7 +48,7 @@ def top(tmp_path: Path) -> Path:
 def drop_in(top: Path, *words: str, crate: str = "crate") -> Done:
     """Makes the drop-in; pkg-config knows no library."""
     env = {**os.environ, "PKG_CONFIG_LIBDIR": str(top), "PKG_CONFIG_PATH": ""}
-    return run([top / "bindings/rust/drop-in", top.parent / crate, top.parent / "made", *words], env=env)
+    return run([top / "bindings/rust/drop_in.py", top.parent / crate, top.parent / "made", *words], env=env)
 
 
 def linked(top: Path) -> Path:

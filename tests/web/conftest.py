@@ -22,7 +22,7 @@ def page(request: pytest.FixtureRequest, tmp_path_factory: pytest.TempPathFactor
     if path is None:
         path = tmp_path_factory.mktemp("page") / "amqp.html"
         words = ["--built"] * bool(request.config.getoption("--built"))
-        done = subprocess.run([TOP / "packaging/web", *words, path], capture_output=True, text=True)
+        done = subprocess.run([TOP / "packaging/web.py", *words, path], capture_output=True, text=True)
         assert done.returncode == 0, done.stderr + done.stdout
     return path.resolve()
 

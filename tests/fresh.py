@@ -1,5 +1,5 @@
 #!/usr/bin/env python3
-"""Runs a page's commands on a machine that has only the kit, python3, make and git: tests/fresh [PAGE], as root
+"""Runs a page's commands on a machine that has only the kit, python3, make and git: tests/fresh.py [PAGE], as root
 
 debootstrap makes a root of Debian 12 with these packages in a temporary folder. The committed state is cloned into it, the kit
 is mounted read-only, and the commands of the page (README.md) are run there, to the end of the console block with `make test`.

@@ -1,5 +1,5 @@
 #!/usr/bin/env python3
-"""Runs a command, and prints what it took to make something: packaging/measured NAME COMMAND..
+"""Runs a command, and prints what it took to make something: packaging/measured.py NAME COMMAND..
 
 That is its time, the time that all its processes had on processors, and the most memory that they had together, which is
 looked at twice a second. A page that several of them share counts once. It ends with the status of the command.

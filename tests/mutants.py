@@ -1,5 +1,5 @@
 #!/usr/bin/env python3
-"""Tries the mutants of the crates, functions with a wrong body: tests/mutants [CRATE[/NAME]..]
+"""Tries the mutants of the crates, functions with a wrong body: tests/mutants.py [CRATE[/NAME]..]
 
 The prover must refuse each mutant; one that is proved shows that a contract says too little. A crate's file `mutants` has
 a block for each:

@@ -1,5 +1,5 @@
 #!/usr/bin/env python3
-"""Proves and builds what CMakeLists.txt installs of Rattle's: packaging/archives [--once | --built] [--library] [TARGET]
+"""Proves and builds what CMakeLists.txt installs of Rattle's: packaging/archives.py [--once | --built] [--library] [TARGET]
 
 These are the static libraries of the C API, crates/NAME/out/TARGET/libNAME.a, by default for x86-64, and amqp_show,
 unless --library leaves it out. The libraries run on every processor of TARGET. The tool needs an x86-64 processor with SSE4.2

@@ -1,5 +1,5 @@
 #!/usr/bin/env python3
-"""Makes a drop-in of the Rust crate amq-protocol-types 10.6.x: bindings/rust/drop-in CRATE OUT [--library FILE] [--keep-version]
+"""Makes a drop-in of the Rust crate amq-protocol-types 10.6.x: bindings/rust/drop_in.py CRATE OUT [--library FILE] [--keep-version]
 
 CRATE is a folder with the crate, as `cargo vendor` or cargo's registry has it, and stays as it is. OUT is made: a crate of the same
 name with the same public items, which checks each array and table within limits before it parses it. Its version is one higher,

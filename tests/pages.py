@@ -1,9 +1,9 @@
 #!/usr/bin/env python3
-"""Checks the pages against the sources, and which source may use which: tests/pages
+"""Checks the pages against the sources, and which source may use which: tests/pages.py
 
 What a page names exists: files, links, functions, definitions, clauses, targets of make, suites. Code that a page quotes is in
 a source file. No page, comment or message has a word of this project's own. docs/PROMISES.md names each clause of a public
-call. Each public function of a library has a mutant (tests/mutants). Each call that may run out of memory is made with much. A
+call. Each public function of a library has a mutant (tests/mutants.py). Each call that may run out of memory is made with much. A
 crate uses only what is below it, and no module one that uses it. No source makes up that memory ran out
 (tests/memory/made_up.py). Numbers that are repeated are those of where they are made (tests/figures.py). Other suites run the
 commands that pages show.
@@ -158,7 +158,7 @@ def missing() -> Iterator[str]:
             quoted, is_quotation, at = QUOTED.findall(line), line.startswith("> "), f"{page.relative_to(TOP)}:{number}"
             for it in quoted if not is_quotation else ():
                 if re.fullmatch(rf"{WORD}(?:::{WORD})*", it) and not {*it.split("::")} <= known:
-                    yield f"{at}: no source has the name {it}: correct it, or add it to NOT_OURS of tests/pages"
+                    yield f"{at}: no source has the name {it}: correct it, or add it to NOT_OURS of tests/pages.py"
                 if PATH.fullmatch(it) and it not in known and not is_file(it):
                     yield f"{at}: there is no file {it}: name it from the top of the repository or of a crate"
             # (next to a page of packaging/ is what a release has)
@@ -398,7 +398,7 @@ def untried() -> Iterator[str]:
         if not {it.path, it.path.partition("::")[0]} & excused:
             yield f"{it.at}: {it.path} has no mutant: add one to crates/{name}/mutants"
     for path in {*UNTRIED} - excused:
-        yield f"tests/pages: {path} has a mutant, or isn't there: take it out of UNTRIED"
+        yield f"tests/pages.py: {path} has a mutant, or isn't there: take it out of UNTRIED"
 
 
 # What is used is below.
@@ -499,7 +499,7 @@ def allocating() -> Iterator[str]:
         tests = "".join(it[0] for it in re.finditer(MUCH, read(TOP / test)))
         names = re.findall(pattern, "".join(map(read, files(source))))
         if not names:
-            yield f"{source}: no call is found that may run out of memory: correct the pattern in tests/pages"
+            yield f"{source}: no call is found that may run out of memory: correct the pattern in tests/pages.py"
         for name in (it for it in names if not re.search(rf"\b{it}\(", tests)):
             yield f"{source}: {name} may run out of memory: call it in test_much_memory of {test}, with 1 MiB"
 
@@ -547,7 +547,7 @@ def not_with_much() -> Iterator[str]:
     if read(TOP / LARGE / "stdout") != "".join(f"{it} done\n" for it in made):
         yield f"{LARGE}/stdout: it isn't that each call of stdin is done: correct it"
     for path in {*NOT_MADE, *WITH_LESS} - reasons:
-        yield f"tests/pages: {path} isn't a call that may run out of memory: take it out of NOT_MADE or WITH_LESS"
+        yield f"tests/pages.py: {path} isn't a call that may run out of memory: take it out of NOT_MADE or WITH_LESS"
 
 
 def main() -> int:

@@ -1,5 +1,5 @@
 #!/usr/bin/env python3
-"""Makes the page that shows a field table, one file of everything: packaging/web [--built] [PATH]
+"""Makes the page that shows a field table, one file of everything: packaging/web.py [--built] [PATH]
 
 PATH (else `out/web/amqp.html`) has the scripts and the style of bindings/web, what amqp_values.h numbers and names, and the
 calls of the C API that don't allocate as two modules of WebAssembly, in base64. Rattle's compiler makes the first, with
@@ -129,7 +129,7 @@ def page(wide: bytes, narrow: bytes) -> str:
 
 def main() -> None:
     reader = argparse.ArgumentParser(
-        prog="packaging/web", description=__doc__, formatter_class=argparse.RawDescriptionHelpFormatter
+        prog="packaging/web.py", description=__doc__, formatter_class=argparse.RawDescriptionHelpFormatter
     )
     reader.add_argument("--built", action="store_true")
     reader.add_argument("path", nargs="?", type=Path, default=TOP / "out/web/amqp.html", metavar="PATH")

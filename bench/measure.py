@@ -1,5 +1,5 @@
 #!/usr/bin/env python3
-"""Times this library next to others: bench/run [--quick] [--built] [--crate FOLDER [--packages FOLDER]] [--installed FOLDER]
+"""Times this library next to others: bench/measure.py [--quick] [--built] [--crate FOLDER [--packages FOLDER]] [--installed FOLDER]
 
 It prints tables, writes them into docs/SPEED.md and bench/RESULTS.md in place of those there, and draws docs/speed.svg of them.
 With --quick, in a minute, it prints the times only.
@@ -253,7 +253,7 @@ def machine() -> Iterator[tuple[str, str]]:
 def asked() -> argparse.Namespace:
     """What the command line asks for."""
     reader = argparse.ArgumentParser(
-        prog="bench/run", description=__doc__, formatter_class=argparse.RawDescriptionHelpFormatter
+        prog="bench/measure.py", description=__doc__, formatter_class=argparse.RawDescriptionHelpFormatter
     )
     reader.add_argument("--quick", action="store_true")
     reader.add_argument("--built", action="store_true")
