@@ -4,10 +4,6 @@ use Rattle.std.specs.Map.{lookup}
 use Rattle.std.specs.List.{AllByRecursion}
 use Rattle.std.specs.Option.{IfSome, option_eq}
 use Rattle.std.specs.Borrow.{Bor}
-use Rattle.std.specs.Ordering.{nat_cmp, is_lt, is_some_and}
-use Rattle.std.specs.Cmp.Lexicographic.{slice_cmp, slice_partial_cmp, lists_agrees}
-use Rattle.std.specs.declared.cmp.Ordering.{Ordering}
-use Rattle.std.specs.declared.cmp.Ordering.TheVariants.{Less, Equal, Greater}
 use Rattle.std.specs.Str.{IsUtf8}
 use Rattle.std.proofs.lemmas.Bool.{eqb-true, false≢true}
 use Rattle.std.proofs.lemmas.List.{nil_from_length, append-nil}
@@ -201,18 +197,6 @@ module _ (d : ℕ) (s after : List ℕ) (prefix : CanonPrefix d s after) where
     where
       by : CanonPrefix d s after → CanonValues d s
       by (w, v, x, less, e) = (tree v vs, subst (λ (t : List ℕ). CanonBody t (tree v vs)) (sym e) (canon_value w after v vs x all), omega arith)
-
--- ---- keys
-
--- `<` of two slices decides whether the first comes before the second
-pub told_less : (x y : List ℕ) (b : Bool) → b ≡ is_some_and is_lt (slice_partial_cmp (λ (i j : ℕ). Some (nat_cmp i j)) x y)
-    → (b ≡ true → slice_cmp nat_cmp x y ≡ Less) × (b ≡ false → slice_cmp nat_cmp x y ≡ Less → ⊥)
-told_less x y b is = by (slice_cmp nat_cmp x y) (is ∙ ap (is_some_and is_lt) (lists_agrees {C = λ (i j : ℕ). Some (nat_cmp i j)} (λ i j. refl) x y))
-  where
-    by : (o : Ordering) → b ≡ is_lt o → (b ≡ true → o ≡ Less) × (b ≡ false → o ≡ Less → ⊥)
-    by Less e = (λ t. refl, λ f g. absurd (false≢true (sym f ∙ e)))
-    by Equal e = (λ t. absurd (false≢true (sym e ∙ t)), λ f g. absurd cc)
-    by Greater e = (λ t. absurd (false≢true (sym e ∙ t)), λ f g. absurd cc)
 
 -- ---- pairs
 

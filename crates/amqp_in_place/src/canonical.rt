@@ -1,6 +1,9 @@
 //! Canonical encodings, checked in place.
 
 ghost use Rattle.std.specs.Prelude.{◌≡◌, ◌+◌, true, false, ℕ, List, None, IfSome};
+ghost use Rattle.std.specs.Ordering.{nat_cmp};
+ghost use Rattle.std.specs.Cmp.Lexicographic.{slice_cmp};
+ghost use Rattle.std.specs.declared.cmp.Ordering.TheVariants.{Less};
 ghost use Rattle.amqp_value_core.specs.Bytes.{slice_bytes};
 ghost use Rattle.amq_protocol_types.specs.parsing.Untagged.{tagged};
 ghost use Rattle.amqp_in_place.specs.Canonicals.{IsCanonicalLen, IsCanonicalWithin, IsReadAsWritten, CanonPrefix, CanonValues, CanonEntries, HasCanonicalBody, IsAbove, IsFirstSpelling};
@@ -157,15 +160,26 @@ fn are_canonical_pairs<'a>(body: SliceInput<'a>, depth: usize) -> bool
     true
 }
 
-// Whether a key is above the one before it.
-pub(crate) fn is_above(previous: Option<&[u8]>, key: &[u8]) -> bool
+/// Returns whether a key is above the one before it by their bytes, or is the first. A table's
+/// encoding is canonical only if each of its keys is.
+#[inline(always)]
+pub fn is_above(previous: Option<&[u8]>, key: &[u8]) -> bool
     ensures yes { result ≡ true → IsAbove previous.entry key.now }
     ensures no { result ≡ false → IsAbove previous.entry key.now → ⊥ }
 {
     match previous {
-        Some(previous) => previous < key,
+        Some(previous) => is_below(previous, key),
         None => true,
     }
+}
+
+// Whether a key is below another: by `cmp`, which passes over equal bytes by groups.
+#[inline(always)]
+fn is_below(a: &[u8], b: &[u8]) -> bool
+    ensures yes { result ≡ true → slice_cmp nat_cmp a.now b.now ≡ Less }
+    ensures no { result ≡ false → slice_cmp nat_cmp a.now b.now ≡ Less → ⊥ }
+{
+    a.cmp(b).is_lt()
 }
 
 // Whether no alternate tag is first, and after a boolean's 0 or 1.

@@ -1,13 +1,9 @@
 //! The JSON text of a value in a buffer.
 
-ghost use Rattle.std.specs.Prelude.{◌≡◌, true, false, IfSome, List, ℕ};
-ghost use Rattle.std.specs.Ordering.{nat_cmp};
-ghost use Rattle.std.specs.Cmp.Lexicographic.{slice_cmp};
-ghost use Rattle.std.specs.declared.cmp.Ordering.TheVariants.{Less};
+ghost use Rattle.std.specs.Prelude.{IfSome, List, ℕ};
 ghost use Rattle.amqp_value_core.specs.Values.{Tree, Trees, Entries, array as array_tree};
 ghost use Rattle.amqp_value_core.specs.Grammar.{ArrayBody, TableBody};
 ghost use Rattle.amqp_in_place.specs.Bodies.{HasEntries};
-ghost use Rattle.amqp_in_place.specs.Canonicals.{IsAbove};
 ghost use Rattle.amqp_in_place.specs.Places.{IsViewIn};
 ghost use Rattle.amqp_in_place.specs.Refs.{Denotes, array_body, table_body};
 ghost use Rattle.json.specs.Json.{object};
@@ -18,7 +14,7 @@ ghost use Rattle.amqp_json.specs.Written.{written, members_written};
 use super::leaves::put_leaf;
 use super::place::Place;
 use super::tokens::{put_key, put_token};
-use amqp_in_place::{ArrayRef, TableRef, ValueRef};
+use amqp_in_place::{ArrayRef, TableRef, ValueRef, is_above};
 use json::Token;
 
 /// Puts the JSON text of a value after what is written, or some of it if the keys of a table don't
@@ -74,24 +70,4 @@ fn put_table(buffer: &mut [u8], place: Place, table: TableRef<'_>) -> Option<Pla
         end = put_value(buffer, keyed, value)?;
     }
     Some(put_token(buffer, end, Token::EndObject))
-}
-
-// Whether a key is above the one before it by their bytes.
-#[inline(always)]
-fn is_above(previous: Option<&[u8]>, key: &[u8]) -> bool
-    ensures yes { result ≡ true → IsAbove previous.entry key.now }
-    ensures no { result ≡ false → IsAbove previous.entry key.now → ⊥ }
-{
-    match previous {
-        Some(previous) => is_below(previous, key),
-        None => true,
-    }
-}
-
-#[inline(always)]
-fn is_below(a: &[u8], b: &[u8]) -> bool
-    ensures yes { result ≡ true → slice_cmp nat_cmp a.now b.now ≡ Less }
-    ensures no { result ≡ false → slice_cmp nat_cmp a.now b.now ≡ Less → ⊥ }
-{
-    a.cmp(b).is_lt()
 }

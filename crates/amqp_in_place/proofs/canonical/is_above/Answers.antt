@@ -1,13 +1,12 @@
 use Rattle.std.proofs.Common.{sym, subst, Option, List, ℕ}
 use Rattle.std.specs.Borrow.{Bor}
 use Rattle.amqp_in_place.specs.Canonicals.{IsAbove}
-use Rattle.amqp_in_place.proofs.Canonicals.{told_less}
 use Rattle.amqp_in_place.proofs.canonical.is_above.Goals as goal
 
 pub returns-in-Some-clause-yes : goal.returns-in-Some-clause-yes
 returns-in-Some-clause-yes c = λ t.
-    subst (λ (j : Option (Bor (List ℕ))). IsAbove j c.args.key.now) (sym c.in-Some.is) ((told_less c.in-Some.previous.now c.args.key.now c.lt.result c.lt.ensures).0 t)
+    subst (λ (j : Option (Bor (List ℕ))). IsAbove j c.args.key.now) (sym c.in-Some.is) (c.is_below.ensures.yes t)
 
 pub returns-in-Some-clause-no : goal.returns-in-Some-clause-no
 returns-in-Some-clause-no c = λ f above.
-    (told_less c.in-Some.previous.now c.args.key.now c.lt.result c.lt.ensures).1 f (subst (λ (j : Option (Bor (List ℕ))). IsAbove j c.args.key.now) c.in-Some.is above)
+    c.is_below.ensures.no f (subst (λ (j : Option (Bor (List ℕ))). IsAbove j c.args.key.now) c.in-Some.is above)
