@@ -21,7 +21,7 @@ use Rattle.amqp_in_place.specs.InPlaceResults.{IsLeft}
 use Rattle.amqp_in_place.specs.Places.{IsViewIn, IsViewWithin}
 use Rattle.amqp_in_place.specs.Walks.{HasEncodingAtStart, IsValueThere, NextValueIs, BeginsWith, FoundBy, FoundIs, WrittenIs, ViewIs, ValueIs, tree_at}
 use Rattle.amqp_in_place.specs.Written.{written, IsWrittenAs, values_written, pairs_written, WrittenValues, WrittenPairs}
-use Rattle.amqp_in_place.specs.Encoded.{EncodedValue, StandsFor, IsViewOf, values_by, pairs_by, EncodedValues, EncodedPairs, nth_encoded, first_encoded, last_encoded}
+use Rattle.amqp_in_place.specs.Encoded.{EncodedValue, StandsFor, IsViewOf, values_by, pairs_by, EncodedValues, EncodedPairs, nth_encoded, first_encoded, last_encoded, encoded_of}
 use Rattle.amqp_in_place.proofs.Views.{stands}
 use Rattle.amqp_in_place.proofs.Places.{left_of_left}
 
@@ -162,11 +162,6 @@ last_by f k _ _ (pair j w rest v ps key first others) = by (last_encoded k rest 
     by None e false = ap (λ (t : Option Tree). option_or t None) e
     by (Some u) e b = ap (λ (t : Option Tree). option_or t (cond b (Some (f (record { bytes = w; meaning = v; is_wire = first }))) None)) e
 
--- of the first or the last of the pairs with the key
-abbrev pub encoded_of : EqualKeys → List ℕ → (s : List ℕ) (ps : Entries) → TableBody s ps → Option EncodedValue
-encoded_of equal.First = first_encoded
-encoded_of equal.Last = last_encoded
-
 pair_by : (of : EqualKeys) (f : EncodedValue → Tree) (k s : List ℕ) (ps : Entries) (p : TableBody s ps) → option_map f (encoded_of of k s ps p) ≡ value_of_pair of k (pairs_by f s ps p)
 pair_by equal.First = first_by
 pair_by equal.Last = last_by
@@ -182,8 +177,8 @@ module _ (of : EqualKeys) (s k : List ℕ) (r : Option ValueRef) (there : (ps : 
   pair_is_view es (ps, p, e) = subst (λ (o : Option Tree). ViewIs o r) (pair_by of as_octets k s ps p ∙ ap (value_of_pair of k) (sym e)) (view_found _ r (there ps p))
 
 -- what the entries mean at the key is the last pair's value
-pub last_means : (s k : List ℕ) (r : Option ValueRef) → ((ps : Entries) (p : TableBody s ps) → ValueIs (last_encoded k s ps p) r) → (es : Entries) → HasEntries s es → FoundIs (value_at k es) r
-last_means s k r there es (ps, p, mean) = subst (λ (o : Option Tree). FoundIs o r) (sym (mean.last k)) (pair_means equal.Last s k r there ps p)
+pub last_means : (s k : List ℕ) (r : Option ValueRef) → ((ps : Entries) → TableBody s ps → FoundIs (last_at k ps) r) → (es : Entries) → HasEntries s es → FoundIs (value_at k es) r
+last_means s k r found es (ps, p, mean) = subst (λ (o : Option Tree). FoundIs o r) (sym (mean.last k)) (found ps p)
 
 -- ---- the pairs that are left
 
@@ -214,20 +209,13 @@ pub or_none : {A : Type 0} (a : Option A) → option_or a None ≡ a
 or_none None = refl
 or_none (Some x) = refl
 
--- what was found so far is the last pair's value, unless one that is left has the key
-abbrev pub LastSoFar : List ℕ → List ℕ → List ℕ → Option (Bor (List ℕ)) → Type 0
-LastSoFar j s rest at = (ps : Entries) (p : TableBody s ps)
-    → (qs : Entries) × (q : TableBody rest qs) × (seen : Option EncodedValue) × BeginsWith seen at × (last_encoded j s ps p ≡ option_or (last_encoded j rest qs q) seen)
+-- what is asked for is among the pairs that are left, and otherwise it is what was found so far
+abbrev pub FoundSoFar : EqualKeys → List ℕ → List ℕ → List ℕ → Option (Bor (List ℕ)) → Type 0
+FoundSoFar of j s rest at = (ps : Entries) (p : TableBody s ps)
+    → (qs : Entries) × (q : TableBody rest qs) × (seen : Option EncodedValue) × BeginsWith seen at × (encoded_of of j s ps p ≡ option_or (encoded_of of j rest qs q) seen)
 
--- none of the pairs before those that are left has the key
-abbrev pub NoneSoFar : List ℕ → List ℕ → List ℕ → Type 0
-NoneSoFar j s rest = (ps : Entries) (p : TableBody s ps) → (qs : Entries) × (q : TableBody rest qs) × (first_encoded j s ps p ≡ first_encoded j rest qs q)
-
-pub last-start : (j s : List ℕ) → LastSoFar j s s None
-last-start j s = λ ps p. (ps, p, None, tt, sym (or_none (last_encoded j s ps p)))
-
-pub none-start : (j s : List ℕ) → NoneSoFar j s s
-none-start j s = λ ps p. (ps, p, refl)
+pub found-start : (of : EqualKeys) (j s : List ℕ) → FoundSoFar of j s s None
+found-start of j s = λ ps p. (ps, p, None, tt, sym (or_none (encoded_of of j s ps p)))
 
 module _ (rest k t : List ℕ) (v : Bor (List ℕ)) (key : rest ≡ short_field k ++ v.now) (after : t ≡ drop (extent v.now) v.now) where
   -- after the first pair are fewer bytes, which are pairs
@@ -248,55 +236,46 @@ module _ (rest k t : List ℕ) (v : Bor (List ℕ)) (key : rest ≡ short_field 
       left_of_left s v.now t (value_inside s left)
       (subst (IsLeft v.now) (sym after) (take (extent v.now) v.now, sym (take-append-drop (extent v.now) v.now)))
 
-  module _ (j s : List ℕ) where
-    pub last-step : (old new : Option (Bor (List ℕ))) (b : Bool) → LastSoFar j s rest old → b ≡ same_bytes j k → new ≡ cond b (Some v) old → LastSoFar j s t new
-    last-step old new b before is made = λ ps p.
+  module _ (of : EqualKeys) (j s : List ℕ) (at : Option (Bor (List ℕ))) (before : FoundSoFar of j s rest at) where
+    -- the first pair has another key
+    pub found-other : false ≡ same_bytes j k → FoundSoFar of j s t at
+    found-other is = λ ps p.
         let (qs, q, seen, begins, e) = before ps p in
         let f = first_of rest qs q k v.now t key after in
-        let here = cond b (Some f.at) None in (
-          f.others,
-          f.more,
-          option_or here seen,
-          subst (BeginsWith (option_or here seen)) (sym made) (pick b f.at seen f.place begins),
-          e ∙ (ap (λ (o : Option EncodedValue). option_or o seen) (f.last_is j ∙ ap (λ (c : Bool). option_or (last_encoded j t f.others f.more) (cond c (Some f.at) None)) (sym is))
-              ∙ or_assoc (last_encoded j t f.others f.more) here seen),
-        )
+        (f.others, f.more, seen, begins, e ∙ ap (λ (o : Option EncodedValue). option_or o seen) (by of qs q f))
       where
-        pick : (c : Bool) (u : EncodedValue) (seen : Option EncodedValue) → v.now ≡ u.bytes ++ t → BeginsWith seen old → BeginsWith (option_or (cond c (Some u) None) seen) (cond c (Some v) old)
-        pick true u seen place begins = (t, place)
-        pick false u seen place begins = begins
+        by : (of : EqualKeys) (qs : Entries) (q : TableBody rest qs) (f : FirstOf rest k v.now t qs q) → encoded_of of j rest qs q ≡ encoded_of of j t f.others f.more
+        by equal.First qs q f = f.first_is j ∙ ap (λ (c : Bool). cond c (Some f.at) (first_encoded j t f.others f.more)) (sym is)
+        by equal.Last qs q f =
+            f.last_is j ∙ (ap (λ (c : Bool). option_or (last_encoded j t f.others f.more) (cond c (Some f.at) None)) (sym is) ∙ or_none (last_encoded j t f.others f.more))
 
-    pub none-step : NoneSoFar j s rest → false ≡ same_bytes j k → NoneSoFar j s t
-    none-step before is = λ ps p.
-        let (qs, q, e) = before ps p in
+    -- it has the key: it is the first, or the last so far
+    pub found-first : of ≡ equal.First → true ≡ same_bytes j k → (ps : Entries) (p : TableBody s ps) → BeginsWith (encoded_of of j s ps p) (Some v)
+    found-first is same ps p =
+        let (qs, q, seen, begins, e) = before ps p in
         let f = first_of rest qs q k v.now t key after in
-        (f.others, f.more, e ∙ (f.first_is j ∙ ap (λ (c : Bool). cond c (Some f.at) (first_encoded j t f.others f.more)) (sym is)))
+        let here : encoded_of of j rest qs q ≡ Some f.at = ap (λ (o : EqualKeys). encoded_of o j rest qs q) is ∙ (f.first_is j ∙ ap (λ (c : Bool). cond c (Some f.at) (first_encoded j t f.others f.more)) (sym same)) in
+        subst (λ (o : Option EncodedValue). BeginsWith o (Some v)) (sym (e ∙ ap (λ (o : Option EncodedValue). option_or o seen) here)) (t, f.place)
 
-    pub first-here : NoneSoFar j s rest → true ≡ same_bytes j k → (ps : Entries) (p : TableBody s ps) → BeginsWith (first_encoded j s ps p) (Some v)
-    first-here before is ps p =
-        let (qs, q, e) = before ps p in
+    pub found-last : of ≡ equal.Last → true ≡ same_bytes j k → FoundSoFar of j s t (Some v)
+    found-last is same = λ ps p.
+        let (qs, q, seen, begins, e) = before ps p in
         let f = first_of rest qs q k v.now t key after in
-        subst (λ (o : Option EncodedValue). BeginsWith o (Some v)) (sym (e ∙ (f.first_is j ∙ ap (λ (c : Bool). cond c (Some f.at) (first_encoded j t f.others f.more)) (sym is)))) (t, f.place)
+        let here : encoded_of of j rest qs q ≡ option_or (encoded_of of j t f.others f.more) (Some f.at) =
+        subst (λ (o : EqualKeys). encoded_of o j rest qs q ≡ option_or (encoded_of o j t f.others f.more) (Some f.at)) (sym is)
+        (f.last_is j ∙ ap (λ (c : Bool). option_or (last_encoded j t f.others f.more) (cond c (Some f.at) None)) (sym same)) in
+        (f.others, f.more, Some f.at, (t, f.place), e ∙ (ap (λ (o : Option EncodedValue). option_or o seen) here ∙ or_assoc (encoded_of of j t f.others f.more) (Some f.at) seen))
 
 -- no pair is left
-module _ (j s rest : List ℕ) (none : length rest ≡ 0) where
-  pub last-end : (at : Option (Bor (List ℕ))) → LastSoFar j s rest at → (ps : Entries) (p : TableBody s ps) → BeginsWith (last_encoded j s ps p) at
-  last-end at before ps p =
-      let (qs, q, seen, begins, e) = before ps p in
-      subst (λ (o : Option EncodedValue). BeginsWith o at) (sym (e ∙ by rest qs q seen none)) begins
-    where
-      by : (t : List ℕ) (qs : Entries) (q : TableBody t qs) (seen : Option EncodedValue) → length t ≡ 0 → option_or (last_encoded j t qs q) seen ≡ seen
-      by _ _ no_pairs seen e = refl
-      by _ _ (pair k w left v qs is first others) seen e = absurd (omega (arith, e))
-
-  pub none-end : NoneSoFar j s rest → (ps : Entries) (p : TableBody s ps) → BeginsWith (first_encoded j s ps p) None
-  none-end before ps p =
-      let (qs, q, e) = before ps p in
-      subst (λ (o : Option EncodedValue). BeginsWith o None) (sym e) (by rest qs q none)
-    where
-      by : (t : List ℕ) (qs : Entries) (q : TableBody t qs) → length t ≡ 0 → BeginsWith (first_encoded j t qs q) None
-      by _ _ no_pairs e = tt
-      by _ _ (pair k w left v qs is first others) e = absurd (omega (arith, e))
+pub found-end : (of : EqualKeys) (j s rest : List ℕ) (at : Option (Bor (List ℕ))) → length rest ≡ 0 → FoundSoFar of j s rest at → (ps : Entries) (p : TableBody s ps) → BeginsWith (encoded_of of j s ps p) at
+found-end of j s rest at none before ps p =
+    let (qs, q, seen, begins, e) = before ps p in
+    subst (λ (o : Option EncodedValue). BeginsWith o at) (sym (e ∙ by of rest qs q seen none)) begins
+  where
+    by : (of : EqualKeys) (t : List ℕ) (qs : Entries) (q : TableBody t qs) (seen : Option EncodedValue) → length t ≡ 0 → option_or (encoded_of of j t qs q) seen ≡ seen
+    by equal.First _ _ no_pairs seen e = refl
+    by equal.Last _ _ no_pairs seen e = refl
+    by of _ _ (pair k w left v qs is first others) seen e = absurd (omega (arith, e))
 
 -- ---- the value where bytes begin
 

@@ -6,7 +6,8 @@ use Rattle.std.specs.Int.{w32, to_be_bytes}
 use Rattle.amqp_value_core.specs.declared.types.amqp_type.AMQPType.{AMQPType}
 use Rattle.amqp_value_core.specs.declared.types.amqp_type.AMQPType.TheVariants as amqp
 use Rattle.amqp_value_core.specs.Values.{Tree, Entries}
-use Rattle.amqp_value_core.specs.Maps.{value_at, last_at}
+use Rattle.amqp_value_core.specs.Grammar.{TableBody}
+use Rattle.amqp_value_core.specs.Maps.{last_at}
 use Rattle.amqp_value_core.proofs.GrammarLaws.{rising_mean}
 use Rattle.amqp_in_place.specs.declared.refs.TableRef.{TableRef}
 use Rattle.amqp_in_place.specs.declared.refs.ValueRef.{ValueRef}
@@ -15,7 +16,6 @@ use Rattle.amqp_in_place.specs.declared.path.PathStep.{PathStep}
 use Rattle.amqp_in_place.specs.declared.path.PathStep.TheVariants as step
 use Rattle.amqp_in_place.specs.declared.path.EqualKeys.{EqualKeys}
 use Rattle.amqp_in_place.specs.declared.path.EqualKeys.TheVariants as equal
-use Rattle.amqp_in_place.specs.Bodies.{HasEntries}
 use Rattle.amqp_in_place.specs.Refs.{array_body, table_body, Denotes}
 use Rattle.amqp_in_place.specs.Walks.{FoundBy, FoundIs}
 use Rattle.amqp_in_place.specs.Places.{IsFramed, IsViewIn, IsViewWithin}
@@ -26,10 +26,10 @@ use Rattle.amqp_in_place.specs.Paths.{value_of_pair, at_step, at_path, StepsTo, 
 
 -- the last pair's value is that of the map
 pub last_found : (of : EqualKeys) (k : Bor (List ℕ)) (b : TableRef) (result : Option ValueRef) → of ≡ equal.Last
-    → ((es : Entries) → HasEntries (table_body b) es → FoundIs (value_at k.now es) result) → (v : Tree) → Denotes (at.FieldTable b) v → FoundIs (at_step of (step.Key k) v) result
-last_found of k b result is found v (es, p, e) =
-    let same : value_at k.now es ≡ last_at k.now es = (rising_mean es p.2.rising).last k.now in
-    let here : FoundIs (value_of_pair equal.Last k.now es) result = subst (λ (o : Option Tree). FoundIs o result) same (found es p) in
+    → ((ps : Entries) → TableBody (table_body b) ps → FoundIs (value_of_pair of k.now ps) result) → (v : Tree) → Denotes (at.FieldTable b) v → FoundIs (at_step of (step.Key k) v) result
+last_found of k b result is found v (es, (ps, p, mean), e) =
+    let same : last_at k.now ps ≡ last_at k.now es = sym (mean.last k.now) ∙ (rising_mean es mean.rising).last k.now in
+    let here = subst (λ (o : Option Tree). FoundIs o result) same (subst (λ (o : EqualKeys). FoundIs (value_of_pair o k.now ps) result) is (found ps p)) in
     subst (λ (u : Tree). FoundIs (at_step of (step.Key k) u) result) (sym e) (subst (λ (o : EqualKeys). FoundIs (value_of_pair o k.now es) result) (sym is) here)
 
 -- ---- the path

@@ -4,6 +4,8 @@ use Rattle.std.specs.Option.{option_or}
 use Rattle.amqp_value_core.specs.Values.{Tree, octets, Trees, no_trees, tree, Entries, no_entries, entry}
 use Rattle.amqp_value_core.specs.Maps.{same_bytes}
 use Rattle.amqp_value_core.specs.Grammar.{Wire, ArrayBody, TableBody, no_values, value, no_pairs, pair}
+use Rattle.amqp_in_place.specs.declared.path.EqualKeys.{EqualKeys}
+use Rattle.amqp_in_place.specs.declared.path.EqualKeys.TheVariants as equal
 use Rattle.amqp_in_place.specs.declared.refs.ValueRef.{ValueRef}
 use Rattle.amqp_in_place.specs.Refs.{Denotes}
 use Rattle.amqp_in_place.specs.Places.{IsViewIn}
@@ -49,7 +51,7 @@ nth_encoded n _ _ no_values = None
 nth_encoded zero _ _ (value w rest v vs first others) = Some (record { bytes = w; meaning = v; is_wire = first })
 nth_encoded (suc n) _ _ (value w rest v vs first others) = nth_encoded n rest vs others
 
--- that of the first pair with a key, and of the last
+-- that of the first pair with a key, of the last, and of either
 abbrev pub first_encoded : List ℕ → (body : List ℕ) (ps : Entries) → TableBody body ps → Option EncodedValue
 first_encoded k _ _ no_pairs = None
 first_encoded k _ _ (pair j w rest v ps key first others) = if same_bytes k j then Some (record { bytes = w; meaning = v; is_wire = first }) else first_encoded k rest ps others
@@ -57,3 +59,7 @@ first_encoded k _ _ (pair j w rest v ps key first others) = if same_bytes k j th
 abbrev pub last_encoded : List ℕ → (body : List ℕ) (ps : Entries) → TableBody body ps → Option EncodedValue
 last_encoded k _ _ no_pairs = None
 last_encoded k _ _ (pair j w rest v ps key first others) = option_or (last_encoded k rest ps others) (if same_bytes k j then Some (record { bytes = w; meaning = v; is_wire = first }) else None)
+
+abbrev pub encoded_of : EqualKeys → List ℕ → (body : List ℕ) (ps : Entries) → TableBody body ps → Option EncodedValue
+encoded_of equal.First = first_encoded
+encoded_of equal.Last = last_encoded

@@ -63,10 +63,7 @@ impl<'a> ValueRef<'a> {
                 let ValueRef::FieldTable(table) = self else {
                     return None;
                 };
-                match of_equal {
-                    EqualKeys::First => table.get_first(key),
-                    EqualKeys::Last => table.get(key),
-                }
+                table.value_of_pair(key, of_equal)
             }
             PathStep::Index(index) => {
                 let ValueRef::FieldArray(array) = self else {

@@ -12,10 +12,12 @@ ghost use Rattle.amqp_in_place.specs.Bodies.{HasPairs, HasEntries};
 ghost use Rattle.amqp_in_place.specs.Refs.{table_body};
 ghost use Rattle.amqp_in_place.specs.Walks.{FoundIs, WrittenIs, ViewIs, BeginsWith};
 ghost use Rattle.amqp_in_place.specs.Written.{WrittenPairs};
-ghost use Rattle.amqp_in_place.specs.Encoded.{EncodedPairs, first_encoded, last_encoded};
+ghost use Rattle.amqp_in_place.specs.Encoded.{EncodedPairs, encoded_of};
 ghost use Rattle.amqp_in_place.specs.Keys.{first_at};
+ghost use Rattle.amqp_in_place.specs.Paths.{value_of_pair};
 ghost use Rattle.amqp_in_place.specs.Places.{IsViewWithin};
 
+use super::path::EqualKeys;
 use super::refs::{TableRef, ValueRef};
 use super::steps::{next_key, value_there};
 use amq_protocol_types::parsing::{Err, parse_table_body};
@@ -42,13 +44,14 @@ impl<'a> TableRef<'a> {
     /// Returns the value at the key, of equal keys the last pair's, or `None` if no pair has the
     /// key. Skips over all pairs by their lengths, and reads the value that is found. Doesn't
     /// allocate.
+    #[tactic(auto, using(crate::proofs::Lookups::last_means))]
     pub fn get(self, key: &str) -> Option<ValueRef<'a>>
         ensures value { (es : Entries) → HasEntries (table_body self.entry) es → FoundIs (value_at key.now es) result }
         ensures written { (ps : Entries) → WrittenPairs (table_body self.entry) ps → WrittenIs (last_at key.now ps) result }
         ensures view { (es : Entries) → EncodedPairs (table_body self.entry) es → ViewIs (last_at key.now es) result }
         ensures inside { IfSome result (λ r. IsViewWithin (table_body self.entry) r) }
     {
-        value_there(last_place(self.as_bytes(), key.as_bytes()))
+        self.value_of_pair(key, EqualKeys::Last)
     }
 
     /// Returns the value of the first pair with the key, or `None` if no pair has it; `get` returns
@@ -60,7 +63,7 @@ impl<'a> TableRef<'a> {
         ensures view { (es : Entries) → EncodedPairs (table_body self.entry) es → ViewIs (first_at key.now es) result }
         ensures inside { IfSome result (λ r. IsViewWithin (table_body self.entry) r) }
     {
-        value_there(first_place(self.as_bytes(), key.as_bytes()))
+        self.value_of_pair(key, EqualKeys::First)
     }
 
     /// Returns whether a pair has the key. Skips over the pairs by their lengths, and doesn't
@@ -68,7 +71,20 @@ impl<'a> TableRef<'a> {
     pub fn contains_key(self, key: &str) -> bool
         ensures { (es : Entries) → HasEntries (table_body self.entry) es → result ≡ has_key key.now es }
     {
-        last_place(self.as_bytes(), key.as_bytes()).is_some()
+        place_of(self.as_bytes(), key.as_bytes(), EqualKeys::Last).is_some()
+    }
+
+    // The value of the first or the last pair with the key.
+    pub(crate) fn value_of_pair(self, key: &str, of_equal: EqualKeys) -> Option<ValueRef<'a>>
+        ensures value { (ps : Entries) → TableBody (table_body self.entry) ps
+            → FoundIs (value_of_pair of_equal key.now ps) result }
+        ensures written { (ps : Entries) → WrittenPairs (table_body self.entry) ps
+            → WrittenIs (value_of_pair of_equal key.now ps) result }
+        ensures view { (es : Entries) → EncodedPairs (table_body self.entry) es
+            → ViewIs (value_of_pair of_equal key.now es) result }
+        ensures inside { IfSome result (λ r. IsViewWithin (table_body self.entry) r) }
+    {
+        value_there(place_of(self.as_bytes(), key.as_bytes(), of_equal))
     }
 
     /// Copies the table to the owned one that `parse_value` returns: of equal keys the last pair's
@@ -90,35 +106,23 @@ impl<'a> TableRef<'a> {
     }
 }
 
-// The bytes from the last value at the key on, in bytes that are pairs.
-fn last_place<'a>(pairs: &'a [u8], key: &[u8]) -> Option<&'a [u8]>
+// The bytes from the value of the first or the last pair with the key on, in bytes that are pairs.
+fn place_of<'a>(pairs: &'a [u8], key: &[u8], of_equal: EqualKeys) -> Option<&'a [u8]>
     requires { ∥ HasPairs pairs.now ∥₁ }
-    ensures found { (ps : Entries) (p : TableBody pairs.now ps) → BeginsWith (last_encoded key.now pairs.now ps p) result }
+    ensures found { (ps : Entries) (p : TableBody pairs.now ps)
+        → BeginsWith (encoded_of of_equal key.now pairs.now ps p) result }
     ensures left { IfSome result (λ at. IsLeft pairs.now at.now) }
 {
     let mut at = None;
     let mut rest = pairs;
     'pairs: while let Some((name, value, after)) = next_key(rest) {
         if key == name {
-            at = Some(value);
+            match of_equal {
+                EqualKeys::First => return Some(value),
+                EqualKeys::Last => at = Some(value),
+            }
         }
         rest = after;
     }
     at
-}
-
-// The bytes from the first value at the key on, in bytes that are pairs.
-fn first_place<'a>(pairs: &'a [u8], key: &[u8]) -> Option<&'a [u8]>
-    requires { ∥ HasPairs pairs.now ∥₁ }
-    ensures found { (ps : Entries) (p : TableBody pairs.now ps) → BeginsWith (first_encoded key.now pairs.now ps p) result }
-    ensures left { IfSome result (λ at. IsLeft pairs.now at.now) }
-{
-    let mut rest = pairs;
-    'pairs: while let Some((name, value, after)) = next_key(rest) {
-        if key == name {
-            return Some(value);
-        }
-        rest = after;
-    }
-    None
 }

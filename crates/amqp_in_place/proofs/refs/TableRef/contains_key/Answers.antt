@@ -3,10 +3,10 @@ use Rattle.amqp_in_place.specs.Bodies.{HasPairs, HasEntries}
 use Rattle.amqp_in_place.proofs.Lookups.{begins_has_key}
 use Rattle.amqp_in_place.proofs.refs.TableRef.contains_key.Goals as goal
 
-pub last_place-requires : goal.last_place-requires
-last_place-requires c = subst (λ (s : List ℕ). ∥ HasPairs s ∥₁) (sym c.as_bytes.ensures) c.args.self.well_formed
+pub place_of-requires : goal.place_of-requires
+place_of-requires c = subst (λ (s : List ℕ). ∥ HasPairs s ∥₁) (sym c.as_bytes.ensures) c.args.self.well_formed
 
 pub returns : goal.returns
 returns c = λ es p.
     rw (sym c.as_bytes-2.ensures.value)
-    (c.is_some.ensures ∙ begins_has_key c.as_bytes-2.result.now c.as_bytes.result.now c.last_place.result c.last_place.ensures.found es (subst (λ (s : List ℕ). HasEntries s es) (sym c.as_bytes.ensures) p))
+    (c.is_some.ensures ∙ begins_has_key c.as_bytes-2.result.now c.as_bytes.result.now c.place_of.result c.place_of.ensures.found es (subst (λ (s : List ℕ). HasEntries s es) (sym c.as_bytes.ensures) p))

@@ -7,8 +7,8 @@ use Rattle.amqp_in_place.specs.Paths.{at_step}
 use Rattle.amqp_in_place.proofs.Paths.{last_found}
 use Rattle.amqp_in_place.proofs.refs.ValueRef.step.Goals as goal
 
-pub returns-in-Last-clause-last : goal.returns-in-Last-clause-last
-returns-in-Last-clause-last c = λ is v x.
+pub returns-in-FieldTable-clause-last : goal.returns-in-FieldTable-clause-last
+returns-in-FieldTable-clause-last c = λ is v x.
     let here = subst (λ (r : ValueRef). Denotes r v) c.in-FieldTable.is x in
-    let found = last_found c.args.of_equal c.in-Key.key c.in-FieldTable.table c.get.result is c.get.ensures.value v here in
-    subst (λ (s : PathStep). FoundIs (at_step c.args.of_equal s v) c.get.result) (sym c.in-Key.is) found
+    let found = last_found c.args.of_equal c.in-Key.key c.in-FieldTable.table c.value_of_pair.result is c.value_of_pair.ensures.value v here in
+    subst (λ (s : PathStep). FoundIs (at_step c.args.of_equal s v) c.value_of_pair.result) (sym c.in-Key.is) found

@@ -1,14 +1,14 @@
 use Rattle.std.proofs.Common.{length, IfSome}
 use Rattle.amqp_in_place.specs.Bodies.{HasPairs}
 use Rattle.amqp_in_place.specs.InPlaceResults.{IsLeft}
-use Rattle.amqp_in_place.proofs.Lookups.{LastSoFar}
-use Rattle.amqp_in_place.proofs.tables.last_place.Given as goal
+use Rattle.amqp_in_place.proofs.Lookups.{FoundSoFar}
+use Rattle.amqp_in_place.proofs.tables.place_of.Given as goal
 
--- pairs are left, and the place of a found value is that by those before them
+-- pairs are left, and what is found so far counts unless one of them does
 abbrev pub invariant-pairs : goal.invariant-pairs
 invariant-pairs l = record {
   pairs : ∥ HasPairs l.rest ∥₁;
-  last : LastSoFar l.key l.fn.pairs l.rest l.at;
+  found : FoundSoFar l.of_equal l.key l.fn.pairs l.rest l.at;
   left : IsLeft l.fn.pairs l.rest;
   inside : IfSome l.at (λ at. IsLeft l.fn.pairs at.now);
 }
