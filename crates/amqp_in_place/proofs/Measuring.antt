@@ -12,6 +12,7 @@ use Rattle.amqp_in_place.specs.declared.refs.ValueRef.{ValueRef}
 use Rattle.amqp_in_place.specs.declared.refs.ValueRef.TheVariants as at
 use Rattle.amqp_in_place.specs.Refs.{array_body, table_body}
 use Rattle.amqp_in_place.specs.Bodies.{HasValues, HasPairs}
+use Rattle.amqp_in_place.specs.InPlaceResults.{IsLeft}
 use Rattle.amqp_in_place.specs.Places.{IsViewIn, IsPairViewIn}
 use Rattle.amqp_in_place.specs.Paths.{content}
 use Rattle.amqp_in_place.specs.Walks.{NextValueIs, NextPairIs}
@@ -231,19 +232,29 @@ drop_prefix : (w rest : List ℕ) → drop (length w) (w ++ rest) ≡ rest
 drop_prefix [] rest = refl
 drop_prefix (c ∷ w) rest = drop_prefix w rest
 
--- the rest is what is left after the bytes of the encoding
-pub rest_dropped : (s w rest : List ℕ) → s ≡ w ++ rest → (n : ℕ) → n ≡ length s - length rest → drop n s ≡ rest
-rest_dropped s w rest e n is =
+-- what is left is what the bytes before it are dropped from
+pub rest_dropped : (s rest : List ℕ) → IsLeft s rest → (n : ℕ) → n ≡ length s - length rest → drop n s ≡ rest
+rest_dropped s rest (w, e) n is =
     let size : n ≡ length w = omega (arith, is, ap length e, length-append w rest) in
     ap₂ (λ (n : ℕ) (t : List ℕ). drop n t) size e ∙ drop_prefix w rest
 
--- what is measured of a value at the start is that of each encoding there
-module _ (s rest : List ℕ) (r : ValueRef) (x : IsViewIn s r rest) (n l : ℕ) (h : HoldsValue r n l) where
-  pub measured_bytes : OfEncoding s (λ w v p. length s ≡ length w + length rest)
-  measured_bytes w left v p e = omega (arith, ap length e, length-append w left, ap length (stands s rest left r (record { bytes = w; meaning = v; is_wire = p }) x e).1)
+-- the bytes of an encoding at the start are those before what is left
+pub measured_bytes : (s rest : List ℕ) (r : ValueRef) → IsViewIn s r rest → OfEncoding s (λ w v p. length s ≡ length w + length rest)
+measured_bytes s rest r x w left v p e = omega (arith, ap length e, length-append w left, ap length (stands s rest left r (record { bytes = w; meaning = v; is_wire = p }) x e).1)
 
-  pub measured : OfEncoding s (λ w v p. (n ≡ count (written w v p)) × (l ≡ depth (written w v p)) × (count v ≤ n) × (depth v ≤ l))
-  measured w left v p e =
-      let held = h (written w v p) (stands s rest left r (record { bytes = w; meaning = v; is_wire = p }) x e).0.as_written in
+-- what a value holds is what each encoding at the start does
+module _ (r : ValueRef) (n l : ℕ) (h : HoldsValue r n l) (s rest : List ℕ) (x : IsViewIn s r rest) where
+  held : OfEncoding s (λ w v p. (count (written w v p) ≡ n) × (depth (written w v p) ≡ l))
+  held w left v p e = h (written w v p) (stands s rest left r (record { bytes = w; meaning = v; is_wire = p }) x e).0.as_written
+
+  pub measured_values : OfEncoding s (λ w v p. n ≡ count (written w v p))
+  measured_values w left v p e = sym (held w left v p e).0
+
+  pub measured_levels : OfEncoding s (λ w v p. l ≡ depth (written w v p))
+  measured_levels w left v p e = sym (held w left v p e).1
+
+  pub measured_tree : OfEncoding s (λ w v p. (count v ≤ n) × (depth v ≤ l))
+  measured_tree w left v p e =
+      let same = held w left v p e in
       let less = written_within w v p in
-      (sym held.0, sym held.1, omega (arith, held.0, less.more_values), omega (arith, held.1, less.more_levels))
+      (omega (arith, same.0, less.more_values), omega (arith, same.1, less.more_levels))

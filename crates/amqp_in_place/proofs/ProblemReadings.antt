@@ -381,22 +381,22 @@ by_limits P l s bytes large small = elim (cases_lt l.frame (extent s)) [
       (small fits (in_value ByReading (inside ByReading l.depth) s) (problem_tells l.depth s bytes))
 ]
 
-module _ (rules : Rules) (l : Limits) (s : List ℕ) (bytes : IsBytes s) (is : rules ≡ ByReading) (x : Option Problem) where
-  -- what holds of the first problem by the rules of reading holds of x, if that is it
-  of_first : (P : Option Problem → Type 0) → P (problem_of ByReading l s) → x ≡ problem_of rules l s → P x
-  of_first P holds first = subst P (sym (first ∙ ap (λ (r : Rules). problem_of r l s) is)) holds
+-- what holds of the first problem by the rules of reading holds of x, if that is it
+of_first : (P : Option Problem → Type 0) (problem : Rules → Option Problem) (rules : Rules) → rules ≡ ByReading → (x : Option Problem) → P (problem ByReading) → x ≡ problem rules → P x
+of_first P problem rules is x holds first = subst P (sym (first ∙ ap problem is)) holds
 
+module _ (rules : Rules) (l : Limits) (s : List ℕ) (bytes : IsBytes s) (is : rules ≡ ByReading) (x : Option Problem) where
   -- there is none exactly if a value is read
   pub reads_if_none : x ≡ problem_of rules l s → IsNone x ↔ FindsValue l s
   reads_if_none =
       let P : Option Problem → Type 0 = λ y. IsNone y ↔ FindsValue l s in
-      of_first P (by_limits P l s bytes (λ large. (λ none. cc, λ (v, rest, y). absurd (omega (arith, large, y.0)))) (none_if_found l s bytes))
+      of_first P (λ r. problem_of r l s) rules is x (by_limits P l s bytes (λ large. (λ none. cc, λ (v, rest, y). absurd (omega (arith, large, y.0)))) (none_if_found l s bytes))
 
   -- and what reading results in if there is one
   pub fails_if_some : x ≡ problem_of rules l s → IfSome x (λ p. FailsAt l s p.offset p.kind)
   fails_if_some =
       let P : Option Problem → Type 0 = λ y. IfSome y (λ p. FailsAt l s p.offset p.kind) in
-      of_first P (by_limits P l s bytes (λ large. large) (fails l s bytes))
+      of_first P (λ r. problem_of r l s) rules is x (by_limits P l s bytes (λ large. large) (fails l s bytes))
 
 -- so it is of a table t without its type tag
 module _ (rules : Rules) (l : Limits) (t : List ℕ) (bytes : IsBytes t) (is : rules ≡ ByReading) (x : Option Problem) where
@@ -407,19 +407,16 @@ module _ (rules : Rules) (l : Limits) (t : List ℕ) (bytes : IsBytes t) (is : r
   with_tag_bytes : IsBytes with_tag
   with_tag_bytes = (omega arith, bytes)
 
-  of_first_in_table : (P : Option Problem → Type 0) → P (problem_in_table_of ByReading l t) → x ≡ problem_in_table_of rules l t → P x
-  of_first_in_table P holds first = subst P (sym (first ∙ ap (λ (r : Rules). problem_in_table_of r l t) is)) holds
-
   pub table_read_if_none : x ≡ problem_in_table_of rules l t → IsNone x ↔ FindsValue l with_tag
   table_read_if_none =
       let P : Option Problem → Type 0 = λ y. IsNone y ↔ FindsValue l with_tag in
       let by : (y : Option Problem) → P y → P (option_map without_tag y) = λ y. elim y as (λ z. P z → P (option_map without_tag z)) [ None ↦ λ same. same | Some p ↦ λ same. same ] in
-      of_first_in_table P (by (problem_of ByReading l with_tag) (reads_if_none ByReading l with_tag with_tag_bytes refl (problem_of ByReading l with_tag) refl))
+      of_first P (λ r. problem_in_table_of r l t) rules is x (by (problem_of ByReading l with_tag) (reads_if_none ByReading l with_tag with_tag_bytes refl (problem_of ByReading l with_tag) refl))
 
   pub table_fails_if_some : x ≡ problem_in_table_of rules l t → IfSome x (λ p. FailsAt l with_tag p.offset p.kind)
   table_fails_if_some =
       let P : Option Problem → Type 0 = λ y. IfSome y (λ p. FailsAt l with_tag p.offset p.kind) in
-      of_first_in_table P (by_limits (λ y. P (option_map without_tag y)) l with_tag with_tag_bytes (λ large. large) (fails_untagged l with_tag with_tag_bytes))
+      of_first P (λ r. problem_in_table_of r l t) rules is x (by_limits (λ y. P (option_map without_tag y)) l with_tag with_tag_bytes (λ large. large) (fails_untagged l with_tag with_tag_bytes))
 
 -- what is read has no problem, nor if keys may be any bytes
 none_if_read : (l : Limits) (s : List ℕ) → IsBytes s → FindsValue l s → problem_of ByReading l s ≡ None
@@ -434,14 +431,7 @@ none_by_rules rules l s bytes is value =
     let none = none_if_read l s bytes value in
     elim is [ inl same ↦ rw same none | inr same ↦ rw same (none_of_any_keys l s none) ]
 
-pub none_if_ok : {A E : Type 0} (P : E → Type 0) (rest : A → List ℕ) (value : A → Tree → Type 0) (rules : Rules) (l : Limits) (s : List ℕ) → IsBytes s → (rules ≡ ByReading) ⊎ (rules ≡ ByAnyKeys) → (r : Result A E)
-    → MatchResult r (λ x. (v : Tree) × value x v × Within l s (found v (rest x))) P → is_ok r ≡ true → problem_of rules l s ≡ None
-none_if_ok P rest value rules l s bytes is (Err e) right ok = absurd cc
-none_if_ok P rest value rules l s bytes is (Ok x) right ok = none_by_rules rules l s bytes is (right.0, rest x, right.2)
-
--- nor has a table that is read without its type tag
-pub table_none_if_ok : {A E : Type 0} (P : E → Type 0) (rest : A → List ℕ) (pairs : A → Entries → Type 0) (rules : Rules) (l : Limits) (t : List ℕ) → IsBytes t → (rules ≡ ByReading) ⊎ (rules ≡ ByAnyKeys) → (r : Result A E)
-    → MatchResult r (λ x. (es : Entries) × pairs x es × Within l (tagged amqp.FieldTable t) (found (table es) (rest x))) P → is_ok r ≡ true → problem_in_table_of rules l t ≡ None
-table_none_if_ok P rest pairs rules l t bytes is (Err e) right ok = absurd cc
-table_none_if_ok P rest pairs rules l t bytes is (Ok x) right ok =
-    ap (option_map without_tag) (none_by_rules rules l (tagged amqp.FieldTable t) (omega arith, bytes) is (table right.0, rest x, right.2))
+pub none_if_ok : {A E T : Type 0} (P : E → Type 0) (rest : A → List ℕ) (meant : A → T → Type 0) (tree_of : T → Tree) (rules : Rules) (l : Limits) (s : List ℕ) → IsBytes s → (rules ≡ ByReading) ⊎ (rules ≡ ByAnyKeys) → (r : Result A E)
+    → MatchResult r (λ x. (t : T) × meant x t × Within l s (found (tree_of t) (rest x))) P → is_ok r ≡ true → problem_of rules l s ≡ None
+none_if_ok P rest meant tree_of rules l s bytes is (Err e) right ok = absurd cc
+none_if_ok P rest meant tree_of rules l s bytes is (Ok x) right ok = none_by_rules rules l s bytes is (tree_of right.0, rest x, right.2)

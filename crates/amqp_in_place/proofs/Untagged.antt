@@ -1,7 +1,8 @@
 -- Tables without their type tag.
-use Rattle.std.proofs.Common.{◌≡◌, ◌<◌, ◌≤◌, ℕ, zero, suc, List, refl, arith, subst, sym}
+use Rattle.std.proofs.Common.{◌≡◌, ◌<◌, ◌≤◌, ◌^◌, ◌∷◌, ◌++◌, ℕ, zero, suc, List, length, refl, arith, ap, subst, sym}
 use Rattle.std.specs.Int.{w32}
 use Rattle.amqp_value_core.specs.declared.types.amqp_type.AMQPType.TheVariants as amqp
+use Rattle.amqp_value_core.specs.Grammar.{long_field}
 use Rattle.amqp_value_core.specs.Nesting.{OutcomeWithin}
 use Rattle.amqp_value_core.specs.Outcomes.{Reading, more, frame_lack, needs_more}
 use Rattle.amqp_value_core.specs.Bytes.{slice_bytes}
@@ -13,13 +14,21 @@ use Rattle.amq_protocol_types.specs.parsing.Bodies.{IsLengthPrefixed, IsCutLengt
 use Rattle.amq_protocol_types.specs.parsing.Headers.{extent}
 use Rattle.amq_protocol_types.specs.parsing.Untagged.{tagged, RefusesUntagged}
 use Rattle.amqp_in_place.specs.declared.head.Head.TheVariants as head
+use Rattle.amqp_in_place.specs.declared.refs.TableRef.{TableRef}
+use Rattle.amqp_in_place.specs.declared.refs.ValueRef.TheVariants as at
+use Rattle.amqp_in_place.specs.Refs.{table_body}
 use Rattle.amqp_in_place.specs.Heads.{IsHead}
+use Rattle.amqp_in_place.specs.Places.{IsViewIn}
 use Rattle.amqp_in_place.specs.InPlaceResults.{NeedsNoMemory}
 use Rattle.amqp_in_place.proofs.Refusals.{by_outcome}
 
 -- after its type tag the table is what the head of a value is
 pub table_head : (s : List ℕ) (i : SliceInput) (rest : List ℕ) → IsLengthPrefixed s (slice_bytes i) rest → IsHead (tagged amqp.FieldTable s) (head.FieldTable i) rest
 table_head s i rest f = (amqp.FieldTable, s, (70, refl, refl), (refl, f))
+
+-- and a view of it, if it is one
+pub table_at_start : (s : List ℕ) (t : TableRef) (rest : List ℕ) → s ≡ long_field (table_body t) ++ rest → length (table_body t) < 2 ^ 32 → IsViewIn (tagged amqp.FieldTable s) (at.FieldTable t) rest
+table_at_start s t rest e few = (70, refl, few, ap (λ (u : List ℕ). 70 ∷ u) e)
 
 -- bytes that are missing of the length or the body are missing of the table
 lacking : (d : ℕ) (s : List ℕ) (o : Reading) → IsCutLengthPrefixed s o → OutcomeWithin d (tagged amqp.FieldTable s) o

@@ -9,6 +9,7 @@ ghost use Rattle.amq_protocol_types.specs.parsing.Untagged.{tagged, UntaggedWith
 ghost use Rattle.amqp_in_place.specs.Bodies.{HasValues, HasPairs};
 ghost use Rattle.amqp_in_place.specs.InPlaceResults.{NeedsNoMemory};
 ghost use Rattle.amqp_in_place.specs.Paths.{content};
+ghost use Rattle.amqp_in_place.specs.Places.{IsViewIn};
 ghost use Rattle.amqp_in_place.specs.Written.{written};
 ghost use Rattle.amqp_in_place.specs.Measures.{OfEncoding, HoldsValue, HoldsValues, HoldsPairs};
 
@@ -51,7 +52,7 @@ pub fn measure_value(bytes: &[u8], limits: Limits) -> Result<Measure, ParserErro
         OfEncoding bytes.now (λ w v p. (count v ≤ m.values) × (depth v ≤ m.levels))) }
 {
     let (value, rest) = read_in_place(bytes, limits)?;
-    Ok(counts_of_value(value).in_bytes(bytes.len() - rest.len()))
+    Ok(measure_of(value, bytes.len() - rest.len()))
 }
 
 /// Measures the table at the start of the bytes as `measure_value` does, without its type tag: its
@@ -74,8 +75,28 @@ pub fn measure_table(bytes: &[u8], limits: Limits) -> Result<Measure, ParserErro
         (λ w v p. (count v ≤ m.values) × (depth v ≤ m.levels))) }
 {
     let (table, rest) = read_table_in_place(bytes, limits)?;
-    let held = counts_of_value(ValueRef::FieldTable(table));
-    Ok(held.in_bytes(bytes.len() - rest.len()))
+    let value = ValueRef::FieldTable(table);
+    Ok(measure_of(value, bytes.len() - rest.len()))
+}
+
+// The measure of a value, if that many bytes are there of it. Its values and levels are those of each
+// encoding that the value is a view of: of a bare table, that with its type tag.
+fn measure_of<'a>(value: ValueRef<'a>, bytes: usize) -> Measure
+    requires { length (content value) < 2 ^ 32 }
+    ensures bytes { result.bytes ≡ bytes }
+    ensures values { (s rest : List ℕ) → IsViewIn s value.entry rest
+        → OfEncoding s (λ w v p. result.values ≡ count (written w v p)) }
+    ensures levels { (s rest : List ℕ) → IsViewIn s value.entry rest
+        → OfEncoding s (λ w v p. result.levels ≡ depth (written w v p)) }
+    ensures tree { (s rest : List ℕ) → IsViewIn s value.entry rest
+        → OfEncoding s (λ w v p. (count v ≤ result.values) × (depth v ≤ result.levels)) }
+{
+    let held = counts_of_value(value);
+    Measure {
+        bytes,
+        values: held.values,
+        levels: held.levels,
+    }
 }
 
 // How many values a part of an encoding holds, and how many levels containers nest in it.
@@ -108,19 +129,6 @@ impl Held {
         Held {
             values: 1 + self.values,
             levels: 1 + self.levels,
-        }
-    }
-
-    // The measure of a value that holds these, and whose encoding has that many bytes.
-    fn in_bytes(self, bytes: usize) -> Measure
-        ensures bytes { result.bytes ≡ bytes }
-        ensures values { result.values ≡ self.values }
-        ensures levels { result.levels ≡ self.levels }
-    {
-        Measure {
-            bytes,
-            values: self.values,
-            levels: self.levels,
         }
     }
 }

@@ -9,4 +9,4 @@ pub returns-in-Reading : goal.returns-in-Reading
 returns-in-Reading c = λ ok.
     let s = c.args.bytes.now in
     let l = c.args.limits in
-    none_if_ok (RefusesWithin l s) (λ x. x.1.now) (λ x. Denotes x.0) c.args.rules l s (bytes_all s c.type_inv.bytes) c.in-Reading.is c.read_in_place.result c.read_in_place.ensures.within (sym c.is_ok.ensures.value ∙ ok)
+    none_if_ok (RefusesWithin l s) (λ x. x.1.now) (λ x. Denotes x.0) (λ v. v) c.args.rules l s (bytes_all s c.type_inv.bytes) c.in-Reading.is c.read_in_place.result c.read_in_place.ensures.within (sym c.is_ok.ensures.value ∙ ok)
