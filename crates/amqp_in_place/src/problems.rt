@@ -1,5 +1,7 @@
 //! The first thing in a value that isn't allowed, and its offset.
 
+// Tactics at functions: each names the lemmas that prove its clauses.
+
 ghost use Rattle.std.specs.Prelude.{true, None, ◌≡◌, ◌↔◌, ◌<◌, ◌≤◌, ◌+◌, ◌^◌, ◌&&◌, suc, not, IfSome, IsNone, length};
 ghost use Rattle.std.specs.Int.{w32, w64, from_be_bytes};
 ghost use Rattle.amqp_value_core.specs.Layouts.{fixed};
@@ -110,6 +112,7 @@ pub fn first_problem(bytes: &[u8], rules: Rules, limits: Limits) -> Option<Probl
 
 // The first problem, which is looked for.
 #[inline(never)]
+#[tactic(auto, using(std::proofs::lemmas::Grind::common_steps))]
 fn search(bytes: &[u8], rules: Rules, limits: Limits) -> Option<Problem>
     ensures first { result ≡ problem_of rules limits bytes.now }
     ensures inside { IfSome result (λ p. p.offset ≤ length bytes.now) }
@@ -165,6 +168,7 @@ pub fn first_problem_in_table(table: &[u8], rules: Rules, limits: Limits) -> Opt
 
 // The first problem in a table without its type tag, which is looked for.
 #[inline(never)]
+#[tactic(auto, using(std::proofs::lemmas::Grind::common_steps))]
 fn search_table(table: &[u8], rules: Rules, limits: Limits) -> Option<Problem>
     ensures first { result ≡ problem_in_table_of rules limits table.now }
     ensures inside { IfSome result (λ p. p.offset ≤ length table.now) }
@@ -324,6 +328,7 @@ fn want_finite(rules: Rules) -> bool
 }
 
 // Whether a key is allowed.
+#[tactic(auto, using(crate::proofs::FirstProblems::checked_utf8))]
 fn allow_key(rules: Rules, key: &[u8]) -> bool
     ensures { result ≡ allow_key rules key.now }
 {
