@@ -15,11 +15,10 @@ use Rattle.amqp_in_place.specs.declared.problems.Rules.TheVariants.{Reading}
 use Rattle.amqp_in_place.specs.declared.measure.Measure.{Measure}
 use Rattle.amqp_in_place.specs.declared.refs.ValueRef.{ValueRef}
 use Rattle.amqp_in_place.specs.Bodies.{HasEntries}
-use Rattle.amqp_in_place.specs.Measures.{OfEncoding}
+use Rattle.amqp_in_place.specs.Written.{OfEncoding, written}
 use Rattle.amqp_in_place.specs.Places.{IsViewIn}
 use Rattle.amqp_in_place.specs.ProblemResults.{FailsAt}
 use Rattle.amqp_in_place.specs.Refs.{Denotes}
-use Rattle.amqp_in_place.specs.Written.{written}
 use Rattle.amqp_c.specs.declared.entry.Entry.{Entry}
 use Rattle.amqp_c.specs.declared.fault.Fault.{Fault}
 use Rattle.amqp_c.specs.declared.input.Input.{Input}

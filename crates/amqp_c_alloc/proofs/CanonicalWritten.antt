@@ -17,7 +17,7 @@ use Rattle.amq_protocol_types.specs.parsing.Limits.{Within}
 use Rattle.amqp_in_place.specs.declared.refs.ValueRef.{ValueRef}
 use Rattle.amqp_in_place.specs.Canonicals.{IsCanonicalLen}
 use Rattle.amqp_in_place.specs.Refs.{Denotes}
-use Rattle.amqp_in_place.proofs.OneValue.{one_value}
+use Rattle.amqp_in_place.proofs.Reading.{one_value}
 use Rattle.amqp_c.specs.declared.fault.Fault.{Fault}
 use Rattle.amqp_c.specs.declared.input.Input.{Input}
 use Rattle.amqp_c.specs.Buffers.{IsPutAtStart, LacksRoom}

@@ -16,8 +16,7 @@ use Rattle.amqp_value_core.specs.Maps.{same_bytes}
 use Rattle.amq_protocol_types.specs.parsing.Headers.{extent}
 use Rattle.amqp_in_place.specs.declared.rabbitmq.warning.Fault.{Fault}
 use Rattle.amqp_in_place.specs.declared.rabbitmq.warning.Fault.TheVariants.{Repeated, NotUtf8, Empty, TooDeep, Decimal}
-use Rattle.amqp_in_place.specs.RabbitmqSeen.{HasKeys, IsKeyFaultReport, key_of, after_key}
-use Rattle.amqp_in_place.specs.RabbitmqWarnings.{WarningPlace, fault_inside, is_key_faulty, is_value_faulty, fault_in_values, fault_in_pairs}
+use Rattle.amqp_in_place.specs.RabbitmqWarnings.{HasKeys, IsKeyFaultReport, key_of, after_key, WarningPlace, fault_inside, is_key_faulty, is_value_faulty, fault_in_values, fault_in_pairs}
 use Rattle.amqp_in_place.proofs.FirstProblems.{left_over}
 use Rattle.amqp_in_place.proofs.RepeatedKeys.{has_put, by_bytes}
 

@@ -15,7 +15,7 @@ use Rattle.amqp_in_place.specs.Bodies.{HasPairs, HasEntries}
 use Rattle.amqp_in_place.specs.declared.refs.ValueRef.{ValueRef}
 use Rattle.amqp_in_place.specs.declared.path.EqualKeys.{EqualKeys}
 use Rattle.amqp_in_place.specs.declared.path.EqualKeys.TheVariants as equal
-use Rattle.amqp_in_place.specs.Paths.{value_of_pair}
+use Rattle.amqp_in_place.specs.Lookups.{value_of_pair}
 use Rattle.amqp_in_place.specs.Refs.{Denotes}
 use Rattle.amqp_in_place.specs.InPlaceResults.{IsLeft}
 use Rattle.amqp_in_place.specs.Places.{IsViewIn, IsViewWithin}

@@ -14,10 +14,9 @@ use Rattle.amqp_in_place.specs.Refs.{array_body, table_body}
 use Rattle.amqp_in_place.specs.Bodies.{HasValues, HasPairs}
 use Rattle.amqp_in_place.specs.InPlaceResults.{IsLeft}
 use Rattle.amqp_in_place.specs.Places.{IsViewIn, IsPairViewIn}
-use Rattle.amqp_in_place.specs.Paths.{content}
+use Rattle.amqp_in_place.specs.Lookups.{content}
 use Rattle.amqp_in_place.specs.Walks.{NextValueIs, NextPairIs}
-use Rattle.amqp_in_place.specs.Written.{written, raw_written, values_written, pairs_written, WrittenValues, WrittenPairs, IsWrittenAs}
-use Rattle.amqp_in_place.specs.Measures.{OfEncoding, HoldsValue, HoldsValues, HoldsPairs}
+use Rattle.amqp_in_place.specs.Written.{written, raw_written, values_written, pairs_written, WrittenValues, WrittenPairs, IsWrittenAs, OfEncoding, HoldsValue, HoldsValues, HoldsPairs}
 use Rattle.amqp_in_place.proofs.Views.{stands}
 
 -- ---- how large what is written is

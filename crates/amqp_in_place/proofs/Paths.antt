@@ -20,7 +20,7 @@ use Rattle.amqp_in_place.specs.Refs.{array_body, table_body, Denotes}
 use Rattle.amqp_in_place.specs.Walks.{FoundBy, FoundIs}
 use Rattle.amqp_in_place.specs.Places.{IsFramed, IsViewIn, IsViewWithin}
 use Rattle.amqp_in_place.proofs.Places.{view_parts}
-use Rattle.amqp_in_place.specs.Paths.{value_of_pair, at_step, at_path, StepsTo, LeadsTo, content}
+use Rattle.amqp_in_place.specs.Lookups.{value_of_pair, at_step, at_path, StepsTo, LeadsTo, content}
 
 -- ---- one step
 

@@ -1,10 +1,10 @@
--- Checking bodies in place.
-use Rattle.std.proofs.Common.{◌≡◌, ◌<◌, ℕ, List, length, refl, arith}
+-- Reading in place: why a body isn't read, that one value is, and that what was read can be read again.
+use Rattle.std.proofs.Common.{◌≡◌, ◌<◌, ℕ, List, length, refl, arith, ◌∙◌, sym, ap, ◌≤◌}
 use Rattle.amqp_value_core.specs.declared.types.amqp_type.AMQPType.TheVariants as amqp
-use Rattle.amqp_value_core.specs.Values.{Tree, Entries, short}
+use Rattle.amqp_value_core.specs.Values.{Tree, Entries, short, array, table}
 use Rattle.amqp_value_core.specs.Nesting.{OutcomeWithin}
 use Rattle.amqp_value_core.specs.Outcomes.{Reading, found, malformed, Heavy, RawOutcome, Outcome}
-use Rattle.amqp_value_core.proofs.GrammarLaws.{unlimited, prefix_within}
+use Rattle.amqp_value_core.proofs.GrammarLaws.{unlimited, prefix_within, one_mean, one_body_meaning, one_pairs_meaning, body_nesting-le, pairs_nesting-le, body_within, pairs_within}
 use Rattle.amqp_in_place.specs.InPlaceResults.{IsLeft}
 use Rattle.amqp_in_place.proofs.Refusals.{by_outcome}
 use Rattle.amq_protocol_types.specs.declared.parsing.errors.Err.TheVariants.{Incomplete, Error, Failure}
@@ -18,6 +18,13 @@ use Rattle.std.specs.Prelude.{All}
 use Rattle.std.specs.Str.{IsUtf8}
 use Rattle.std.proofs.lemmas.Str.{IsUtf8-from_ascii}
 use Rattle.std.proofs.lemmas.Str.Ascii.{IsAscii-from_all}
+use Rattle.amqp_in_place.specs.declared.refs.TableRef.{TableRef}
+use Rattle.amqp_in_place.specs.declared.refs.ValueRef.{ValueRef}
+use Rattle.amqp_in_place.specs.declared.refs.ValueRef.TheVariants as at
+use Rattle.amqp_in_place.specs.Refs.{array_body, table_body, IsOneValue, IsOneTable}
+use Rattle.std.proofs.Math.Logic.{∥∥₁_elim}
+use Rattle.amq_protocol_types.specs.declared.parsing.errors.ErrorKind.{ErrorKind}
+use Rattle.amqp_in_place.specs.Bodies.{HasValues, HasPairs}
 
 -- bytes below 128 are UTF-8
 pub all_ascii_is_utf8 : (s : List ℕ) → All (λ b. b < 128) s → IsUtf8 s
@@ -60,3 +67,37 @@ unlimited_refused d s e is x = IsRefusal-weaker (OutcomeWithin d s) (Outcome s) 
 -- what is found leaves the rest of the input
 pub left_after : (d : ℕ) (s : List ℕ) (v : Tree) (rest : List ℕ) → OutcomeWithin d s (found v rest) → IsLeft s rest
 left_after d s v rest x = let f = prefix_within d s rest v x in (f.0, f.2)
+
+-- ---- what is referred to is one value
+
+pub one_table : (t : TableRef) → IsOneTable t
+one_table t es fs x y =
+    let same = one_pairs_meaning (table_body t) (table_body t) x.0 y.0 x.1 y.1 refl in
+    one_mean x.0 y.0 es fs same x.2 y.2
+
+pub one_value : (r : ValueRef) → IsOneValue r
+one_value (at.FieldArray a) u v x y =
+    let same = one_body_meaning (array_body a) (array_body a) x.0 y.0 x.1 y.1 refl in
+    x.2 ∙ (ap array same ∙ sym y.2)
+one_value (at.FieldTable t) u v x y =
+    x.2 ∙ (ap table (one_table t x.0 y.0 x.1 y.1) ∙ sym y.2)
+one_value _ u v x y = x ∙ sym y
+
+-- ---- reading again what was checked
+
+no_prop : IsProp ⊥
+no_prop x y = absurd x
+
+-- if bytes are values, the only error is out of memory
+pub values_there : (d : ℕ) (s : List ℕ) (e : Refusal) → length s ≤ d → ∥ HasValues s ∥₁ → IsRefusal (IsNoBody d s) (0 < length s) e → ((k : ErrorKind) → e ≡ Failure k → ⊥) → ⊥
+values_there d s e deep has x other =
+    by_outcome (λ (e : Refusal). ((k : ErrorKind) → e ≡ Failure k → ⊥) → ⊥) (IsNoBody d s) (0 < length s) (λ n y. absurd y) (λ y. absurd y)
+    (λ y f. absurd (∥∥₁_elim has no_prop (λ (p : HasValues s). y p.0 (body_within d s p.0 p.1 (omega (arith, body_nesting-le s p.0 p.1))))))
+    (λ k h f. f k refl) e x other
+
+-- and if they are pairs
+pub pairs_there : (d : ℕ) (s : List ℕ) (e : Refusal) → length s ≤ d → ∥ HasPairs s ∥₁ → IsRefusal (IsNoTable d s) (0 < length s) e → ((k : ErrorKind) → e ≡ Failure k → ⊥) → ⊥
+pairs_there d s e deep has x other =
+    by_outcome (λ (e : Refusal). ((k : ErrorKind) → e ≡ Failure k → ⊥) → ⊥) (IsNoTable d s) (0 < length s) (λ n y. absurd y) (λ y. absurd y)
+    (λ y f. absurd (∥∥₁_elim has no_prop (λ (p : HasPairs s). y p.0 (pairs_within d s p.0 p.1 (omega (arith, pairs_nesting-le s p.0 p.1))))))
+    (λ k h f. f k refl) e x other

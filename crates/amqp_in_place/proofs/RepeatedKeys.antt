@@ -18,7 +18,7 @@ use Rattle.amqp_value_core.specs.Bytes.{slice_bytes}
 use Rattle.amqp_value_core.specs.declared.input.SliceInput.{SliceInput}
 use Rattle.amqp_in_place.specs.declared.refs.ValueRef.{ValueRef}
 use Rattle.amqp_in_place.specs.Canonicals.{IsAbove, AreAbove}
-use Rattle.amqp_in_place.specs.Keys.{times_at, RepeatedIs}
+use Rattle.amqp_in_place.specs.Lookups.{times_at, RepeatedIs}
 use Rattle.amqp_in_place.specs.Walks.{NextPairIs}
 
 -- one place at which something holds

@@ -1,11 +1,11 @@
--- Tables without their type tag.
-use Rattle.std.proofs.Common.{◌≡◌, ◌<◌, ◌≤◌, ◌^◌, ◌∷◌, ◌++◌, ℕ, zero, suc, List, length, refl, arith, ap, subst, sym}
+-- Tables without their type tag: each is what the table with it is.
+use Rattle.std.proofs.Common.{◌≡◌, ◌<◌, ◌≤◌, ◌^◌, ◌∷◌, ◌++◌, ℕ, zero, suc, List, length, refl, arith, ap, subst, sym, ◌+◌}
 use Rattle.std.specs.Int.{w32}
 use Rattle.amqp_value_core.specs.declared.types.amqp_type.AMQPType.TheVariants as amqp
 use Rattle.amqp_value_core.specs.Grammar.{long_field}
 use Rattle.amqp_value_core.specs.Nesting.{OutcomeWithin}
 use Rattle.amqp_value_core.specs.Outcomes.{Reading, more, frame_lack, needs_more}
-use Rattle.amqp_value_core.specs.Bytes.{slice_bytes}
+use Rattle.amqp_value_core.specs.Bytes.{slice_bytes, IsBytes}
 use Rattle.amqp_value_core.specs.declared.input.SliceInput.{SliceInput}
 use Rattle.amq_protocol_types.specs.declared.parsing.within.Limits.{Limits}
 use Rattle.amq_protocol_types.specs.parsing.Refusals.{Refusal}
@@ -21,6 +21,8 @@ use Rattle.amqp_in_place.specs.Heads.{IsHead}
 use Rattle.amqp_in_place.specs.Places.{IsViewIn}
 use Rattle.amqp_in_place.specs.InPlaceResults.{NeedsNoMemory}
 use Rattle.amqp_in_place.proofs.Refusals.{by_outcome}
+use Rattle.amqp_in_place.specs.Canonicals.{IsCanonicalLen, HasCanonicalBody, IsFirstSpelling}
+use Rattle.amqp_in_place.proofs.Canonicals.{head_at_start, head_inside, canon_len, prefix_of_len}
 
 -- after its type tag the table is what the head of a value is
 pub table_head : (s : List ℕ) (i : SliceInput) (rest : List ℕ) → IsLengthPrefixed s (slice_bytes i) rest → IsHead (tagged amqp.FieldTable s) (head.FieldTable i) rest
@@ -44,3 +46,23 @@ pub cut_table : (l : Limits) (s : List ℕ) (e : Refusal) → extent (tagged amq
 cut_table l s e fits x =
     by_outcome (λ (e : Refusal). RefusesUntagged l amqp.FieldTable s e × NeedsNoMemory e) (IsCutLengthPrefixed s) ⊥ (λ n y. ((fits, lacking l.depth s (more n) y), tt))
     (λ y. absurd (let e = y.1 in cc)) (λ y. absurd (let e = y.1 in cc)) (λ k h. absurd h) e x
+
+-- ---- canonical encodings
+
+-- the type tag is no alternate one
+first_spelling : (s : List ℕ) → IsFirstSpelling (tagged amqp.FieldTable s)
+first_spelling s = (λ e. omega (arith, e), λ e. omega (arith, e), λ e. absurd (omega (arith, e)))
+
+module _ (l : Limits) (s : List ℕ) (i : SliceInput) (rest : List ℕ) (f : IsLengthPrefixed s (slice_bytes i) rest) where
+  -- a table whose body is canonical is
+  pub table_len : IsBytes s → extent (tagged amqp.FieldTable s) ≤ l.frame → HasCanonicalBody l.depth (head.FieldTable i) → (n : ℕ) → length s ≡ n + length rest
+      → IsCanonicalLen l (tagged amqp.FieldTable s) (1 + n)
+  table_len bytes fits all n size =
+      let t = tagged amqp.FieldTable s in
+      canon_len l t rest (1 + n) (omega arith, bytes) fits (head_at_start l.depth t rest (head.FieldTable i) (table_head s i rest f) (first_spelling s) all) (omega (arith, size))
+
+  -- and only that
+  pub len_inside : (n : ℕ) → IsCanonicalLen l (tagged amqp.FieldTable s) n → HasCanonicalBody l.depth (head.FieldTable i)
+  len_inside n x =
+      let prefix = prefix_of_len l (tagged amqp.FieldTable s) n x in
+      head_inside l.depth (tagged amqp.FieldTable s) rest (head.FieldTable i) prefix.0 (table_head s i rest f) prefix.1

@@ -1,17 +1,20 @@
+-- The definitions by which contracts of this crate are stated, in reading order.
+
+-- values in place: what they denote, what is written, and where it is
 pub mod Bodies
 pub mod Refs
 pub mod Heads
 pub mod Written
 pub mod Places
 pub mod Encoded
+-- steps through bodies, and what reading and look-ups return
 pub mod Walks
-pub mod Keys
-pub mod InPlaceResults
 pub mod Suffix
+pub mod InPlaceResults
+pub mod Lookups
+-- canonical encodings
 pub mod Canonicals
-pub mod Paths
+-- what isn't allowed, and what a peer may reject
 pub mod Problems
 pub mod ProblemResults
 pub mod RabbitmqWarnings
-pub mod RabbitmqSeen
-pub mod Measures

@@ -1,7 +1,8 @@
--- What a path of keys and positions leads to.
-use Rattle.std.specs.Prelude.{ℕ, ◌≡◌, List, [], ◌∷◌, Option, Some, None, option_and_then}
-use Rattle.amqp_value_core.specs.Values.{Tree, Trees, array, table, Entries}
-use Rattle.amqp_value_core.specs.Maps.{last_at}
+-- Look-ups: what a key, a position and a path of these lead to; and which keys occur again.
+use Rattle.std.specs.Prelude.{ℕ, ◌+◌, ◌<◌, ◌≤◌, List, Option, Some, None, if◌then◌else◌, ◌≡◌, [], ◌∷◌, option_and_then}
+use Rattle.std.specs.Borrow.{Bor}
+use Rattle.amqp_value_core.specs.Values.{Tree, Entries, no_entries, entry, Trees, array, table}
+use Rattle.amqp_value_core.specs.Maps.{same_bytes, value_at, last_at}
 use Rattle.amqp_in_place.specs.declared.refs.ValueRef.{ValueRef}
 use Rattle.amqp_in_place.specs.declared.refs.ValueRef.TheVariants as at
 use Rattle.amqp_in_place.specs.declared.path.PathStep.{PathStep}
@@ -9,9 +10,26 @@ use Rattle.amqp_in_place.specs.declared.path.PathStep.TheVariants as step
 use Rattle.amqp_in_place.specs.declared.path.EqualKeys.{EqualKeys}
 use Rattle.amqp_in_place.specs.declared.path.EqualKeys.TheVariants as equal
 use Rattle.amqp_in_place.specs.Refs.{array_body, table_body}
-use Rattle.amqp_in_place.specs.Keys.{first_at}
 use Rattle.amqp_in_place.specs.Encoded.{EncodedValues, EncodedPairs}
 use Rattle.amqp_in_place.specs.Walks.{ViewIs, tree_at}
+
+-- ---- keys
+
+-- the value of the first pair with the key, if a pair has it
+abbrev pub first_at : List ℕ → Entries → Option Tree
+first_at k ps = value_at k ps
+
+-- how many of the pairs have the key
+abbrev pub times_at : List ℕ → Entries → ℕ
+times_at k no_entries = 0
+times_at k (entry j v ps) = (if same_bytes k j then 1 else 0) + times_at k ps
+
+-- more than one of the pairs has the key that is reported, or none is and no key has more than one
+abbrev pub RepeatedIs : Entries → Option (Bor (List ℕ)) → Type 0
+RepeatedIs ps (Some k) = 1 < times_at k.now ps
+RepeatedIs ps None = (k : List ℕ) → times_at k ps ≤ 1
+
+-- ---- paths
 
 -- the value of the first or the last of the pairs with the key
 abbrev pub value_of_pair : EqualKeys → List ℕ → Entries → Option Tree

@@ -1,7 +1,7 @@
 -- What `warnings` finds: a repeated key, a key that isn't UTF-8, an empty key, a container that nests too
 -- deep, a decimal, and a value that exceeds the frame-max with its frame. In malformed bytes an entry has
 -- the bytes that its header counts, or those that are left, but at least one.
-use Rattle.std.specs.Prelude.{ℕ, zero, suc, ◌<◌, ◌+◌, ◌-◌, ◌==◌, Bool, true, false, not, ◌&&◌, nat_lt, Option, Some, None, IfSome, option_map, List, [], ◌∷◌, length, take, drop, if◌then◌else◌}
+use Rattle.std.specs.Prelude.{ℕ, zero, suc, ◌<◌, ◌+◌, ◌-◌, ◌==◌, Bool, true, false, not, ◌&&◌, nat_lt, Option, Some, None, IfSome, option_map, List, [], ◌∷◌, length, take, drop, if◌then◌else◌, ◌≡◌}
 use Rattle.std.specs.Bool.{then_some}
 use Rattle.std.specs.Option.{option_or}
 use Rattle.std.specs.List.{list_any}
@@ -14,6 +14,10 @@ use Rattle.amq_protocol_types.specs.parsing.Headers.{extent}
 use Rattle.amqp_in_place.specs.declared.rabbitmq.warning.Fault.{Fault}
 use Rattle.amqp_in_place.specs.declared.rabbitmq.warning.Fault.TheVariants.{Repeated, NotUtf8, Empty, TooDeep, Decimal}
 use Rattle.amqp_in_place.specs.declared.rabbitmq.warning.Warned.{Warned}
+use Rattle.std.specs.Borrow.{Bor}
+use Rattle.std.specs.Ordering.{nat_cmp}
+use Rattle.std.specs.BTreeSet.{BTreeSet, contains_by}
+use Rattle.std.specs.Cmp.Lexicographic.{slice_cmp}
 
 -- whether a key has the fault, after pairs with these keys in its table
 abbrev pub is_key_faulty : Fault → List (List ℕ) → List ℕ → Bool
@@ -110,3 +114,23 @@ AreInside n w =
     × IfSome w.too_deep (λ k. k < n)
     × IfSome w.decimal (λ k. k < n)
     × IfSome w.nested_header (λ k. k < n)
+
+-- ---- what looking for a fault has seen of a table's keys
+
+-- the set has the keys, if it is needed
+abbrev pub HasKeys : Fault → BTreeSet (Bor (List ℕ)) → List (List ℕ) → Type 0
+HasKeys Repeated t keys = (k : List ℕ) → contains_by (λ (j : Bor (List ℕ)). slice_cmp nat_cmp k j.now) t ≡ list_any (same_bytes k) keys
+HasKeys fault t keys = Unit {0}
+
+-- what is reported of a key is right, after whichever keys the set had, and then the set has it too
+abbrev pub IsKeyFaultReport : Fault → BTreeSet (Bor (List ℕ)) → BTreeSet (Bor (List ℕ)) → List ℕ → Bool → Type 0
+IsKeyFaultReport fault t u k faulty = (keys : List (List ℕ)) → HasKeys fault t keys → (faulty ≡ is_key_faulty fault keys k) × (faulty ≡ false → HasKeys fault u (k ∷ keys))
+
+-- the key of the pair at the start, or its bytes that are left, and the bytes after it
+abbrev pub key_of : List ℕ → List ℕ
+key_of [] = []
+key_of (k ∷ s) = take k s
+
+abbrev pub after_key : List ℕ → List ℕ
+after_key [] = []
+after_key (k ∷ s) = drop k s

@@ -1,7 +1,8 @@
--- Values as they are written: their tables with every pair, in the order in which they are written.
-use Rattle.std.specs.Prelude.{ℕ, ◌≡◌, List}
+-- Values as they are written: their tables with every pair, in the order in which they are written; and how
+-- large they are.
+use Rattle.std.specs.Prelude.{ℕ, ◌≡◌, List, ◌++◌}
 use Rattle.amqp_value_core.specs.declared.types.amqp_type.AMQPType.{AMQPType}
-use Rattle.amqp_value_core.specs.Values.{Tree, scalar, short, long, octets, array, table, Trees, no_trees, tree, Entries, no_entries, entry}
+use Rattle.amqp_value_core.specs.Values.{Tree, scalar, short, long, octets, array, table, Trees, no_trees, tree, Entries, no_entries, entry, count, depth, count_all, greatest_depth, entries_count, entries_depth}
 use Rattle.amqp_value_core.specs.Grammar.{Wire, Raw, ArrayBody, TableBody, wire, raw_fixed, raw_short, raw_long, raw_octets, raw_array, raw_table, no_values, value, no_pairs, pair}
 use Rattle.amqp_in_place.specs.declared.refs.ValueRef.{ValueRef}
 use Rattle.amqp_in_place.specs.declared.refs.ValueRef.TheVariants as at
@@ -41,3 +42,20 @@ abbrev pub IsWrittenAs : ValueRef → Tree → Type 0
 IsWrittenAs (at.FieldArray a) t = (ts : Trees) × WrittenValues (array_body a) ts × (t ≡ array ts)
 IsWrittenAs (at.FieldTable b) t = (ps : Entries) × WrittenPairs (table_body b) ps × (t ≡ table ps)
 IsWrittenAs r t = t ≡ plain_tree r
+
+-- ---- how large a value is, as it is written: of equal keys each pair's value counts
+
+-- P holds of the encoding at the start of s, and of each derivation of it
+abbrev pub OfEncoding : List ℕ → ((w : List ℕ) (v : Tree) → Wire w v → Type 0) → Type 0
+OfEncoding s P = (w rest : List ℕ) (v : Tree) (p : Wire w v) → s ≡ w ++ rest → P w v p
+
+-- n values are in the value that is referred to, as it is written, and containers nest l levels deep
+abbrev pub HoldsValue : ValueRef → ℕ → ℕ → Type 0
+HoldsValue r n l = (t : Tree) → IsWrittenAs r t → (count t ≡ n) × (depth t ≡ l)
+
+-- and so in values, and in pairs, one after another
+abbrev pub HoldsValues : List ℕ → ℕ → ℕ → Type 0
+HoldsValues s n l = (ts : Trees) → WrittenValues s ts → (count_all ts ≡ n) × (greatest_depth ts ≡ l)
+
+abbrev pub HoldsPairs : List ℕ → ℕ → ℕ → Type 0
+HoldsPairs s n l = (ps : Entries) → WrittenPairs s ps → (entries_count ps ≡ n) × (entries_depth ps ≡ l)

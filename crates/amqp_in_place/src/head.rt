@@ -1,27 +1,45 @@
-//! A type tag and one level behind it; a bare table and a key likewise. `in_place.calls` of test_calls has the rows.
+//! A type tag and one level behind it, and how long a value is by these; a bare table and a key likewise.
+//! `in_place.calls` of test_calls has the rows.
 
-// Tactics at functions: each names what all arms of a `match`, or all errors, are proved by.
+// Tactics at functions: each names what all arms of a `match`, or all errors, are proved by; that at
+// `skip_value` names a lemma for each clause.
 
-ghost use Rattle.std.specs.Prelude.{◌≡◌, ◌≢◌, ◌≤◌, MatchResult, IfErr, IfOk};
-ghost use Rattle.amqp_value_core.specs.Outcomes.{RawOutcome};
+ghost use Rattle.std.specs.Prelude.{◌≡◌, ◌≢◌, ◌<◌, ◌≤◌, length, MatchResult, IfErr, IfOk};
+ghost use Rattle.amqp_value_core.specs.Outcomes.{Outcome, RawOutcome};
 ghost use Rattle.amqp_value_core.specs.Bytes.{slice_bytes};
 ghost use Rattle.amq_protocol_types.specs.parsing.PayloadResults.{OnlyLacks};
 ghost use Rattle.amq_protocol_types.specs.parsing.ParseResults.{IsRefusal};
 ghost use Rattle.amq_protocol_types.specs.parsing.Bodies.{IsLengthPrefixed};
 ghost use Rattle.amq_protocol_types.specs.parsing.Headers.{extent};
 ghost use Rattle.amq_protocol_types.specs.parsing.Untagged.{tagged, RefusesUntagged};
-ghost use Rattle.amqp_in_place.specs.InPlaceResults.{HeadRefuses, NeedsNoMemory};
+ghost use Rattle.amqp_in_place.specs.InPlaceResults.{HeadRefuses, IsWidthOfFound, NeedsNoMemory};
 ghost use Rattle.amqp_in_place.specs.Heads.{RawHeadIs, IsHead, IsKeyFrame, AtAnyDepth};
 
 use super::refs::ValueRef;
 use amq_protocol_types::parsing::{
-    ErrorKind, Limits, ParserResult, error_of_kind, lacks, parse_boolean, parse_decimal_value,
-    parse_double, parse_float, parse_length_prefixed, parse_long_int, parse_long_long_int,
-    parse_long_uint, parse_short_int, parse_short_short_int, parse_short_short_uint,
-    parse_short_uint, parse_timestamp, parse_type,
+    ErrorKind, Limits, ParserError, ParserResult, error_of_kind, lacks, parse_boolean,
+    parse_decimal_value, parse_double, parse_float, parse_length_prefixed, parse_long_int,
+    parse_long_long_int, parse_long_uint, parse_short_int, parse_short_short_int,
+    parse_short_short_uint, parse_short_uint, parse_timestamp, parse_type,
 };
 use amqp_value_core::input::{ParsableInput, SliceInput};
 use amqp_value_core::types::AMQPType;
+
+/// Returns the length in bytes of the value at the start of the bytes, by its type tag and its
+/// length field only: in constant time, and whether or not the body of a container holds entries.
+///
+/// It rejects an unknown type tag, as `parse_value` does, and returns `Incomplete` whenever that
+/// does. It doesn't allocate.
+#[tactic(auto, using(crate::proofs::Skipping::skipped, crate::proofs::Skipping::width_of_found, crate::proofs::Skipping::refused_so))]
+pub fn skip_value(bytes: &[u8]) -> Result<usize, ParserError>
+    ensures extent { IfOk result (λ n. n ≡ extent bytes.now) }
+    ensures whole { IfOk result (λ n. (0 < n) × (n ≤ length bytes.now)) }
+    ensures err { IfErr result (HeadRefuses (Outcome bytes.now)) }
+    ensures value { IfOk result (λ n. IsWidthOfFound bytes.now n) }
+{
+    let (rest, _) = read_head(SliceInput::new(bytes))?;
+    Ok(bytes.len() - rest.input_len())
+}
 
 // A value that is no container, or the body of a container, which isn't looked at.
 #[derive(Clone, Copy)]

@@ -1,5 +1,18 @@
 //! Reading in place: borrowed views of encoded values, which are validated once and then iterated
 //! and looked up, without allocation or copies.
+//!
+//! What comes in, through which modules, and what comes out:
+//!
+//! ```text
+//! bytes     read, by head: all that is in them is checked        ValueRef or TableRef, rest
+//! ValueRef  getters; arrays, tables, path and iter, by steps     numbers, strings, ValueRef
+//! ValueRef  owned; repeated                                      AMQPValue; a repeated key
+//! bytes     measure, by read and steps; head, the length alone   Measure; a length
+//! bytes     canonical, by head; problems and rabbitmq            a length; Problem, Warned
+//! ```
+//!
+//! `in_place.calls` of test_calls has rows of its calls. tests/c and tests/show try problems, warnings
+//! and measures by the calls of the C API and by amqp_show.
 #![tactic(auto)]
 
 mod arrays;
@@ -15,7 +28,6 @@ pub mod rabbitmq;
 mod read;
 mod refs;
 mod repeated;
-mod skip;
 mod steps;
 mod tables;
 
@@ -23,10 +35,10 @@ pub use amq_protocol_types::stream::Limits;
 pub use canonical::{
     canonical_len, canonical_table_len, is_above, is_canonical, is_canonical_table,
 };
+pub use head::skip_value;
 pub use iter::{ArrayValues, TablePairs};
 pub use measure::{Measure, measure_table, measure_value};
 pub use path::{EqualKeys, PathStep};
 pub use problems::{Problem, ProblemKind, Rules, first_problem, first_problem_in_table};
 pub use read::{read_in_place, read_in_place_unlimited, read_table_in_place};
 pub use refs::{ArrayRef, TableRef, ValueRef};
-pub use skip::skip_value;

@@ -8,10 +8,9 @@ ghost use Rattle.amq_protocol_types.specs.parsing.Limits.{Within, RefusesWithin}
 ghost use Rattle.amq_protocol_types.specs.parsing.Untagged.{tagged, UntaggedWithin, RefusesUntagged};
 ghost use Rattle.amqp_in_place.specs.Bodies.{HasValues, HasPairs};
 ghost use Rattle.amqp_in_place.specs.InPlaceResults.{NeedsNoMemory};
-ghost use Rattle.amqp_in_place.specs.Paths.{content};
+ghost use Rattle.amqp_in_place.specs.Lookups.{content};
 ghost use Rattle.amqp_in_place.specs.Places.{IsViewIn};
-ghost use Rattle.amqp_in_place.specs.Written.{written};
-ghost use Rattle.amqp_in_place.specs.Measures.{OfEncoding, HoldsValue, HoldsValues, HoldsPairs};
+ghost use Rattle.amqp_in_place.specs.Written.{written, OfEncoding, HoldsValue, HoldsValues, HoldsPairs};
 
 use super::read::{read_in_place, read_table_in_place};
 use super::refs::ValueRef;

@@ -7,7 +7,7 @@ ghost use Rattle.amqp_in_place.specs.Refs.{Denotes, table_body};
 ghost use Rattle.amqp_in_place.specs.Walks.{FoundIs, WrittenIs};
 ghost use Rattle.amqp_in_place.specs.Written.{IsWrittenAs};
 ghost use Rattle.amqp_in_place.specs.Places.{IsViewWithin};
-ghost use Rattle.amqp_in_place.specs.Paths.{at_step, at_path, content, StepsTo, LeadsTo};
+ghost use Rattle.amqp_in_place.specs.Lookups.{at_step, at_path, content, StepsTo, LeadsTo};
 
 use super::refs::{TableRef, ValueRef};
 

@@ -42,7 +42,7 @@ use simdutf8::basic::Utf8Error;
 /// let (value, _rest) = read_in_place(b"I\0\0\x27\x10", LIMITS)?;
 /// println!(rt; "in place: {} {:?}", value.get_type(), value.as_long_int())?;
 /// ```
-#[tactic(auto, using(crate::proofs::OneValue::one_value, crate::proofs::Reading::left_after, amq_protocol_types::proofs::ParsingLaws::unknown_within, amq_protocol_types::proofs::ParsingLaws::lacks_within))]
+#[tactic(auto, using(crate::proofs::Reading::one_value, crate::proofs::Reading::left_after, amq_protocol_types::proofs::ParsingLaws::unknown_within, amq_protocol_types::proofs::ParsingLaws::lacks_within))]
 pub fn read_in_place(bytes: &[u8], limits: Limits) -> Result<(ValueRef<'_>, &[u8]), ParserError>
     ensures within { MatchResult result
         (λ x. (v : Tree) × Denotes x.0 v × Within limits bytes.now (found v x.1.now))
@@ -69,7 +69,7 @@ pub fn read_in_place(bytes: &[u8], limits: Limits) -> Result<(ValueRef<'_>, &[u8
 ///
 /// It uses stack for each level of nesting, which only the input's length bounds: for bytes from
 /// untrusted peers use `read_in_place`. docs/PROMISES.md has measurements.
-#[tactic(auto, using(crate::proofs::OneValue::one_value, crate::proofs::Reading::left_after))]
+#[tactic(auto, using(crate::proofs::Reading::one_value, crate::proofs::Reading::left_after))]
 pub fn read_in_place_unlimited(bytes: &[u8]) -> Result<(ValueRef<'_>, &[u8]), ParserError>
     ensures outcome { MatchResult result
         (λ x. (v : Tree) × Denotes x.0 v × Outcome bytes.now (found v x.1.now))

@@ -7,7 +7,7 @@ ghost use Rattle.amqp_value_core.specs.Maps.{IsRising};
 ghost use Rattle.amqp_value_core.specs.Bytes.{slice_bytes};
 ghost use Rattle.amqp_in_place.specs.Bodies.{HasPairs};
 ghost use Rattle.amqp_in_place.specs.Refs.{table_body};
-ghost use Rattle.amqp_in_place.specs.Keys.{RepeatedIs};
+ghost use Rattle.amqp_in_place.specs.Lookups.{RepeatedIs};
 
 use super::canonical::is_above;
 use super::refs::TableRef;

@@ -13,8 +13,7 @@ ghost use Rattle.amqp_in_place.specs.Refs.{table_body};
 ghost use Rattle.amqp_in_place.specs.Walks.{FoundIs, WrittenIs, ViewIs, BeginsWith};
 ghost use Rattle.amqp_in_place.specs.Written.{WrittenPairs};
 ghost use Rattle.amqp_in_place.specs.Encoded.{EncodedPairs, encoded_of};
-ghost use Rattle.amqp_in_place.specs.Keys.{first_at};
-ghost use Rattle.amqp_in_place.specs.Paths.{value_of_pair};
+ghost use Rattle.amqp_in_place.specs.Lookups.{first_at, value_of_pair};
 ghost use Rattle.amqp_in_place.specs.Places.{IsViewWithin};
 
 use super::path::EqualKeys;

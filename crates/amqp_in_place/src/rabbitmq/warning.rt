@@ -3,8 +3,7 @@
 ghost use Rattle.std.specs.Prelude.{◌≡◌, ◌<◌, ◌+◌, ◌-◌, ◌^◌, ◌&&◌, ◌∷◌, nat_lt, suc, min, IfOk, IfSome, OnErr, length};
 ghost use Rattle.amqp_value_core.specs.Ids.{id_of};
 ghost use Rattle.amq_protocol_types.specs.parsing.Headers.{extent};
-ghost use Rattle.amqp_in_place.specs.RabbitmqSeen.{IsKeyFaultReport, key_of, after_key};
-ghost use Rattle.amqp_in_place.specs.RabbitmqWarnings.{is_value_faulty, fault_inside, value_fault, values_fault, pairs_fault, first_repeated_key, first_key_not_utf8, first_empty_key, first_too_deep, first_decimal, in_untagged, passes_frame, AreInside};
+ghost use Rattle.amqp_in_place.specs.RabbitmqWarnings.{IsKeyFaultReport, key_of, after_key, is_value_faulty, fault_inside, value_fault, values_fault, pairs_fault, first_repeated_key, first_key_not_utf8, first_empty_key, first_too_deep, first_decimal, in_untagged, passes_frame, AreInside};
 
 use crate::read::check_utf8;
 use amq_protocol_types::parsing::Limits;

@@ -1,3 +1,4 @@
+-- Proofs of the goals of `nth_value` that tactics don't close.
 use Rattle.std.proofs.Common.{rules, ◌≡◌, ◌-◌, suc, subst, arith}
 use Rattle.amqp_value_core.specs.Bytes.{slice_bytes}
 use Rattle.amqp_in_place.proofs.Lookups.{IsAmongLeft, among-start, among-step, among-here, among-end}

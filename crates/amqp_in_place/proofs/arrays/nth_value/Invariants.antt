@@ -1,3 +1,4 @@
+-- The invariant of the loop of `nth_value`.
 use Rattle.std.proofs.Common.{length}
 use Rattle.amqp_value_core.specs.Bytes.{slice_bytes}
 use Rattle.amqp_in_place.specs.Bodies.{HasValues}

@@ -1,3 +1,4 @@
+-- Proofs of the goals of the functions of the cycle `canonical` that tactics don't close.
 use Rattle.std.proofs.Common.{sym, subst, rules, arith}
 use Rattle.std.specs.Str.{IsUtf8}
 use Rattle.amqp_value_core.specs.Bytes.{slice_bytes}

@@ -1,3 +1,4 @@
+-- The invariants of the loops of the functions of the cycle `canonical`.
 use Rattle.std.proofs.Common.{None, length, ◌+◌, ◌*◌, ◌≤◌}
 use Rattle.amqp_value_core.specs.Bytes.{slice_bytes}
 use Rattle.amqp_in_place.specs.Canonicals.{CanonValues, CanonEntries}

@@ -1,3 +1,4 @@
+-- Proofs of the goals of `canonical_len` that tactics don't close.
 use Rattle.std.proofs.Common.{ℕ, ◌-◌, List, length, sym, ap, subst, arith}
 use Rattle.amqp_value_core.specs.Bytes.{IsBytes, slice_bytes}
 use Rattle.amq_protocol_types.specs.parsing.Limits.{IsHeader}

@@ -1,3 +1,4 @@
+-- Proofs of the goals of `canonical_table_len` that tactics don't close.
 use Rattle.std.proofs.Common.{rules, ◌≤◌, ◌-◌, ℕ, List, length, ap, subst, arith, length-append}
 use Rattle.amqp_value_core.specs.declared.types.amqp_type.AMQPType.TheVariants as amqp
 use Rattle.amqp_value_core.specs.Bytes.{slice_bytes}
@@ -7,7 +8,7 @@ use Rattle.amq_protocol_types.specs.parsing.Headers.{extent}
 use Rattle.amq_protocol_types.specs.parsing.Untagged.{tagged, RefusesUntagged}
 use Rattle.amqp_in_place.proofs.Refusals.{not_read}
 use Rattle.amqp_in_place.proofs.Canonicals.{bytes_all}
-use Rattle.amqp_in_place.proofs.CanonicalTables.{table_len, len_inside}
+use Rattle.amqp_in_place.proofs.Untagged.{table_len, len_inside}
 use Rattle.amqp_in_place.proofs.canonical.canonical_table_len.Goals as goal
 
 pub returns-in_default-clause-none : goal.returns-in_default-clause-none

@@ -1,3 +1,4 @@
+-- Proofs of the goals of `is_canonical` that tactics don't close.
 use Rattle.std.proofs.Common.{length, refl}
 use Rattle.amqp_in_place.proofs.Canonicals.{bytes_all, known_by_len, as_written, written_canon}
 use Rattle.amqp_in_place.proofs.canonical.is_canonical.Goals as goal

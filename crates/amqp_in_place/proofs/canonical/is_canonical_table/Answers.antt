@@ -1,3 +1,4 @@
+-- Proofs of the goals of `is_canonical_table` that tactics don't close.
 use Rattle.std.proofs.Common.{◌+◌, length, arith}
 use Rattle.amqp_value_core.specs.declared.types.amqp_type.AMQPType.TheVariants as amqp
 use Rattle.amq_protocol_types.specs.parsing.Untagged.{tagged}

@@ -1,3 +1,4 @@
+-- Proofs of the goals of `read_head` that tactics don't close.
 use Rattle.amqp_value_core.specs.Bytes.{slice_bytes}
 use Rattle.amqp_in_place.proofs.HeadLemmas.{head_result}
 use Rattle.amqp_in_place.proofs.head.read_head.Goals as goal

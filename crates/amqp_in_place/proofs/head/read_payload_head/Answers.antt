@@ -1,3 +1,4 @@
+-- Proofs of the goals of `read_payload_head` that tactics don't close.
 use Rattle.std.proofs.Common.{rules}
 use Rattle.std.specs.Int.{w64, cast_signed, cast_unsigned}
 use Rattle.amqp_value_core.specs.declared.types.amqp_type.AMQPType.TheVariants as amqp

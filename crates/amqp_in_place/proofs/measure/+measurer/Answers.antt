@@ -1,4 +1,4 @@
--- The cycle of functions of src/measure.rt: counts_of_value, counts_of_values and counts_of_pairs.
+-- Proofs of the goals of the functions of the cycle `measurer` that tactics don't close.
 use Rattle.std.proofs.Common.{length, ap, arith}
 use Rattle.amqp_value_core.specs.Bytes.{slice_bytes}
 use Rattle.amqp_in_place.proofs.Measuring.{values_few, pairs_few, plain_holds, array_holds, table_holds, content_few, content_shorter, pair_shorter, values_start, values_step, values_end, values_so_few, pairs_start, pairs_step, pairs_end, pairs_so_few}

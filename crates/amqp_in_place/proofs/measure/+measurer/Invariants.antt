@@ -1,6 +1,7 @@
+-- The invariants of the loops of the functions of the cycle `measurer`.
 use Rattle.std.proofs.Common.{length, ◌+◌, ◌*◌}
 use Rattle.amqp_value_core.specs.Bytes.{slice_bytes}
-use Rattle.amqp_in_place.specs.Paths.{content}
+use Rattle.amqp_in_place.specs.Lookups.{content}
 use Rattle.amqp_in_place.proofs.Measuring.{ValuesSoFar, PairsSoFar}
 use Rattle.amqp_in_place.proofs.measure.+measurer.Given as goal
 

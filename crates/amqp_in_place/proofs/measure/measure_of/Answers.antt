@@ -1,3 +1,4 @@
+-- Proofs of the goals of `measure_of` that tactics don't close.
 use Rattle.amqp_in_place.proofs.Measuring.{measured_values, measured_levels, measured_tree}
 use Rattle.amqp_in_place.proofs.measure.measure_of.Goals as goal
 

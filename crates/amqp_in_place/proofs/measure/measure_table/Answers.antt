@@ -1,3 +1,4 @@
+-- Proofs of the goals of `measure_table` that tactics don't close.
 use Rattle.std.proofs.Common.{length, ap, arith, length-append}
 use Rattle.amqp_value_core.specs.declared.types.amqp_type.AMQPType.TheVariants as amqp
 use Rattle.amqp_value_core.specs.Values.{table}

@@ -1,3 +1,4 @@
+-- Proofs of the goals of `measure_value` that tactics don't close.
 use Rattle.std.proofs.Common.{arith}
 use Rattle.amqp_in_place.proofs.Measuring.{content_few, rest_dropped, measured_bytes}
 use Rattle.amqp_in_place.proofs.measure.measure_value.Goals as goal

@@ -1,3 +1,4 @@
+-- Proofs of the goals of the functions of the cycle `problems` that tactics don't close.
 use Rattle.std.proofs.Common.{◌-◌, Some, sym, ap, ◌∙◌, arith}
 use Rattle.std.specs.Prelude.{option_map}
 use Rattle.std.proofs.lemmas.List.{length-take-le}

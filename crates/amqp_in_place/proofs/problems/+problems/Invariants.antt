@@ -1,3 +1,4 @@
+-- The invariants of the loops of the functions of the cycle `problems`.
 use Rattle.std.proofs.Common.{length, ◌+◌, ◌-◌, ◌*◌}
 use Rattle.amq_protocol_types.specs.parsing.Headers.{extent}
 use Rattle.amqp_in_place.specs.Problems.{in_value, in_pair, pair_len, inside}

@@ -1,3 +1,4 @@
+-- Proofs of the goals of `first_problem` that tactics don't close.
 use Rattle.std.proofs.Common.{None, sym}
 use Rattle.amqp_in_place.proofs.Canonicals.{bytes_all}
 use Rattle.amqp_in_place.proofs.ProblemReadings.{reads_if_none, fails_if_some}

@@ -1,3 +1,4 @@
+-- Proofs of the goals of `first_problem_in_table` that tactics don't close.
 use Rattle.std.proofs.Common.{None, sym}
 use Rattle.amqp_in_place.proofs.Canonicals.{bytes_all}
 use Rattle.amqp_in_place.proofs.ProblemReadings.{table_read_if_none, table_fails_if_some}

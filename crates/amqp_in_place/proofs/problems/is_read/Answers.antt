@@ -1,3 +1,4 @@
+-- Proofs of the goals of `is_read` that tactics don't close.
 use Rattle.std.proofs.Common.{sym, ◌∙◌}
 use Rattle.amq_protocol_types.specs.parsing.Limits.{RefusesWithin}
 use Rattle.amqp_in_place.specs.Refs.{Denotes}

@@ -1,3 +1,4 @@
+-- Proofs of the goals of `is_table_read` that tactics don't close.
 use Rattle.std.proofs.Common.{option_map, sym, ap, ◌∙◌, arith}
 use Rattle.amqp_value_core.specs.declared.types.amqp_type.AMQPType.TheVariants.{FieldTable}
 use Rattle.amqp_value_core.specs.Values.{table}

@@ -1,3 +1,4 @@
+-- The invariants of the loops of the functions of the cycle `reader`.
 use Rattle.std.proofs.Common.{List, length, ◌+◌, ◌*◌}
 use Rattle.amqp_value_core.specs.Values.{Tree, Entries}
 use Rattle.amqp_value_core.specs.Bytes.{slice_bytes}

@@ -1,3 +1,4 @@
+-- Proofs of the goals of `read_in_place_unlimited` that tactics don't close.
 use Rattle.std.proofs.Common.{ℕ, List, length, sym, ap, subst, arith}
 use Rattle.std.proofs.lemmas.Result.{err_from_is_err_and}
 use Rattle.amqp_value_core.specs.Outcomes.{Outcome, found}

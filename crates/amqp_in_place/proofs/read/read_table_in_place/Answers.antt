@@ -1,3 +1,4 @@
+-- Proofs of the goals of `read_table_in_place` that tactics don't close.
 use Rattle.std.proofs.Common.{ℕ, List, sym, ◌∙◌, subst, rules}
 use Rattle.amqp_value_core.specs.declared.types.amqp_type.AMQPType.TheVariants as amqp
 use Rattle.amqp_value_core.specs.Values.{Tree, table}
@@ -8,7 +9,7 @@ use Rattle.amqp_value_core.specs.Bytes.{slice_bytes}
 use Rattle.amq_protocol_types.specs.parsing.Untagged.{tagged, UntaggedWithin}
 use Rattle.amqp_in_place.specs.declared.head.Head.TheVariants as head
 use Rattle.amqp_in_place.proofs.HeadLemmas.{head_read, head_bad}
-use Rattle.amqp_in_place.proofs.OneValue.{one_table}
+use Rattle.amqp_in_place.proofs.Reading.{one_table}
 use Rattle.amqp_in_place.proofs.Untagged.{table_head}
 use Rattle.amqp_in_place.proofs.read.read_table_in_place.Goals as goal
 

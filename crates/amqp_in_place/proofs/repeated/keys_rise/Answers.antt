@@ -1,3 +1,4 @@
+-- Proofs of the goals of `keys_rise` that tactics don't close.
 use Rattle.std.proofs.Common.{rules}
 use Rattle.amqp_value_core.specs.Bytes.{slice_bytes}
 use Rattle.amqp_in_place.proofs.RepeatedKeys.{KeysAscend-step}

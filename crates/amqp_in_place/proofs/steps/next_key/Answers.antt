@@ -1,8 +1,9 @@
+-- Proofs of the goals of `next_key` that tactics don't close.
 use Rattle.std.proofs.Common.{◌≡◌, ◌∷◌, ◌++◌, List, ℕ, length, drop, sym, ap, ap₂, ◌∙◌, arith}
 use Rattle.std.proofs.lemmas.Grind.{common_steps}
 use Rattle.amqp_value_core.specs.Grammar.{short_field}
 use Rattle.amq_protocol_types.specs.parsing.Headers.{extent}
-use Rattle.amqp_in_place.proofs.Keys.{key_few, value_few, key_first}
+use Rattle.amqp_in_place.proofs.Stepping.{key_few, value_few, key_first}
 use Rattle.amqp_in_place.proofs.steps.next_key.Goals as goal
 
 pub split_at-requires : goal.split_at-requires

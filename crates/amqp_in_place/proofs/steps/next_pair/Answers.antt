@@ -1,3 +1,4 @@
+-- Proofs of the goals of `next_pair` that tactics don't close.
 use Rattle.std.proofs.Common.{◌≡◌, ℕ, List, sym, subst, ◌∙◌, arith}
 use Rattle.std.specs.Str.{IsUtf8}
 use Rattle.amqp_value_core.specs.Bytes.{slice_bytes}

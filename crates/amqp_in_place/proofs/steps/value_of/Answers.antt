@@ -1,3 +1,4 @@
+-- Proofs of the goals of `value_of` that tactics don't close.
 use Rattle.amqp_in_place.proofs.Stepping.{meant_values, meant_pairs}
 use Rattle.amqp_in_place.proofs.steps.value_of.Goals as goal
 

@@ -1,3 +1,4 @@
+-- Proofs of the goals of `value_there` that tactics don't close.
 use Rattle.std.proofs.Common.{ℕ, List, sym, subst}
 use Rattle.amqp_value_core.specs.Bytes.{slice_bytes}
 use Rattle.amqp_in_place.specs.Heads.{IsHead}

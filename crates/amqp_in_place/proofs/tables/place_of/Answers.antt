@@ -1,4 +1,5 @@
-use Rattle.std.proofs.Common.{Some, sym, ◌∙◌, refl}
+-- Proofs of the goals of `place_of` that tactics don't close.
+use Rattle.std.proofs.Common.{sym, ◌∙◌, refl}
 use Rattle.amqp_in_place.proofs.Lookups.{found-start, found-other, found-first, found-last, found-end, pairs_more, value_inside, rest_inside}
 use Rattle.amqp_in_place.proofs.Places.{nothing_before}
 use Rattle.amqp_in_place.proofs.tables.place_of.Goals as goal

@@ -1,3 +1,4 @@
+-- Proofs of the goals of the functions of the cycle `faults` that tactics don't close.
 use Rattle.std.proofs.Common.{refl, ap, sym, ◌∙◌, ◌-◌, ◌+◌, length, take, drop, arith}
 use Rattle.std.specs.Prelude.{max}
 use Rattle.amq_protocol_types.specs.parsing.Headers.{extent}

@@ -1,3 +1,4 @@
+-- The invariants of the loops of the functions of the cycle `faults`.
 use Rattle.std.proofs.Common.{length, ◌+◌, ◌-◌, ◌*◌}
 use Rattle.amqp_in_place.specs.RabbitmqWarnings.{fault_in_value, fault_inside}
 use Rattle.amqp_in_place.proofs.KeyFaults.{ValuesPassed, PairsPassed}

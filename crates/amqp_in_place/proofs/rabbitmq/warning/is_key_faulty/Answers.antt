@@ -1,3 +1,4 @@
+-- Proofs of the goals of `is_key_faulty` that tactics don't close.
 use Rattle.amqp_in_place.proofs.KeyFaults.{tells_repeated, tells_utf8, tells_empty, tells_deep, tells_decimal}
 use Rattle.amqp_in_place.proofs.rabbitmq.warning.is_key_faulty.Goals as goal
 

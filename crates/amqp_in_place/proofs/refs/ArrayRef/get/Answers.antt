@@ -1,3 +1,4 @@
+-- Proofs of the goals of `ArrayRef::get` that tactics don't close.
 use Rattle.amqp_value_core.specs.Bytes.{slice_bytes}
 use Rattle.amqp_in_place.specs.Refs.{array_body}
 use Rattle.amqp_in_place.proofs.Lookups.{nth_means, nth_is_written, nth_is_view}

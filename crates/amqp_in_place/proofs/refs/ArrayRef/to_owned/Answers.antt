@@ -1,8 +1,9 @@
+-- Proofs of the goals of `ArrayRef::to_owned` that tactics don't close.
 use Rattle.std.proofs.Common.{List, ℕ, ◌<◌, length, subst, arith}
 use Rattle.amqp_value_core.specs.Bytes.{slice_bytes}
 use Rattle.amq_protocol_types.specs.parsing.ParseResults.{IsRefusal}
 use Rattle.amq_protocol_types.specs.parsing.Bodies.{IsNoBody}
-use Rattle.amqp_in_place.proofs.Owning.{values_there}
+use Rattle.amqp_in_place.proofs.Reading.{values_there}
 use Rattle.amqp_in_place.proofs.refs.ArrayRef.to_owned.Goals as goal
 
 pub returns-in-Err-Failure : goal.returns-in-Err-Failure

@@ -1,3 +1,4 @@
+-- Proofs of the goals of `TableRef::contains_key` that tactics don't close.
 use Rattle.std.proofs.Common.{List, ℕ, sym, ◌∙◌, subst}
 use Rattle.amqp_in_place.specs.Bodies.{HasPairs, HasEntries}
 use Rattle.amqp_in_place.proofs.Lookups.{begins_has_key}

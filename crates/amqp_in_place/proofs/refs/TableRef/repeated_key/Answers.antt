@@ -1,3 +1,4 @@
+-- Proofs of the goals of `TableRef::repeated_key` that tactics don't close.
 use Rattle.std.proofs.Common.{rules, arith}
 use Rattle.amqp_value_core.specs.Bytes.{slice_bytes}
 use Rattle.amqp_in_place.specs.Refs.{table_body}

@@ -1,3 +1,4 @@
+-- Proofs of the goals of `TableRef::to_owned` that tactics don't close.
 use Rattle.std.proofs.Common.{List, ℕ, ◌<◌, length, subst, arith}
 use Rattle.amqp_value_core.specs.Bytes.{slice_bytes}
 use Rattle.amq_protocol_types.specs.parsing.ParseResults.{IsRefusal}
@@ -5,7 +6,7 @@ use Rattle.amq_protocol_types.specs.parsing.Bodies.{IsNoTable}
 use Rattle.amqp_value_core.specs.Containers.{table_view}
 use Rattle.amqp_in_place.specs.Bodies.{HasEntries}
 use Rattle.amqp_in_place.proofs.HeadLemmas.{entries_of_table}
-use Rattle.amqp_in_place.proofs.Owning.{pairs_there}
+use Rattle.amqp_in_place.proofs.Reading.{pairs_there}
 use Rattle.amqp_in_place.proofs.refs.TableRef.to_owned.Goals as goal
 
 pub returns-in-Ok : goal.returns-in-Ok

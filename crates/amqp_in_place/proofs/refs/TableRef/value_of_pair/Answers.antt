@@ -1,3 +1,4 @@
+-- Proofs of the goals of `TableRef::value_of_pair` that tactics don't close.
 use Rattle.std.proofs.Common.{List, ℕ, sym, subst}
 use Rattle.amqp_value_core.specs.Values.{Entries}
 use Rattle.amqp_value_core.specs.Grammar.{TableBody}

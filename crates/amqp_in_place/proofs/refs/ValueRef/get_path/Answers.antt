@@ -1,3 +1,4 @@
+-- Proofs of the goals of `ValueRef::get_path` that tactics don't close.
 use Rattle.std.proofs.Common.{◌+◌, arith}
 use Rattle.amqp_in_place.specs.Refs.{Denotes}
 use Rattle.amqp_in_place.specs.Written.{IsWrittenAs}

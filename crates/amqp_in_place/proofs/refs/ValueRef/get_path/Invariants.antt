@@ -1,9 +1,10 @@
+-- The invariant of the loop of `ValueRef::get_path`.
 use Rattle.std.proofs.Common.{◌≡◌, ◌<◌, drop}
 use Rattle.amqp_in_place.specs.declared.path.EqualKeys.TheVariants as equal
 use Rattle.amqp_in_place.specs.Refs.{Denotes}
 use Rattle.amqp_in_place.specs.Written.{IsWrittenAs}
 use Rattle.amqp_in_place.specs.Places.{IsViewWithin}
-use Rattle.amqp_in_place.specs.Paths.{content}
+use Rattle.amqp_in_place.specs.Lookups.{content}
 use Rattle.amqp_in_place.proofs.Paths.{PathLeadsTo, PathLeadsToView}
 use Rattle.amqp_in_place.proofs.refs.ValueRef.get_path.Given as goal
 

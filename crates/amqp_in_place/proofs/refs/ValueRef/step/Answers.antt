@@ -1,9 +1,10 @@
+-- Proofs of the goals of `ValueRef::step` that tactics don't close.
 use Rattle.std.proofs.Common.{sym, subst}
 use Rattle.amqp_in_place.specs.declared.path.PathStep.{PathStep}
 use Rattle.amqp_in_place.specs.declared.refs.ValueRef.{ValueRef}
 use Rattle.amqp_in_place.specs.Refs.{Denotes}
 use Rattle.amqp_in_place.specs.Walks.{FoundIs}
-use Rattle.amqp_in_place.specs.Paths.{at_step}
+use Rattle.amqp_in_place.specs.Lookups.{at_step}
 use Rattle.amqp_in_place.proofs.Paths.{last_found}
 use Rattle.amqp_in_place.proofs.refs.ValueRef.step.Goals as goal
 

@@ -1,3 +1,4 @@
+-- Proofs of the goals of `skip_value` that tactics don't close.
 use Rattle.std.proofs.Common.{◌≡◌, ◌+◌, ◌-◌, ℕ, List, length, subst, arith}
 use Rattle.amqp_value_core.specs.Bytes.{slice_bytes}
 use Rattle.std.proofs.lemmas.Result.{err_from_is_err_and}
@@ -5,7 +6,7 @@ use Rattle.amqp_value_core.specs.Outcomes.{Outcome}
 use Rattle.amq_protocol_types.specs.parsing.Headers.{extent}
 use Rattle.amqp_in_place.specs.InPlaceResults.{HeadRefuses}
 use Rattle.amqp_in_place.proofs.Skipping.{skipped, width_of_found, refused_so}
-use Rattle.amqp_in_place.proofs.skip.skip_value.Goals as goal
+use Rattle.amqp_in_place.proofs.head.skip_value.Goals as goal
 
 pub returns-clause-extent : goal.returns-clause-extent
 returns-clause-extent c =
