@@ -1,7 +1,7 @@
 -- A canonical encoding that is read again.
 use Rattle.std.proofs.Common.{◌≡◌, ℕ, Bool, true, false, cond, List, [], refl, sym, ap, subst, append-nil}
 use Rattle.amqp_value_core.specs.Bytes.{IsBytes}
-use Rattle.amqp_value_core.specs.Values.{Tree, scalar, short, long, octets, array, table, readable}
+use Rattle.amqp_value_core.specs.Values.{Tree, short, readable}
 use Rattle.amqp_value_core.specs.Texts.{text}
 use Rattle.amqp_value_core.specs.Outcomes.{Reading, more, unknown, malformed, found, Outcome, read_back, unread}
 use Rattle.amqp_value_core.proofs.GrammarLaws.{one_outcome, found_prefix}
@@ -16,11 +16,7 @@ use Rattle.amqp_json.proofs.Ends.{pick}
 
 no_value : (v : Tree) (u : Tree) (rest : List ℕ) → unread v ≡ found u rest → ⊥
 no_value (short s) u rest e = absurd (cc e)
-no_value (scalar x) u rest e = absurd (cc e)
-no_value (long s) u rest e = absurd (cc e)
-no_value (octets s) u rest e = absurd (cc e)
-no_value (array vs) u rest e = absurd (cc e)
-no_value (table es) u rest e = absurd (cc e)
+no_value _ u rest e = absurd (cc e)
 
 by : (b : Bool) (v u : Tree) (rest : List ℕ) → cond b (found v []) (unread v) ≡ found u rest → v ≡ u
 by true v u rest e = ap (pick v) e

@@ -6,7 +6,7 @@ use Rattle.amqp_value_core.specs.Bytes.{IsShort}
 use Rattle.amqp_value_core.specs.Values as values
 use Rattle.amqp_value_core.specs.Values.{Tree, array, table, Trees, no_trees, tree, Entries, no_entries, entry, ComesBefore}
 use Rattle.amqp_value_core.specs.Maps.{insert_all, IsRising}
-use Rattle.amqp_value_core.specs.Grammar.{short_field, long_field, Wire, wire, raw_fixed, raw_short, raw_long, raw_octets, raw_array, raw_table, ArrayBody, no_values, value, TableBody, no_pairs, pair}
+use Rattle.amqp_value_core.specs.Grammar.{short_field, long_field, Wire, wire, raw_long, raw_octets, raw_array, raw_table, ArrayBody, no_values, value, TableBody, no_pairs, pair}
 use Rattle.amqp_value_core.proofs.GrammarLaws.{put_mean}
 use Rattle.amqp_in_place.specs.declared.refs.ValueRef.{ValueRef}
 use Rattle.amqp_in_place.specs.declared.refs.ValueRef.TheVariants as at
@@ -178,12 +178,9 @@ no_container _ n m = tt
 
 -- an encoding that means no container is written without one
 leaf_raw : (w : List ℕ) (v : Tree) (p : Wire w v) → ((vs : Trees) → v ≡ array vs → ⊥) → ((es : Entries) → v ≡ table es → ⊥) → Ascends (written w v p)
-leaf_raw _ _ (wire c type b v k (raw_fixed t f s row len)) n m = tt
-leaf_raw _ _ (wire c type b v k (raw_short s is)) n m = tt
-leaf_raw _ _ (wire c type b v k (raw_long s few)) n m = tt
-leaf_raw _ _ (wire c type b v k (raw_octets s few)) n m = tt
 leaf_raw _ _ (wire c type b v k (raw_array body vs few all)) n m = absurd (n vs refl)
 leaf_raw _ _ (wire c type b v k (raw_table body ps es few all mean)) n m = absurd (m es refl)
+leaf_raw _ _ (wire c type b v k _) n m = tt
 
 pub leaf_order : (r : ValueRef) (s rest : List ℕ) → IsPlainRef r → IsViewIn s r rest → InOrder s rest
 leaf_order (at.FieldArray a) s rest leaf x = absurd leaf

@@ -123,15 +123,7 @@ number_back amqp.Float n h =
 number_back amqp.Double n h =
     under_back amqp.Double (string (encode_lower (to_be_bytes w64 n))) refl refl ∙ ap (λ r. option_map (λ b. scalar (values.number amqp.Double (from_be_bytes w64 b))) (result_ok r)) (decode_sized-encode_lower (to_be_bytes w64 n) 8 refl (bytes_high 8 n))
     ∙ ap (λ m. Some (scalar (values.number amqp.Double m))) (from_be_bytes-to_be_bytes_8 n h)
-number_back amqp.Boolean n h = absurd h
-number_back amqp.LongLongUInt n h = absurd h
-number_back amqp.DecimalValue n h = absurd h
-number_back amqp.ShortString n h = absurd h
-number_back amqp.LongString n h = absurd h
-number_back amqp.FieldArray n h = absurd h
-number_back amqp.FieldTable n h = absurd h
-number_back amqp.ByteArray n h = absurd h
-number_back amqp.Void n h = absurd h
+number_back _ n h = absurd h
 
 scalar_back : (x : Scalar) → IsScalar x → meaning (scalar_written x) ≡ Some (scalar x)
 scalar_back (values.boolean b) h = refl

@@ -1,7 +1,8 @@
 -- The JSON text of a value that was read at the start of some bytes.
-use Rattle.std.proofs.Common.{◌≡◌, ◌+◌, ◌<◌, ◌≤◌, ◌^◌, ℕ, List, ◌++◌, length, take, drop, take_all, sym, ap, ◌∙◌, subst, append-nil, arith}
+use Rattle.std.proofs.Common.{◌≡◌, ◌+◌, ◌<◌, ◌≤◌, ◌^◌, ℕ, List, ◌++◌, [], length, take, drop, false, refl, sym, ap, ◌∙◌, subst, append-nil, arith}
 use Rattle.std.proofs.Math.ListN.{drop_of_length-le}
 use Rattle.std.proofs.lemmas.List.{take_at}
+use Rattle.json.specs.Print.{print, print_from}
 use Rattle.amqp_value_core.specs.Values.{Tree}
 use Rattle.amqp_value_core.specs.Outcomes.{found}
 use Rattle.amqp_value_core.specs.Bytes.{IsBytes}
@@ -12,8 +13,9 @@ use Rattle.amq_protocol_types.specs.parsing.Limits.{Within}
 use Rattle.amqp_json.specs.Conversions.{IsJsonOf, IsOrderedJsonOf}
 use Rattle.amqp_json.specs.Views.{WritesText}
 use Rattle.amqp_json.specs.Meaning.{meant}
-use Rattle.amqp_json.specs.Printing.{Begins}
-use Rattle.amqp_json.specs.Written.{HasJson, json_text}
+use Rattle.amqp_json.specs.declared.printing.place.Place.{Place}
+use Rattle.amqp_json.specs.Printing.{Begins, PutsJson}
+use Rattle.amqp_json.specs.Written.{HasJson, json_text, written}
 use Rattle.amqp_json.proofs.Encoded.{has_json}
 use Rattle.amqp_json.proofs.ReadBack.{text_is_read}
 
@@ -26,7 +28,21 @@ pub decoded : (l : Limits) (s rest t : List ℕ) (v : Tree) → IsBytes s → Wi
 decoded l s rest t v bytes x is =
     (v, x, is, λ shallow. ap meant is ∙ text_is_read v (within_has_json l s rest v bytes x) shallow)
 
--- a text is counted, and if it fits the buffer, it is at its start
+-- ---- a text in a buffer, from its start
+
+abbrev start : Place
+start = record { count = 0; after_value = false }
+
+nothing : print [] ≡ []
+unfolding print_from
+nothing = refl
+
+pub text_begins : (v : Tree) (old new : List ℕ) (end : Place) → PutsJson old start new end (written v) → Begins old new end.count (json_text v)
+text_begins v old new end puts =
+    let empty : Begins old old 0 (print []) = subst (λ (t : List ℕ). Begins old old 0 t) (sym nothing) (record { count = refl; same = refl; text = λ fits. refl }) in
+    (puts old [] (record { text = empty; after = refl })).text
+
+-- it is counted, and if it fits the buffer, it is at its start
 pub text_written : (l : Limits) (s t rest old new : List ℕ) (count : ℕ) → IsOrderedJsonOf l s t rest → Begins old new count t → 1 + length old < 2 ^ 64 → WritesText l s rest old new count
 text_written l s t rest old new count is put few = (
   t,
@@ -37,20 +53,16 @@ text_written l s t rest old new count is put few = (
       (size, put.text (omega (arith, size, fits)) ∙ ap (λ k. t ++ drop k old) (sym size)),
 )
 
--- a text that fits a buffer is its first bytes
-pub at_start : (t old new : List ℕ) (count : ℕ) → Begins old new count t → count ≤ length new → length new < 2 ^ 63 → take count new ≡ t
-at_start t old new count put less few =
-    let size : count ≡ length t = omega (arith, put.count, less, few) in
-    ap (take count) (put.text (omega (arith, size, put.same, less))) ∙ take_at t (drop (length t) old) count (sym size)
+-- if it fits the buffer, it is the first bytes
+pub text_taken : (v : Tree) (old new : List ℕ) (end : Place) → PutsJson old start new end (written v) → end.count ≤ length old → length old < 2 ^ 63 → take end.count new ≡ json_text v
+text_taken v old new end puts fits few =
+    let is = text_begins v old new end puts in
+    let size : end.count ≡ length (json_text v) = omega (arith, is.count, fits, few) in
+    ap (take end.count) (is.text (omega (arith, size, fits))) ∙ take_at (json_text v) (drop (length (json_text v)) old) end.count (sym size)
 
--- a buffer that was measured for its text
-pub filled : (t start small zeros new : List ℕ) (m k : ℕ) → Begins start small m t → Begins zeros new k t → length zeros ≡ m → m < 2 ^ 63 → new ≡ t
-filled t start small zeros new m k first second size few =
-    let all : length t ≡ m = omega (arith, first.count, few) in
-    second.text (omega (arith, all, size)) ∙ ap (λ (l : List ℕ). t ++ l) (drop_of_length-le zeros (omega (arith, all, size))) ∙ append-nil t
-
--- it is all of the string
-pub kept : (t zeros new : List ℕ) (len : ℕ) → new ≡ t → length new ≡ length zeros → length zeros ≤ len → take len (new ++ drop (length new) zeros) ≡ t
-kept t zeros new len e same enough =
-    let all : new ++ drop (length new) zeros ≡ new = ap (λ (l : List ℕ). new ++ l) (drop_of_length-le zeros (omega (arith, same))) ∙ append-nil new in
-    ap (take len) all ∙ take_all len new (omega (arith, same, enough)) ∙ e
+-- a buffer of its length is the text
+pub text_filled : (v : Tree) (small short old new : List ℕ) (first end : Place) → PutsJson small start short first (written v) → PutsJson old start new end (written v) → length old ≡ first.count → length old < 2 ^ 63 → new ≡ json_text v
+text_filled v small short old new first end measured puts size few =
+    let is = text_begins v small short first measured in
+    let all : length (json_text v) ≡ first.count = omega (arith, is.count, size, few) in
+    (text_begins v old new end puts).text (omega (arith, all, size)) ∙ ap (λ (l : List ℕ). json_text v ++ l) (drop_of_length-le old (omega (arith, all, size))) ∙ append-nil (json_text v)

@@ -1,5 +1,5 @@
 -- Values and pairs, one after another, of encodings whose pairs are in the order of a text.
-use Rattle.std.proofs.Common.{◌≡◌, ℕ, ◌-◌, ◌+◌, ◌<◌, ◌≤◌, ◌^◌, List, [], ◌∷◌, ◌++◌, length, take, drop, Option, Some, None, option_map, refl, sym, ap, ◌∙◌, subst, arith, append_assoc, append-nil, length-append}
+use Rattle.std.proofs.Common.{◌≡◌, ℕ, Bor, ◌-◌, ◌+◌, ◌<◌, ◌≤◌, ◌^◌, List, [], ◌∷◌, ◌++◌, length, take, drop, Option, Some, None, option_map, refl, sym, ap, ◌∙◌, subst, arith, append_assoc, append-nil, length-append}
 use Rattle.std.specs.Int.{w32, to_be_bytes}
 use Rattle.std.proofs.Math.Seq.{take-append_seam, drop-append-add}
 use Rattle.json.specs.Token.{Token, key}
@@ -103,6 +103,10 @@ module _ (depth : ℕ) (start : List Token) (old : List ℕ) where
     read = λ d le. map_same _ ∙ ap (λ ts. parse_map (λ ps. ps) (converted pairs_of (members (json.value d) (length start) ts))) is;
     none = λ d le h. ap (members (json.value d) (length start)) is ∙ h;
   }
+
+  -- the key that was read is one
+  pub key_is : (next : Option (Bor (List ℕ))) (k : Bor (List ℕ)) (now : List Token) (new : List ℕ) → next ≡ Some k → PairsLeft depth start (option_map (λ b. b.now) next) now old new → PairsLeft depth start (Some k.now) now old new
+  key_is next k now new is left = subst (λ (n : Option (Bor (List ℕ))). PairsLeft depth start (option_map (λ b. b.now) n) now old new) is left
 
   pub pairs_next : (k : List ℕ) (next : Option (List ℕ)) (now r s : List Token) (mid keyed new : List ℕ) → PairsLeft depth start (Some k) now old mid → IsShort (entry_key k)
       → ((v : Tree) (ps : Option Entries) → with_entry k (Some v) ps ≡ option_map (entry (entry_key k) v) ps) → keyed ≡ mid ++ short_field (entry_key k)

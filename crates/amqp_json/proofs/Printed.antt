@@ -15,9 +15,6 @@ use Rattle.amqp_json.specs.declared.printing.place.Place.{Place}
 use Rattle.amqp_json.specs.Printing.{Begins, PutsBytes, AreTokensPrinted, PutsTokens}
 use Rattle.amqp_json.specs.Written.{is_marked, decimal_text, written_key}
 
-pub puts_none : (buffer : List ℕ) (at : ℕ) → PutsBytes buffer at buffer at []
-puts_none buffer at = λ start t h. subst (λ (u : List ℕ). Begins start buffer at u) (sym (append-nil t)) h
-
 pub puts_more : (a b c : List ℕ) (i j k : ℕ) (xs ys : List ℕ) → PutsBytes a i b j xs → PutsBytes b j c k ys → PutsBytes a i c k (xs ++ ys)
 puts_more a b c i j k xs ys p q = λ start t h. subst (λ (u : List ℕ). Begins start c k u) (append_assoc t xs ys) (q start (t ++ xs) (p start t h))
 
@@ -79,18 +76,15 @@ escaped_more text done whole from stop is less e =
 
 -- ---- bytes that a buffer isn't large enough for
 
-pub bytes_counted : (a : List ℕ) (at end : ℕ) (bytes : List ℕ) → end ≡ min (at + length bytes) (2 ^ 64 - 1) → length a < end → PutsBytes a at a end bytes
-bytes_counted a at end bytes is over = λ start t h.
-    let long = length-append t bytes in
-    record {
-      count = omega (arith, is, long, h.count);
-      same = h.same;
-      text = λ fits. absurd (omega (arith, is, over, long, fits, h.count, h.same));
-    }
-
 pub digits_counted : (a : List ℕ) (at end : ℕ) (bytes : List ℕ) → end ≡ min (at + 2 * length bytes) (2 ^ 64 - 1) → length a < end → PutsBytes a at a end (encode_lower bytes)
-digits_counted a at end bytes is over =
-    bytes_counted a at end (encode_lower bytes) (omega (arith, is, length-encode_with lower_digits bytes)) over
+digits_counted a at end bytes is over = λ start t h.
+    let long = length-append t (encode_lower bytes) in
+    let twice = length-encode_with lower_digits bytes in
+    record {
+      count = omega (arith, is, long, twice, h.count);
+      same = h.same;
+      text = λ fits. absurd (omega (arith, is, over, long, twice, fits, h.count, h.same));
+    }
 
 pub puts_as : (a : List ℕ) (i : ℕ) (b : List ℕ) (j : ℕ) (xs ys : List ℕ) → xs ≡ ys → PutsBytes a i b j xs → PutsBytes a i b j ys
 puts_as a i b j xs ys e p = subst (λ (l : List ℕ). PutsBytes a i b j l) e p

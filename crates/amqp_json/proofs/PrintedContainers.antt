@@ -1,10 +1,9 @@
 -- One more value or pair of a container in a buffer.
-use Rattle.std.proofs.Common.{◌≡◌, ◌<◌, ◌≤◌, ℕ, List, [], ◌∷◌, ◌++◌, length, false, Some, None, refl, sym, ap, ◌∙◌, subst, append_assoc, arith, length-append}
+use Rattle.std.proofs.Common.{◌≡◌, ◌<◌, ◌≤◌, ℕ, List, [], ◌∷◌, ◌++◌, length, Some, None, refl, sym, ap, ◌∙◌, subst, append_assoc, arith, length-append}
 use Rattle.std.specs.Borrow.{Bor}
 use Rattle.json.specs.Token.{Token, end_array, end_object, key}
 use Rattle.json.specs.Json.{object}
 use Rattle.json.specs.Tree.{json_tokens, items_tokens, members_tokens}
-use Rattle.json.specs.Print.{print, print_from}
 use Rattle.amqp_value_core.specs.Maps.{IsRising}
 use Rattle.amqp_value_core.specs.Values as values
 use Rattle.amqp_value_core.specs.Values.{Tree, Trees, no_trees, tree, Entries, no_entries, entry}
@@ -19,9 +18,9 @@ use Rattle.amqp_in_place.specs.Walks.{ValueStep}
 use Rattle.amqp_in_place.specs.declared.refs.ValueRef.{ValueRef}
 use Rattle.amqp_in_place.specs.declared.refs.ValueRef.TheVariants as at
 use Rattle.amqp_json.specs.declared.printing.place.Place.{Place}
-use Rattle.amqp_json.specs.Printing.{Begins, PutsTokens, PutsJson}
+use Rattle.amqp_json.specs.Printing.{PutsTokens, PutsJson}
 use Rattle.amqp_json.specs.Views.{body_len}
-use Rattle.amqp_json.specs.Written.{written, items_written, members_written, written_key, json_text}
+use Rattle.amqp_json.specs.Written.{written, items_written, members_written, written_key}
 use Rattle.amqp_json.proofs.Printed.{tokens_more}
 
 -- ---- how many bytes are in a container
@@ -113,14 +112,3 @@ left_of _ s rest y = omega (arith, ap length y.2, length-append y.0 rest)
 
 pub left_of_pair : (s k rest : List ℕ) (r : ValueRef) → IsPairViewIn s k r rest → length rest ≤ length s
 left_of_pair s k rest r (after, e, inside) = omega (arith, left_of r after rest inside, ap length e, length-append k after)
-
--- ---- the text of a value, from the start of a buffer
-
-nothing : print [] ≡ []
-unfolding print_from
-nothing = refl
-
-pub text_begins : (old new : List ℕ) (end : Place) (v : Tree) → PutsJson old (record { count = 0; after_value = false }) new end (written v) → Begins old new end.count (json_text v)
-text_begins old new end v puts =
-    let start : Begins old old 0 (print []) = subst (λ (t : List ℕ). Begins old old 0 t) (sym nothing) (record { count = refl; same = refl; text = λ fits. refl }) in
-    (puts old [] (record { text = start; after = refl })).text

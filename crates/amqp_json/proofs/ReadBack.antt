@@ -110,15 +110,7 @@ number_text amqp.LongLongInt n h = signed_text w64 n (omega arith) h
 number_text amqp.Timestamp n h = under_text amqp.Timestamp _ refl (natural_text n h)
 number_text amqp.Float n h = under_text amqp.Float _ refl (digits_text (to_be_bytes w32 n))
 number_text amqp.Double n h = under_text amqp.Double _ refl (digits_text (to_be_bytes w64 n))
-number_text amqp.Boolean n h = absurd h
-number_text amqp.LongLongUInt n h = absurd h
-number_text amqp.DecimalValue n h = absurd h
-number_text amqp.ShortString n h = absurd h
-number_text amqp.LongString n h = absurd h
-number_text amqp.FieldArray n h = absurd h
-number_text amqp.FieldTable n h = absurd h
-number_text amqp.ByteArray n h = absurd h
-number_text amqp.Void n h = absurd h
+number_text _ n h = absurd h
 
 scalar_text : (x : Scalar) → IsScalar x → IsText (scalar_written x)
 scalar_text (values.boolean b) h = record { numbers = tt; utf8 = (IsUtf8-boolean b, tt) }

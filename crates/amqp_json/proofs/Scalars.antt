@@ -1,24 +1,19 @@
 -- Numbers and strings under the names of types.
-use Rattle.std.proofs.Common.{◌≡◌, ℕ, List, ◌∷◌, ◌++◌, length, Option, Some, None, refl}
+use Rattle.std.proofs.Common.{◌≡◌, ℕ, List, ◌∷◌, ◌++◌, length, Option, Some, refl}
 use Rattle.std.specs.Int.{w32, w64, from_be_bytes}
 use Rattle.amqp_value_core.specs.declared.types.amqp_type.AMQPType.{AMQPType}
 use Rattle.amqp_value_core.specs.declared.types.amqp_type.AMQPType.TheVariants as amqp
 use Rattle.amqp_value_core.specs.Layouts.{whole_number}
 use Rattle.amqp_value_core.specs.Values as values
-use Rattle.amqp_value_core.specs.Values.{Tree, scalar, short, long, octets, array, table}
+use Rattle.amqp_value_core.specs.Values.{Tree, scalar}
 use Rattle.amqp_value_core.specs.Grammar.{wire, raw_fixed}
 use Rattle.amqp_json.specs.Meaning.{number_as}
 use Rattle.amqp_json.specs.Puts.{PutsInteger, PutsEncodingOf}
 use Rattle.amqp_json.proofs.Loops.{scalar_put}
 
 integer_put : (P : Tree → Type 0) (old new : List ℕ) (found : Option Tree) → ((v : Tree) → found ≡ Some v → P v) → PutsInteger found old new → PutsEncodingOf P old new
-integer_put P old new None h put = absurd put
 integer_put P old new (Some (scalar x)) h put = scalar_put P old new (scalar x) (x, refl, put.1, put.0) (h (scalar x) refl)
-integer_put P old new (Some (short s)) h put = absurd put
-integer_put P old new (Some (long s)) h put = absurd put
-integer_put P old new (Some (octets s)) h put = absurd put
-integer_put P old new (Some (array vs)) h put = absurd put
-integer_put P old new (Some (table es)) h put = absurd put
+integer_put P old new _ h put = absurd put
 
 pub number_put : (type : AMQPType) (s old new : List ℕ) → PutsInteger (number_as type s) old new → PutsEncodingOf (λ v. number_as type s ≡ Some v) old new
 number_put type s old new = integer_put (λ v. number_as type s ≡ Some v) old new (number_as type s) (λ v h. h)

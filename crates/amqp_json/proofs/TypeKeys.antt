@@ -14,7 +14,7 @@ use Rattle.amqp_json.specs.Names.{type_named}
 use Rattle.amqp_json.specs.Meaning.{is_type_key, value_as, number_as, string_as}
 use Rattle.amqp_json.specs.Puts.{IsLeaf, IsNoLeaf, IsLeafRefusal, IsNamed, IsRefusal, members_at, object_meant, converted}
 use Rattle.amqp_json.specs.declared.error.JsonError.{JsonError}
-use Rattle.amqp_json.specs.declared.error.JsonError.TheVariants.{OutOfMemory, TooLarge, Syntax, TooDeep, NotAValue}
+use Rattle.amqp_json.specs.declared.error.JsonError.TheVariants.{Syntax, TooDeep, NotAValue}
 
 -- beside another member it is none of a table
 beside : (k l : List ℕ) (j i : json.Json) (ms : json.Members) → is_type_key k ≡ true → object_meant (json.member k j (json.member l i ms)) ≡ None
@@ -140,8 +140,7 @@ closer depth ts t (inr (inr (inr e))) = ap (λ k. value depth (token_of k ∷ ts
 
 module _ (type : AMQPType) (name : List ℕ) (known : type_named name ≡ Some type) (t : Token) (ts : List Token) where
   pub leaf_refused : (e : JsonError) → IsLeafRefusal e type t → IsNamed name (t ∷ ts) (λ depth read. IsRefusal depth e object_meant read)
-  leaf_refused OutOfMemory h k depth is same = tt
-  leaf_refused TooLarge h k depth is same = tt
   leaf_refused (Syntax at error) h k depth is same = λ d le. no_value d k is (t ∷ ts) (h d ts)
   leaf_refused (TooDeep at) h k depth is same = absurd h
   leaf_refused (NotAValue at m) h k depth is same = λ d le. no_named d k is (t ∷ ts) (Some type) (ap type_named (sym same) ∙ known) (λ j r at. h d ts r j at)
+  leaf_refused _ h k depth is same = tt

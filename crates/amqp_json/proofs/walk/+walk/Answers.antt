@@ -1,5 +1,5 @@
 use Rattle.std.proofs.Common.{rules, arith, ◌≡◌, ◌<◌, ◌∷◌, [], length, Some, None, option_map, OnOk, ℕ, ◌+◌, ◌-◌, ◌^◌, false, List, ◌++◌, Bor, Option, refl, ap, ◌∙◌, subst}
-use Rattle.std.proofs.lemmas.Result.{on_ok_weaker}
+use Rattle.std.proofs.lemmas.Result.{IfErr-weaker, on_ok_weaker}
 use Rattle.json.specs.Token.{Token}
 use Rattle.json.specs.Json.{value, parse_map, after_end_array, read_key}
 use Rattle.json.proofs.Grammar.{value_is, read_key-shorter, members_no_key}
@@ -11,8 +11,8 @@ use Rattle.amqp_json.specs.Meaning.{meaning, meanings, pairs_of, number_as, tabl
 use Rattle.amqp_json.specs.Puts.{OnMismatch, PutsEncodingOf, IsNamed, IsRead, IsRefusal, items_at, members_at, array_of, object_meant, next_token, converted}
 use Rattle.amqp_json.proofs.Keys.{entry_fits}
 use Rattle.amqp_json.proofs.Turns.{converted-items, array_meant, object_is, table_is}
-use Rattle.amqp_json.proofs.Loops.{PairsLeft, items_first, items_next, items_done, items_none, pairs_first, pairs_next, pairs_done, pair_none, key_none, next_none, array_put, table_put, puts_weaker, scalar_put, long_put}
-use Rattle.amqp_json.proofs.Refusals.{refusal_of, refusal_by, err_weaker, array_refused, object_refused, table_refused, named_refused}
+use Rattle.amqp_json.proofs.Loops.{PairsLeft, items_first, items_next, items_done, items_none, pairs_first, key_is, pairs_next, pairs_done, pair_none, key_none, next_none, array_put, table_put, puts_weaker, scalar_put, long_put}
+use Rattle.amqp_json.proofs.Refusals.{refusal_of, refusal_by, array_refused, object_refused, table_refused, named_refused}
 use Rattle.amqp_json.proofs.TypeKeys.{closer}
 use Rattle.amqp_json.proofs.walk.+walk.Goals as goal
 
@@ -73,50 +73,32 @@ put_pairs-returns-in_default-clause-ok t c =
 
 pub put_pairs-returns-in_err-put_key-clause-refused : goal.put_pairs-returns-in_err-put_key-clause-refused
 put_pairs-returns-in_err-put_key-clause-refused t c =
-    let depth = c.args.depth in
-    let l = c.pairs in
-    let old = c.args.out.now.items in
-    let start = next_token (option_map (λ (b : Bor (List ℕ)). b.now) c.args.first) ∷ c.args.reader.now in
-    let left = subst (λ (n : Option (Bor (List ℕ))). PairsLeft depth start (option_map (λ b. b.now) n) l.reader old l.out.items) c.in-Some.is l.invariant.0 in
-    let refused = key_none depth start old c.in-Some.key.now l.reader l.out.items c.in_err-put_key.field-0.0 left c.in_err-put_key.ensures.refused in
+    let left = key_is _ _ _ _ _ _ _ c.in-Some.is c.pairs.invariant.0 in
+    let refused = key_none _ _ _ _ _ _ c.in_err-put_key.field-0.0 left c.in_err-put_key.ensures.refused in
     search (rules, refused)
 
 pub put_pairs-returns-in_err-put_value-clause-refused : goal.put_pairs-returns-in_err-put_value-clause-refused
 put_pairs-returns-in_err-put_value-clause-refused t c =
-    let depth = c.args.depth in
-    let l = c.pairs in
-    let old = c.args.out.now.items in
-    let start = next_token (option_map (λ (b : Bor (List ℕ)). b.now) c.args.first) ∷ c.args.reader.now in
-    let left = subst (λ (n : Option (Bor (List ℕ))). PairsLeft depth start (option_map (λ b. b.now) n) l.reader old l.out.items) c.in-Some.is l.invariant.0 in
-    let refused = pair_none depth start old c.in-Some.key.now l.reader l.out.items c.in_err-put_value.field-0.0 left c.in_err-put_value.ensures.refused in
+    let left = key_is _ _ _ _ _ _ _ c.in-Some.is c.pairs.invariant.0 in
+    let refused = pair_none _ _ _ _ _ _ c.in_err-put_value.field-0.0 left c.in_err-put_value.ensures.refused in
     search (rules, refused)
 
 pub put_pairs-returns-in_err-next-clause-refused : goal.put_pairs-returns-in_err-next-clause-refused
 put_pairs-returns-in_err-next-clause-refused t c =
-    let depth = c.args.depth in
-    let l = c.pairs in
-    let old = c.args.out.now.items in
-    let r = c.put_value.new.reader in
-    let start = next_token (option_map (λ (b : Bor (List ℕ)). b.now) c.args.first) ∷ c.args.reader.now in
-    let left = subst (λ (n : Option (Bor (List ℕ))). PairsLeft depth start (option_map (λ b. b.now) n) l.reader old l.out.items) c.in-Some.is l.invariant.0 in
-    let none : read_key r ≡ None = c.in_err-next.ensures.value in
-    let refused = next_none depth start old c.in-Some.key.now l.reader l.out.items c.in_err-next.field-0.0 left r c.put_key.new.out.items c.put_value.new.out.items c.in_ok-put_value.ensures.ok none in
+    let left = key_is _ _ _ _ _ _ _ c.in-Some.is c.pairs.invariant.0 in
+    let none : read_key c.put_value.new.reader ≡ None = c.in_err-next.ensures.value in
+    let refused = next_none _ _ _ _ _ _ c.in_err-next.field-0.0 left _ _ _ c.in_ok-put_value.ensures.ok none in
     search (rules, refused)
 
 pub put_pairs-pairs-preserved : goal.put_pairs-pairs-preserved
 put_pairs-pairs-preserved t c =
-    let depth = c.args.depth in
     let l = c.pairs in
-    let k = c.in-Some.key.now in
-    let old = c.args.out.now.items in
-    let r = c.put_value.new.reader in
-    let start = next_token (option_map (λ (b : Bor (List ℕ)). b.now) c.args.first) ∷ c.args.reader.now in
-    let left = subst (λ (n : Option (Bor (List ℕ))). PairsLeft depth start (option_map (λ b. b.now) n) l.reader old l.out.items) c.in-Some.is l.invariant.0 in
+    let left = key_is _ _ _ _ _ _ _ c.in-Some.is l.invariant.0 in
     let key = c.in_ok-put_key.ensures.ok in
     let after = c.in_ok-next.ensures.value in
-    let shorter : length r < length l.reader = c.in_ok-put_value.ensures.shorter in
-    let less = read_key-shorter r _ c.next_key.new.reader after in (
-      pairs_next depth start old k _ l.reader r c.next_key.new.reader l.out.items c.put_key.new.out.items c.put_value.new.out.items left key.2 (entry_fits k key.1 key.2) key.0 c.in_ok-put_value.ensures.ok shorter after,
+    let shorter : length c.put_value.new.reader < length l.reader = c.in_ok-put_value.ensures.shorter in
+    let less = read_key-shorter _ _ c.next_key.new.reader after in (
+      pairs_next _ _ _ _ _ _ _ _ _ _ _ left key.2 (entry_fits c.in-Some.key.now key.1 key.2) key.0 c.in_ok-put_value.ensures.ok shorter after,
       omega (arith, less, shorter, l.invariant.1),
     )
 
@@ -168,7 +150,7 @@ put_value-returns-in-Number-clause-refused t c =
     let s = c.next.new.self in
     let x = c.in-Number.text.now in
     let is : c.args.reader.now ≡ Token.number x ∷ s = search rules in
-    err_weaker c.put_number.result (λ e. OnMismatch e (number_as amqp.LongLongInt x ≡ None)) (λ e. IsRefusal c.args.depth e meaning (λ d. value d c.args.reader.now))
+    IfErr-weaker c.put_number.result (λ e. OnMismatch e (number_as amqp.LongLongInt x ≡ None)) (λ e. IsRefusal c.args.depth e meaning (λ d. value d c.args.reader.now))
     (λ e. refusal_by c.args.depth meaning (λ d. value d c.args.reader.now) e (number_as amqp.LongLongInt x ≡ None)
     (λ h d le. ap (λ ts. converted meaning (value d ts)) is ∙ ap (converted meaning) (value_is d (Token.number x ∷ s)) ∙ ap (option_map (λ u. (u, s))) h)) c.put_number.ensures.refused
 
@@ -195,7 +177,7 @@ put_value-returns-else-depth-eq0-clause-refused t c =
     let s = c.next.new.self in
     let some : 0 < c.args.depth = search rules in
     let is : c.args.reader.now ≡ Token.begin_array ∷ s = search rules in
-    err_weaker c.put_array.result (λ e. IsRefusal (c.args.depth - 1) e meanings (λ d. items_at d s)) (λ e. IsRefusal c.args.depth e meaning (λ d. value d c.args.reader.now))
+    IfErr-weaker c.put_array.result (λ e. IsRefusal (c.args.depth - 1) e meanings (λ d. items_at d s)) (λ e. IsRefusal c.args.depth e meaning (λ d. value d c.args.reader.now))
     (λ e h. array_refused c.args.depth c.args.reader.now s e some is h) c.put_array.ensures.refused
 
 pub put_value-returns-else-depth-eq0-2-clause-ok : goal.put_value-returns-else-depth-eq0-2-clause-ok
@@ -212,7 +194,7 @@ put_value-returns-else-depth-eq0-2-clause-refused t c =
     let s = c.next.new.self in
     let some : 0 < c.args.depth = search rules in
     let is : c.args.reader.now ≡ Token.begin_object ∷ s = search rules in
-    err_weaker c.put_object.result (λ e. IsRefusal (c.args.depth - 1) e object_meant (λ d. members_at d s)) (λ e. IsRefusal c.args.depth e meaning (λ d. value d c.args.reader.now))
+    IfErr-weaker c.put_object.result (λ e. IsRefusal (c.args.depth - 1) e object_meant (λ d. members_at d s)) (λ e. IsRefusal c.args.depth e meaning (λ d. value d c.args.reader.now))
     (λ e h. object_refused c.args.depth c.args.reader.now s e some is h) c.put_object.ensures.refused
 
 pub put_object-returns-in_err-put_pairs-clause-refused : goal.put_object-returns-in_err-put_pairs-clause-refused
@@ -243,7 +225,7 @@ put_object-returns-in-Some-clause-refused t c =
     let o = option_map (λ (b : Bor (List ℕ)). b.now) c.in_ok-first.first in
     let name = c.in-Some.name.now in
     let (k, is, type, same) = c.in-Some.ensures in
-    err_weaker c.put_named.result (λ e. IsNamed name mid (λ depth read. IsRefusal depth e object_meant read)) (λ e. IsRefusal c.args.depth e object_meant (λ d. members_at d s))
+    IfErr-weaker c.put_named.result (λ e. IsNamed name mid (λ depth read. IsRefusal depth e object_meant read)) (λ e. IsRefusal c.args.depth e object_meant (λ d. members_at d s))
     (named_refused c.args.depth s mid o k name c.in_ok-first.ensures.value is type same) c.put_named.ensures.refused
 
 pub put_value-returns-in-EndArray-clause-refused : goal.put_value-returns-in-EndArray-clause-refused
