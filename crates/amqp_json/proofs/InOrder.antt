@@ -13,7 +13,7 @@ use Rattle.amqp_value_core.specs.Texts.{text, Fits}
 use Rattle.amqp_value_core.proofs.GrammarLaws.{no_empty_wire, same_large, one_key, one_reading, canon_rises, rising_mean, text_is_canon, what_is_read, read_is_value, found_prefix}
 use Rattle.amqp_in_place.specs.Written.{written, raw_written, values_written, pairs_written}
 use Rattle.amqp_json.specs.Ascending.{Ascends, AllAscend, EntriesAscend, InOrder, OutOfOrder}
-use Rattle.amqp_json.proofs.Ascents.{written_rises}
+use Rattle.amqp_json.proofs.AscendingKeys.{written_rises}
 
 -- ---- an encoding is written in one way
 

@@ -1,21 +1,19 @@
-pub mod Keys
-pub mod Turns
-pub mod Refusals
-pub mod Loops
-pub mod TypeKeys
-pub mod Scalars
+-- Lemmas on the JSON of values. A folder is for a module of src/, and has the proofs of its functions.
+
+-- reading a text
 pub mod Integers
-pub mod Ends
-pub mod Back
-pub mod ReadBack
-pub mod Encoded
-pub mod Bytes
-pub mod Plain
+pub mod ObjectKeys
+pub mod MeantContainers
+pub mod Refusals
+pub mod PutEncodings
+pub mod Encodings
+-- writing one
+pub mod Escapes
 pub mod Printed
-pub mod PrintedContainers
-pub mod Rising
 pub mod Sorting
-pub mod Ascents
-pub mod Again
-pub mod Decoded
+pub mod AscendingKeys
 pub mod InOrder
+pub mod PrintedTexts
+-- what is written is read back
+pub mod ValueRoundTrip
+pub mod TextRoundTrip

@@ -1,22 +1,40 @@
--- Bytes and tokens after others in a buffer.
-use Rattle.std.proofs.Common.{◌≡◌, Bool, ℕ, zero, suc, min, ◌+◌, ◌-◌, ◌<◌, ◌/◌, ◌%◌, List, [], ◌∷◌, ◌*◌, ◌^◌, ◌++◌, length, take, drop, length-append, get_or, refl, sym, ap, ◌∙◌, subst, false, true, cond, append_assoc, append-nil, arith, decimal}
-use Rattle.std.specs.List.{slice_index, prefix_len}
-use Rattle.std.specs.Char.{digit_value}
-use Rattle.std.specs.Str.Parse.{AllDigits}
-use Rattle.std.proofs.lemmas.Fmt.{decimal_is_IsNumeral}
+-- Bytes, tokens, values and pairs that are put after others in a buffer.
+use Rattle.std.proofs.Common.{◌≡◌, Bool, ℕ, min, ◌+◌, ◌-◌, ◌<◌, List, [], ◌∷◌, ◌*◌, ◌^◌, ◌++◌, length, length-append, refl, sym, ap, ◌∙◌, subst, false, true, append_assoc, arith, ◌≤◌, Some, None}
 use Rattle.hex.proofs.HexLemmas.{length-encode_with}
-use Rattle.hex.specs.Hex.{lower_digits, encode_with, encode_lower, IsBytes}
-use Rattle.json.specs.Run.{is_plain}
-use Rattle.json.specs.Token.{Token, key}
-use Rattle.json.specs.Print.{escape_byte, escape, print, ends, separator, token_text}
-use Rattle.json.proofs.Printed.Strings.{escape_byte_plain, escape_to_stop, escape_at, escape_end}
+use Rattle.hex.specs.Hex.{lower_digits, encode_lower}
+use Rattle.json.specs.Token.{Token, key, end_array, end_object}
+use Rattle.json.specs.Print.{print, ends, separator, token_text}
 use Rattle.json.proofs.Printed.Tokens.{print_from_push, ends_push}
-use Rattle.amqp_json.specs.declared.printing.place.Place.{Place}
-use Rattle.amqp_json.specs.Printing.{Begins, PutsBytes, AreTokensPrinted, PutsTokens}
-use Rattle.amqp_json.specs.Written.{is_marked, decimal_text, written_key}
+use Rattle.amqp_json.specs.declared.printing.Place.{Place}
+use Rattle.amqp_json.specs.Printing.{Begins, PutsBytes, AreTokensPrinted, PutsTokens, PutsJson, body_len}
+use Rattle.amqp_json.specs.Written.{written_key, under, long_written, written, items_written, members_written}
+use Rattle.std.specs.Str.{IsUtf8, is_utf8}
+use Rattle.std.proofs.lemmas.Str.{IsUtf8-from_is_utf8, is_utf8-from_IsUtf8}
+use Rattle.json.specs.Json.{string, object}
+use Rattle.amqp_value_core.specs.declared.types.amqp_type.AMQPType.TheVariants as amqp
+use Rattle.std.specs.Borrow.{Bor}
+use Rattle.json.specs.Tree.{json_tokens, items_tokens, members_tokens}
+use Rattle.amqp_value_core.specs.Maps.{IsRising}
+use Rattle.amqp_value_core.specs.Values as values
+use Rattle.amqp_value_core.specs.Values.{Tree, Trees, no_trees, tree, Entries, no_entries, entry}
+use Rattle.amqp_value_core.specs.Grammar.{Wire, wire, ArrayBody}
+use Rattle.amqp_value_core.proofs.GrammarLaws.{one_mean, rising_mean}
+use Rattle.amqp_in_place.specs.declared.refs.ArrayRef.{ArrayRef}
+use Rattle.amqp_in_place.specs.declared.refs.TableRef.{TableRef}
+use Rattle.amqp_in_place.specs.Refs.{array_body, table_body, Denotes}
+use Rattle.amqp_in_place.specs.Places.{IsViewIn, IsPairViewIn}
+use Rattle.amqp_in_place.specs.Bodies.{HasEntries}
+use Rattle.amqp_in_place.specs.Walks.{ValueStep}
+use Rattle.amqp_in_place.specs.declared.refs.ValueRef.{ValueRef}
+use Rattle.amqp_in_place.specs.declared.refs.ValueRef.TheVariants as viewed
+
+-- ---- bytes and tokens
 
 pub puts_more : (a b c : List ℕ) (i j k : ℕ) (xs ys : List ℕ) → PutsBytes a i b j xs → PutsBytes b j c k ys → PutsBytes a i c k (xs ++ ys)
 puts_more a b c i j k xs ys p q = λ start t h. subst (λ (u : List ℕ). Begins start c k u) (append_assoc t xs ys) (q start (t ++ xs) (p start t h))
+
+pub puts_as : (a : List ℕ) (i : ℕ) (b : List ℕ) (j : ℕ) (xs ys : List ℕ) → xs ≡ ys → PutsBytes a i b j xs → PutsBytes a i b j ys
+puts_as a i b j xs ys e p = subst (λ (l : List ℕ). PutsBytes a i b j l) e p
 
 pub tokens_more : (a b c : List ℕ) (p q r : Place) (us vs : List Token) → PutsTokens a p b q us → PutsTokens b q c r vs → PutsTokens a p c r (us ++ vs)
 tokens_more a b c p q r us vs x y = λ start ts h. subst (λ (ws : List Token). AreTokensPrinted start c r ws) (append_assoc ts us vs) (y start (ts ++ us) (x start ts h))
@@ -27,55 +45,7 @@ token_put a b c p r at t x y e = λ start ts h.
     let same : print ts ++ (separator p.after_value t ++ token_text t) ≡ print (ts ++ t ∷ []) = ap (λ b. print ts ++ (separator b t ++ token_text t)) h.after ∙ sym (print_from_push false ts t) in
     record { text = subst (λ (u : List ℕ). Begins start c r.count u) same both; after = e ∙ sym (ends_push false ts t) }
 
--- ---- hexadecimal digits need no escape
-
-abbrev ArePlain : List ℕ → Type 0
-ArePlain [] = Unit {0}
-ArePlain (d ∷ ds) = (escape_byte d ≡ d ∷ []) × ArePlain ds
-
-digits_are : ArePlain lower_digits
-unfolding escape_byte
-digits_are = (refl, (refl, (refl, (refl, (refl, (refl, (refl, (refl, (refl, (refl, (refl, (refl, (refl, (refl, (refl, (refl, tt))))))))))))))))
-
-plain_at : (ds : List ℕ) (n : ℕ) → ArePlain ds → n < length ds → escape_byte (slice_index ds n) ≡ slice_index ds n ∷ []
-plain_at [] n h less = absurd (omega (arith, less))
-plain_at (d ∷ ds) zero h less = h.0
-plain_at (d ∷ ds) (suc n) h less = plain_at ds n h.1 (omega (arith, less))
-
-two_digits : (x y : ℕ) (r : List ℕ) → escape_byte x ≡ x ∷ [] → escape_byte y ≡ y ∷ [] → escape r ≡ r → escape (x ∷ y ∷ r) ≡ x ∷ y ∷ r
-two_digits x y r p q e = rw (p, q, e) refl
-
-pub digits_plain : (bytes : List ℕ) → IsBytes bytes → escape (encode_lower bytes) ≡ encode_lower bytes
-unfolding encode_with
-digits_plain [] h = refl
-digits_plain (b ∷ bs) h =
-    let high : b / 16 < 16 = omega (arith, h 0) in
-    let low : b % 16 < 16 = omega arith in
-    two_digits (slice_index lower_digits (b / 16)) (slice_index lower_digits (b % 16)) (encode_lower bs) (plain_at lower_digits (b / 16) digits_are high) (plain_at lower_digits (b % 16) digits_are low)
-    (digits_plain bs (λ i. h (suc i)))
-
--- ---- a text with its escapes
-
-pub escaped_end : (text done whole : List ℕ) (from stop : ℕ) → stop ≡ from + prefix_len is_plain (drop from text) → stop ≡ length text → done ++ escape (drop from text) ≡ whole
-    → done ++ take (stop - from) (drop from text) ≡ whole
-escaped_end text done whole from stop is end e =
-    let part = take (stop - from) (drop from text) in
-    ap (λ l. done ++ l)
-    (sym (append-nil part) ∙ ap (λ l. part ++ l) (sym (escape_end text stop [] (omega (arith, end)))) ∙ sym (escape_to_stop text from stop [] is) ∙ append-nil (escape (drop from text)))
-    ∙ e
-
-pub escaped_more : (text done whole : List ℕ) (from stop : ℕ) → stop ≡ from + prefix_len is_plain (drop from text) → stop < length text → done ++ escape (drop from text) ≡ whole
-    → ((done ++ take (stop - from) (drop from text)) ++ escape_byte (get_or text stop 0)) ++ escape (drop (stop + 1) text) ≡ whole
-escaped_more text done whole from stop is less e =
-    let part = take (stop - from) (drop from text) in
-    let byte = escape_byte (get_or text stop 0) in
-    let rest = escape (drop (stop + 1) text) in
-    append_assoc (done ++ part) byte rest ∙ append_assoc done part (byte ++ rest)
-    ∙ ap (λ l. done ++ (part ++ l)) (ap (λ l. byte ++ l) (sym (append-nil rest)) ∙ sym (escape_at text stop [] less))
-    ∙ ap (λ l. done ++ l) (sym (escape_to_stop text from stop [] is) ∙ append-nil (escape (drop from text))) ∙ e
-
--- ---- bytes that a buffer isn't large enough for
-
+-- hexadecimal digits that a buffer isn't large enough for
 pub digits_counted : (a : List ℕ) (at end : ℕ) (bytes : List ℕ) → end ≡ min (at + 2 * length bytes) (2 ^ 64 - 1) → length a < end → PutsBytes a at a end (encode_lower bytes)
 digits_counted a at end bytes is over = λ start t h.
     let long = length-append t (encode_lower bytes) in
@@ -86,32 +56,106 @@ digits_counted a at end bytes is over = λ start t h.
       text = λ fits. absurd (omega (arith, is, over, long, twice, fits, h.count, h.same));
     }
 
-pub puts_as : (a : List ℕ) (i : ℕ) (b : List ℕ) (j : ℕ) (xs ys : List ℕ) → xs ≡ ys → PutsBytes a i b j xs → PutsBytes a i b j ys
-puts_as a i b j xs ys e p = subst (λ (l : List ℕ). PutsBytes a i b j l) e p
+-- ---- long strings
 
--- ---- a decimal needs no escape
+-- a long string that is UTF-8 is that string
+pub text_is_plain : (s : List ℕ) → IsUtf8 s → long_written s ≡ string s
+text_is_plain s h = rw (is_utf8-from_IsUtf8 s h)
 
-plain_digit : (c : ℕ) → digit_value c < 10 → escape_byte c ≡ c ∷ []
-plain_digit c h = escape_byte_plain c (λ e. grind (arith)) (λ e. grind (arith)) (grind arith)
+known : (s : List ℕ) (b : Bool) → is_utf8 s ≡ b → (IsUtf8 s → ⊥) → b ≡ false
+known s true e h = absurd (h (IsUtf8-from_is_utf8 s e))
+known s false e h = refl
 
-plain_numeral : (ds rest : List ℕ) → AllDigits 10 ds → escape rest ≡ rest → escape (ds ++ rest) ≡ ds ++ rest
-plain_numeral [] rest h e = e
-plain_numeral (c ∷ ds) rest h e = rw (plain_digit c h.0, plain_numeral ds rest h.1 e) refl
+-- and one that isn't is in hexadecimal
+pub bytes_are_named : (s : List ℕ) → (IsUtf8 s → ⊥) → long_written s ≡ under amqp.LongString (string (encode_lower s))
+bytes_are_named s h = rw (known s (is_utf8 s) refl h)
 
-e_and_minus : (rest : List ℕ) → escape rest ≡ rest → escape (101 ∷ 45 ∷ rest) ≡ 101 ∷ 45 ∷ rest
-e_and_minus rest e = rw (escape_byte_plain 101 (λ e. omega (arith, e)) (λ e. omega (arith, e)) (omega arith), escape_byte_plain 45 (λ e. omega (arith, e)) (λ e. omega (arith, e)) (omega arith), e) refl
+-- ---- how many bytes are in a container
 
-pub decimal_plain : (scale n : ℕ) → scale < 2 ^ 64 → n < 2 ^ 64 → escape (decimal_text scale n) ≡ decimal_text scale n
-decimal_plain scale n few less =
-    let second : escape (decimal scale) ≡ decimal scale = ap escape (sym (append-nil (decimal scale))) ∙ plain_numeral (decimal scale) [] (decimal_is_IsNumeral scale few).0.1 refl ∙ append-nil (decimal scale) in
-    plain_numeral (decimal n) (101 ∷ 45 ∷ decimal scale) (decimal_is_IsNumeral n less).0.1 (e_and_minus (decimal scale) second)
+plain_len : (s rest w : List ℕ) (v : Tree) → Wire w v → s ≡ w ++ rest → 0 < length s
+plain_len s rest _ v (wire c type b _ is raw) e = omega (arith, ap length e)
 
--- ---- a key with one more `$`
+-- fewer than the bytes that it is at the start of
+pub body_shorter : (r : ValueRef) (s rest : List ℕ) → IsViewIn s r rest → body_len r < length s
+body_shorter (viewed.FieldArray a) s rest (c, k, few, e) = omega (arith, ap length e, length-append (array_body a) rest)
+body_shorter (viewed.FieldTable t) s rest (c, k, few, e) = omega (arith, ap length e, length-append (table_body t) rest)
+body_shorter (viewed.LongString b) s rest (c, k, few, e) = omega (arith, ap length e)
+body_shorter (viewed.ByteArray b) s rest (c, k, few, e) = omega (arith, ap length e)
+body_shorter _ s rest y = plain_len s rest y.0 _ y.1 y.2
 
-marked : (k : List ℕ) (b : Bool) → is_marked k ≡ b → cond b (34 ∷ 36 ∷ []) (34 ∷ []) ++ (escape k ++ 34 ∷ 58 ∷ []) ≡ 34 ∷ (escape (cond b (36 ∷ k) k) ++ 34 ∷ 58 ∷ [])
-unfolding escape_byte
-marked k true e = refl
-marked k false e = refl
+pub pair_shorter : (s k rest : List ℕ) (r : ValueRef) → IsPairViewIn s k r rest → body_len r < length s
+pair_shorter s k rest r (after, e, inside) = omega (arith, body_shorter r after rest inside, ap length e, length-append k after)
 
-pub key_text : (k : List ℕ) → cond (is_marked k) (34 ∷ 36 ∷ []) (34 ∷ []) ++ (escape k ++ 34 ∷ 58 ∷ []) ≡ token_text (key (written_key k))
-key_text k = marked k (is_marked k) refl ∙ ap (λ (l : List ℕ). 34 ∷ l) (sym (append_assoc (escape (written_key k)) (34 ∷ []) (58 ∷ [])))
+-- ---- an array
+
+pub item_put : (a : List ℕ) (p : Place) (b : List ℕ) (q : Place) (c : List ℕ) (r : Place) (done target : List Token) (rest : Trees) (x : ValueRef) (left : List ℕ) → ValueStep rest (Some x) left
+    → PutsTokens a p b q done → ((v : Tree) → Denotes x v → PutsJson b q c r (written v)) → done ++ items_tokens (items_written rest) ≡ target
+    → (more : List Token) × (ys : Trees) × ArrayBody left ys × PutsTokens a p c r more × (more ++ items_tokens (items_written ys) ≡ target)
+item_put a p b q c r done target no_trees x left step put puts e = absurd step
+item_put a p b q c r done target (tree v vs) x left step put puts e =
+    let value = json_tokens (written v) in
+    let more = items_tokens (items_written vs) in
+    (done ++ value, vs, step.1, tokens_more a b c p q r done value put (puts v step.0), append_assoc done value more ∙ e)
+
+pub items_end : (a : List ℕ) (p : Place) (b : List ℕ) (q : Place) (c : List ℕ) (r : Place) (done target : List Token) (rest : Trees) (left : List ℕ) → ValueStep rest None left
+    → PutsTokens a p b q done → PutsTokens b q c r (end_array ∷ []) → done ++ items_tokens (items_written rest) ≡ target → PutsTokens a p c r target
+items_end a p b q c r done target no_trees left step put puts e = subst (λ (ts : List Token). PutsTokens a p c r ts) e (tokens_more a b c p q r done (end_array ∷ []) put puts)
+items_end a p b q c r done target (tree v vs) left step put puts e = absurd step
+
+-- ---- a table: S is so of the entries that are left, and R of those after the first
+
+pub pair_put : (S R : Entries → Type 0) (a : List ℕ) (p : Place) (b : List ℕ) (q : Place) (d : List ℕ) (m : Place) (c : List ℕ) (r : Place) (done target : List Token) (rest : Entries) (x : Bor (List ℕ) × ValueRef)
+    → (S no_entries → ⊥) → ((k : List ℕ) (v : Tree) (es : Entries) → S (entry k v es) → (x.0.now ≡ k) × Denotes x.1 v × R es)
+    → S rest → PutsTokens a p b q done → PutsTokens b q d m (key (written_key x.0.now) ∷ []) → ((v : Tree) → Denotes x.1 v → PutsJson d m c r (written v))
+    → done ++ members_tokens (members_written rest) ≡ target
+    → (more : List Token) × (ys : Entries) × R ys × PutsTokens a p c r more × (more ++ members_tokens (members_written ys) ≡ target)
+pair_put S R a p b q d m c r done target no_entries x none first is put keyed puts e = absurd (none is)
+pair_put S R a p b q d m c r done target (entry k v es) x none first is put keyed puts e =
+    let step = first k v es is in
+    let value = json_tokens (written v) in
+    let more = members_tokens (members_written es) in
+    let name = key (written_key k) in
+    let named : PutsTokens b q d m (name ∷ []) = subst (λ (j : List ℕ). PutsTokens b q d m (key (written_key j) ∷ [])) step.0 keyed in (
+      done ++ name ∷ value,
+      es,
+      step.2,
+      tokens_more a b c p q r done (name ∷ value) put (tokens_more b d c q m r (name ∷ []) value named (puts v step.1)),
+      append_assoc done (name ∷ value) more ∙ e,
+    )
+
+pub pairs_end : (S : Entries → Type 0) (a : List ℕ) (p : Place) (b : List ℕ) (q : Place) (c : List ℕ) (r : Place) (done target : List Token) (rest : Entries)
+    → ((k : List ℕ) (v : Tree) (es : Entries) → S (entry k v es) → ⊥)
+    → S rest → PutsTokens a p b q done → PutsTokens b q c r (end_object ∷ []) → done ++ members_tokens (members_written rest) ≡ target → PutsTokens a p c r target
+pairs_end S a p b q c r done target no_entries some is put puts e = subst (λ (ts : List Token). PutsTokens a p c r ts) e (tokens_more a b c p q r done (end_object ∷ []) put puts)
+pairs_end S a p b q c r done target (entry k v es) some is put puts e = absurd (some k v es is)
+
+-- if the keys ascend, the entries are the pairs
+pub pairs_are_entries : (a : List ℕ) (p : Place) (c : List ℕ) (e : Place) (s : List ℕ) (es : Entries) (has : HasEntries s es) → IsRising has.0 → PutsJson a p c e (object (members_written has.0)) → PutsJson a p c e (object (members_written es))
+pairs_are_entries a p c e s es (ps, body, mean) rises puts =
+    subst (λ (xs : Entries). PutsJson a p c e (object (members_written xs))) (sym (one_mean ps ps es ps refl mean (rising_mean ps rises))) puts
+
+-- ---- a value that is a container
+
+pub array_put : (a : List ℕ) (p : Place) (c : List ℕ) (e : Place) (r : ValueRef) (x : ArrayRef) → r ≡ viewed.FieldArray x
+    → ((vs : Trees) → ArrayBody (array_body x) vs → PutsJson a p c e (written (values.array vs))) → (v : Tree) → Denotes r v → PutsJson a p c e (written v)
+array_put a p c e r x is puts v denotes =
+    let means : Denotes (viewed.FieldArray x) v = subst (λ (y : ValueRef). Denotes y v) is denotes in
+    subst (λ (u : Tree). PutsJson a p c e (written u)) (sym means.2) (puts means.0 means.1)
+
+pub table_put : (a : List ℕ) (p : Place) (c : List ℕ) (e : Place) (r : ValueRef) (x : TableRef) → r ≡ viewed.FieldTable x
+    → ((es : Entries) → HasEntries (table_body x) es → PutsJson a p c e (object (members_written es))) → (v : Tree) → Denotes r v → PutsJson a p c e (written v)
+table_put a p c e r x is puts v denotes =
+    let means : Denotes (viewed.FieldTable x) v = subst (λ (y : ValueRef). Denotes y v) is denotes in
+    subst (λ (u : Tree). PutsJson a p c e (written u)) (sym means.2) (puts means.0 means.1)
+
+-- ---- what is left is no longer
+
+pub left_of : (r : ValueRef) (s rest : List ℕ) → IsViewIn s r rest → length rest ≤ length s
+left_of (viewed.FieldArray a) s rest (c, k, few, e) = omega (arith, ap length e, length-append (array_body a) rest)
+left_of (viewed.FieldTable t) s rest (c, k, few, e) = omega (arith, ap length e, length-append (table_body t) rest)
+left_of (viewed.LongString b) s rest (c, k, few, e) = omega (arith, ap length e, length-append b.now rest)
+left_of (viewed.ByteArray b) s rest (c, k, few, e) = omega (arith, ap length e, length-append b.now rest)
+left_of _ s rest y = omega (arith, ap length y.2, length-append y.0 rest)
+
+pub left_of_pair : (s k rest : List ℕ) (r : ValueRef) → IsPairViewIn s k r rest → length rest ≤ length s
+left_of_pair s k rest r (after, e, inside) = omega (arith, left_of r after rest inside, ap length e, length-append k after)

@@ -9,7 +9,7 @@ use Rattle.amqp_json.specs.declared.error.JsonError.{JsonError}
 use Rattle.amqp_json.specs.declared.error.JsonError.TheVariants.{Syntax, TooDeep, NotAValue}
 use Rattle.amqp_json.specs.Puts.{OnMismatch, IsNamed, IsRefusal, items_at, members_at, object_meant, next_token, converted}
 use Rattle.amqp_json.specs.Meaning.{is_type_key, meaning, meanings, pairs_of, table_of}
-use Rattle.amqp_json.proofs.Turns.{converted-items, array_meant, object_is, table_is, next_is}
+use Rattle.amqp_json.proofs.MeantContainers.{converted-items, array_meant, object_is, table_is, next_is}
 
 module _ {A B : Type 0} (depth : ℕ) (f : A → Option B) (read : ℕ → Option (A × List Token)) where
   -- nothing is read

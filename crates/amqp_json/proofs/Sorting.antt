@@ -14,8 +14,7 @@ use Rattle.amqp_in_place.specs.Bodies.{HasEntries}
 use Rattle.amqp_in_place.specs.Refs.{Denotes}
 use Rattle.amqp_in_place.specs.Walks.{PairStep}
 use Rattle.std.specs.Prelude.{Some, None}
-use Rattle.amqp_json.specs.Sorting.{References, AreSmaller, Refer}
-use Rattle.amqp_json.specs.Views.{body_len}
+use Rattle.amqp_json.specs.Printing.{References, AreSmaller, Refer, body_len}
 
 -- the order of keys
 abbrev compared : Bor (List ℕ) → Bor (List ℕ) → Ordering

@@ -1,5 +1,4 @@
 -- What a JSON text means, and what is written for a value.
-pub mod Names
 pub mod Meaning
 pub mod Written
 -- What the calls' clauses say.
@@ -9,4 +8,3 @@ pub mod Conversions
 pub mod Puts
 pub mod Printing
 pub mod Views
-pub mod Sorting

@@ -6,8 +6,8 @@
 -- at the start of one of its keys stands for `$`.
 --
 -- Strings and keys are without JSON's escapes here. A number is its text. (36 is `$`, 45 is `-`, 101 is `e`.)
-use Rattle.std.specs.Prelude.{ℕ, ℤ, ◌^◌, ◌&&◌, ◌||◌, ◌==◌, List, drop, length, decimal as unsigned_decimal, slice_index, Bool, not, nat_lt, if◌then◌else◌, Option, Some, None, option_map, option_and_then}
-use Rattle.std.specs.List.{before_first, after_first}
+use Rattle.std.specs.Prelude.{ℕ, ℤ, ◌^◌, ◌&&◌, ◌||◌, ◌==◌, List, drop, length, decimal as unsigned_decimal, slice_index, Bool, not, nat_lt, if◌then◌else◌, Option, Some, None, option_map, option_and_then, [], ◌∷◌}
+use Rattle.std.specs.List.{before_first, after_first, find}
 use Rattle.std.specs.Result.{result_ok}
 use Rattle.std.specs.Str.{bytes_eq}
 use Rattle.std.specs.Str.Parse.{digits_value, signed_digits_value}
@@ -23,7 +23,30 @@ use Rattle.amqp_value_core.specs.Json.{is_within}
 use Rattle.amqp_value_core.specs.Values as values
 use Rattle.amqp_value_core.specs.Values.{Tree, scalar, long, octets, table, Trees, no_trees, tree, Entries, no_entries, entry}
 use Rattle.amqp_value_core.specs.Maps.{insert_all}
-use Rattle.amqp_json.specs.Names.{type_named}
+use Rattle.amqp_value_core.specs.Names.{name_of}
+
+-- the types that a type key can name. The others have JSON of their own, or are never the type of a value that is read. A
+-- LongLongInt, and a LongString of UTF-8, are written without a type key, and read with one too
+abbrev pub named_types : List AMQPType
+named_types =
+    amqp.ShortShortInt
+    ∷ amqp.ShortShortUInt
+    ∷ amqp.ShortInt
+    ∷ amqp.ShortUInt
+    ∷ amqp.LongInt
+    ∷ amqp.LongUInt
+    ∷ amqp.LongLongInt
+    ∷ amqp.Float
+    ∷ amqp.Double
+    ∷ amqp.DecimalValue
+    ∷ amqp.LongString
+    ∷ amqp.Timestamp
+    ∷ amqp.ByteArray
+    ∷ []
+
+-- the one of these types that has the name
+abbrev pub type_named : List ℕ → Option AMQPType
+type_named name = find (λ type. bytes_eq name (name_of type)) named_types
 
 -- whether a key begins with exactly one `$`, as `$` alone does too (past the end `slice_index` is 0)
 abbrev pub is_type_key : List ℕ → Bool

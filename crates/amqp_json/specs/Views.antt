@@ -1,9 +1,8 @@
 -- Values that were read in place.
 use Rattle.std.specs.Prelude.{ℕ, ◌≡◌, ◌≤◌, List, ◌++◌, length, drop}
 use Rattle.amqp_in_place.specs.declared.refs.ValueRef.{ValueRef}
-use Rattle.amqp_in_place.specs.declared.refs.ValueRef.TheVariants as at
 use Rattle.amqp_in_place.specs.Places.{IsViewIn}
-use Rattle.amqp_in_place.specs.Refs.{Denotes, array_body, table_body}
+use Rattle.amqp_in_place.specs.Refs.{Denotes}
 use Rattle.amq_protocol_types.specs.declared.parsing.within.Limits.{Limits}
 use Rattle.amq_protocol_types.specs.parsing.Limits.{Within}
 use Rattle.amqp_value_core.specs.Bytes.{IsBytes}
@@ -12,12 +11,6 @@ use Rattle.amqp_value_core.specs.Texts.{text}
 use Rattle.amqp_value_core.specs.Values.{Tree}
 use Rattle.amqp_json.specs.Conversions.{IsOrderedJsonOf}
 use Rattle.amqp_json.specs.Written.{HasJson, counted}
-
--- how many bytes are in a container
-abbrev pub body_len : ValueRef → ℕ
-body_len (at.FieldArray a) = length (array_body a)
-body_len (at.FieldTable t) = length (table_body t)
-body_len _ = 0
 
 -- the view is of a value that has a JSON text
 abbrev pub HasText : ValueRef → Type 0

@@ -95,7 +95,7 @@ pub fn from_json(alloc: Global, json: &str) -> Result<AMQPValue, JsonError>
 }
 
 // The canonical encoding of the value of an encoding.
-#[tactic(auto, using(crate::proofs::Ends::encoded_again))]
+#[tactic(auto, using(crate::proofs::Encodings::encoded_again))]
 fn canonical_of(alloc: Global, bytes: Vec<u8>) -> Result<Vec<u8>, JsonError>
     ensures ok { IfOk result (λ out. (v : Tree) → Wire bytes.items v → out.items ≡ text v) }
     ensures encodes { IfOk result (λ out. (v : Tree) → Wire bytes.items v → Wire out.items v) }
@@ -113,7 +113,7 @@ fn canonical_of(alloc: Global, bytes: Vec<u8>) -> Result<Vec<u8>, JsonError>
 }
 
 // The value of an encoding.
-#[tactic(auto, using(crate::proofs::Ends::same_value))]
+#[tactic(auto, using(crate::proofs::Encodings::same_value))]
 fn value_of(alloc: Global, bytes: Vec<u8>) -> Result<AMQPValue, JsonError>
     ensures ok { IfOk result (λ u. (v : Tree) → Wire bytes.items v → v ≡ view u) }
     ensures refused { IfErr result (λ e. (most : ℕ) (t : List ℕ) → IsRefusedWithin most e t) }

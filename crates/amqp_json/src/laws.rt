@@ -12,19 +12,19 @@ ghost use Rattle.amqp_json.specs.Meaning.{meaning, meant};
 ghost use Rattle.amqp_json.specs.Written.{written, HasJson, json_text, MeansIfShallow};
 
 /// What is written for a value means the value.
-#[tactic(auto, using(crate::proofs::Back::read_back))]
+#[tactic(auto, using(crate::proofs::ValueRoundTrip::read_back))]
 pub fn read_back()
     ensures { (v : Tree) → HasJson v → meaning (written v) ≡ Some v }
 {}
 
 /// The text of a value is read as the value, if the text nests at most 127 deep.
-#[tactic(auto, using(crate::proofs::ReadBack::text_is_read))]
+#[tactic(auto, using(crate::proofs::TextRoundTrip::text_is_read))]
 pub fn text_read_back()
     ensures { (v : Tree) → HasJson v → MeansIfShallow (json_text v) v }
 {}
 
 /// Each value that is encoded has a text.
-#[tactic(auto, using(crate::proofs::Encoded::has_json))]
+#[tactic(auto, using(crate::proofs::Encodings::has_json))]
 pub fn encoded_has_json()
     ensures { (w : List ℕ) (v : Tree) → IsBytes w → Wire w v → HasJson v }
 {}

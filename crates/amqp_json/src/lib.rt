@@ -5,11 +5,9 @@
 mod decode;
 mod encode;
 mod error;
-mod key;
+mod keys;
 pub mod laws;
 mod named;
-mod names;
-mod numerals;
 mod printing;
 mod put;
 mod syntax;

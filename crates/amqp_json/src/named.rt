@@ -1,24 +1,23 @@
-//! Numbers and strings, as values of named types.
+//! Numbers and strings, as values of named types, and integers of their decimal texts.
 
 // The tactics at the functions name the lemmas that clauses are proved by.
 
-ghost use Rattle.std.specs.Prelude.{◌≡◌, ◌≢◌, Some, None, OnOk, IfOk, IfErr, MatchOption, option_map};
+ghost use Rattle.std.specs.Prelude.{◌≡◌, ◌≢◌, Some, None, OnOk, IfOk, IfErr, IfSome, MatchOption, option_map};
 ghost use Rattle.std.specs.Result.{result_ok};
 ghost use Rattle.hex.specs.Hex.{decode_of};
-ghost use Rattle.amqp_value_core.specs.Values.{scalar, decimal};
-ghost use Rattle.amqp_json.specs.Meaning.{number_as, string_as, decimal_of};
-ghost use Rattle.amqp_json.specs.Puts.{PutsEncodingOf, OnMismatch};
-ghost use Rattle.amqp_json.specs.declared.error.JsonError.TheVariants.{TooLarge};
+ghost use Rattle.amqp_value_core.specs.Values.{scalar, decimal as decimal_tree};
+ghost use Rattle.amqp_json.specs.Meaning.{number_as, string_as, decimal_of, signed_of, unsigned_of};
+ghost use Rattle.amqp_json.specs.Puts.{PutsEncodingOf, PutsScalar, PutsInteger, OnMismatch, is_plain};
+ghost use Rattle.amqp_json.specs.declared.error.JsonError.TheVariants.{OutOfMemory, TooLarge};
 
 use crate::error::{JsonError, Mismatch};
-use crate::numerals::unsigned;
-use crate::put::{put, put_counted, put_decimal, put_integer};
+use crate::put::{put, put_counted};
 use amqp_value_core::types::{AMQPType, DecimalValue};
 use hex::{FromHex, FromHexError};
 use std::alloc::Global;
 
 /// A number.
-#[tactic(auto, using(crate::proofs::Scalars::number_put))]
+#[tactic(auto, using(crate::proofs::PutEncodings::number_put))]
 pub(crate) fn put_number(
     out: &mut Vec<u8>,
     amqp_type: AMQPType,
@@ -118,10 +117,83 @@ fn digits_error(error: FromHexError, at: usize) -> JsonError
 
 // A decimal: `314e-2` has the number 314 and the scale 2.
 fn decimal(text: &str) -> Option<DecimalValue>
-    ensures { option_map (λ d. scalar (decimal d.scale d.value)) result ≡ decimal_of text.now }
+    ensures { option_map (λ d. scalar (decimal_tree d.scale d.value)) result ≡ decimal_of text.now }
 {
     let (value, exponent) = text.split_once('e')?;
     let scale = u8::try_from(unsigned(exponent.strip_prefix('-')?)?).ok()?;
     let value = u32::try_from(unsigned(value)?).ok()?;
     Some(DecimalValue { scale, value })
+}
+
+// A number, as a value of the type; `None` if it isn't one.
+fn put_integer(out: &mut Vec<u8>, amqp_type: AMQPType, text: &str) -> Option<Result<(), JsonError>>
+    ensures value { MatchOption result
+        (number_as amqp_type text.now ≡ None)
+        (λ done. OnOk done (PutsInteger (number_as amqp_type text.now) out.old.items out.new.items)) }
+    ensures refused { IfSome result (λ done. IfErr done (λ e. e ≡ OutOfMemory)) }
+{
+    let done = match amqp_type {
+        AMQPType::ShortShortInt => put(out, b'b', &i8::try_from(signed(text)?).ok()?.to_be_bytes()),
+        AMQPType::ShortShortUInt => put(
+            out,
+            b'B',
+            &u8::try_from(unsigned(text)?).ok()?.to_be_bytes(),
+        ),
+        AMQPType::ShortInt => put(out, b's', &i16::try_from(signed(text)?).ok()?.to_be_bytes()),
+        AMQPType::ShortUInt => put(
+            out,
+            b'u',
+            &u16::try_from(unsigned(text)?).ok()?.to_be_bytes(),
+        ),
+        AMQPType::LongInt => put(out, b'I', &i32::try_from(signed(text)?).ok()?.to_be_bytes()),
+        AMQPType::LongUInt => put(
+            out,
+            b'i',
+            &u32::try_from(unsigned(text)?).ok()?.to_be_bytes(),
+        ),
+        AMQPType::LongLongInt => put(out, b'l', &signed(text)?.to_be_bytes()),
+        AMQPType::Timestamp => put(out, b'T', &unsigned(text)?.to_be_bytes()),
+        _ => return None,
+    };
+    Some(done)
+}
+
+// A decimal.
+fn put_decimal(out: &mut Vec<u8>, decimal: DecimalValue) -> Result<(), JsonError>
+    ensures ok { OnOk result (PutsScalar (scalar (decimal_tree decimal.scale decimal.value)) out.old.items out.new.items) }
+    ensures refused { IfErr result (λ e. e ≡ OutOfMemory) }
+{
+    let [a, b, c, d] = decimal.value.to_be_bytes();
+    put(out, b'D', &[decimal.scale, a, b, c, d])
+}
+
+// The integer whose decimal text this is, if it fits.
+#[tactic(auto, using(crate::proofs::Integers::signed_parsed, crate::proofs::Integers::signed_other))]
+fn signed(text: &str) -> Option<i64>
+    ensures { result ≡ signed_of text.now }
+{
+    if is_plain(text.as_bytes()) {
+        text.parse::<i64>().ok()
+    } else {
+        None
+    }
+}
+
+// The natural number whose decimal text this is, if it fits.
+#[tactic(auto, using(crate::proofs::Integers::unsigned_parsed, crate::proofs::Integers::unsigned_other))]
+fn unsigned(text: &str) -> Option<u64>
+    ensures { result ≡ unsigned_of text.now }
+{
+    if is_plain(text.as_bytes()) {
+        text.parse::<u64>().ok()
+    } else {
+        None
+    }
+}
+
+// Whether it begins as decimal text does: not with a plus, a needless zero or `-0`.
+fn is_plain(text: &[u8]) -> bool
+    ensures { result ≡ is_plain text.now }
+{
+    matches!(text, [b'0'] | [b'1'..=b'9', ..] | [b'-', b'1'..=b'9', ..])
 }

@@ -1,18 +1,16 @@
 //! Bytes of encodings, put after others.
 
-ghost use Rattle.std.specs.Prelude.{◌≡◌, ◌+◌, ◌-◌, ◌<◌, ◌^◌, ◌∷◌, [], ◌++◌, length, take, drop, false, None, Option, OnOk, IfErr, IfSome, MatchOption};
+ghost use Rattle.std.specs.Prelude.{◌≡◌, ◌+◌, ◌-◌, ◌<◌, ◌^◌, ◌∷◌, [], ◌++◌, length, take, drop, false, None, Option, OnOk, IfErr};
 ghost use Rattle.std.specs.Int.{w32, to_be_bytes};
 ghost use Rattle.amqp_value_core.specs.Grammar.{short_field, long_field};
 ghost use Rattle.amqp_value_core.specs.Bytes.{IsShort};
-ghost use Rattle.amqp_value_core.specs.Values.{Tree, Entries, scalar, decimal as decimal_tree};
-ghost use Rattle.amqp_json.specs.Meaning.{is_type_key, entry_key, with_entry, number_as};
+ghost use Rattle.amqp_value_core.specs.Values.{Tree, Entries};
+ghost use Rattle.amqp_json.specs.Meaning.{is_type_key, entry_key, with_entry};
 ghost use Rattle.amqp_json.specs.declared.error.JsonError.TheVariants.{OutOfMemory};
-ghost use Rattle.amqp_json.specs.Puts.{OnMismatch, PutsScalar, PutsInteger};
+ghost use Rattle.amqp_json.specs.Puts.{OnMismatch};
 
 use crate::error::{JsonError, Mismatch};
-use crate::key::{Key, key_of};
-use crate::numerals::{signed, unsigned};
-use amqp_value_core::types::{AMQPType, DecimalValue};
+use crate::keys::{Key, key_of};
 
 /// A type tag, and bytes.
 pub(crate) fn put(out: &mut Vec<u8>, tag: u8, bytes: &[u8]) -> Result<(), JsonError>
@@ -75,50 +73,4 @@ pub(crate) fn fill_length(out: &mut Vec<u8>, at: usize) -> Result<(), JsonError>
     };
     out[at..at + 4].copy_from_slice(&n.to_be_bytes());
     Ok(())
-}
-
-/// A number, as a value of the type; `None` if it isn't one.
-pub(crate) fn put_integer(
-    out: &mut Vec<u8>,
-    amqp_type: AMQPType,
-    text: &str,
-) -> Option<Result<(), JsonError>>
-    ensures value { MatchOption result
-        (number_as amqp_type text.now ≡ None)
-        (λ done. OnOk done (PutsInteger (number_as amqp_type text.now) out.old.items out.new.items)) }
-    ensures refused { IfSome result (λ done. IfErr done (λ e. e ≡ OutOfMemory)) }
-{
-    let done = match amqp_type {
-        AMQPType::ShortShortInt => put(out, b'b', &i8::try_from(signed(text)?).ok()?.to_be_bytes()),
-        AMQPType::ShortShortUInt => put(
-            out,
-            b'B',
-            &u8::try_from(unsigned(text)?).ok()?.to_be_bytes(),
-        ),
-        AMQPType::ShortInt => put(out, b's', &i16::try_from(signed(text)?).ok()?.to_be_bytes()),
-        AMQPType::ShortUInt => put(
-            out,
-            b'u',
-            &u16::try_from(unsigned(text)?).ok()?.to_be_bytes(),
-        ),
-        AMQPType::LongInt => put(out, b'I', &i32::try_from(signed(text)?).ok()?.to_be_bytes()),
-        AMQPType::LongUInt => put(
-            out,
-            b'i',
-            &u32::try_from(unsigned(text)?).ok()?.to_be_bytes(),
-        ),
-        AMQPType::LongLongInt => put(out, b'l', &signed(text)?.to_be_bytes()),
-        AMQPType::Timestamp => put(out, b'T', &unsigned(text)?.to_be_bytes()),
-        _ => return None,
-    };
-    Some(done)
-}
-
-/// A decimal.
-pub(crate) fn put_decimal(out: &mut Vec<u8>, decimal: DecimalValue) -> Result<(), JsonError>
-    ensures ok { OnOk result (PutsScalar (scalar (decimal_tree decimal.scale decimal.value)) out.old.items out.new.items) }
-    ensures refused { IfErr result (λ e. e ≡ OutOfMemory) }
-{
-    let [a, b, c, d] = decimal.value.to_be_bytes();
-    put(out, b'D', &[decimal.scale, a, b, c, d])
 }

@@ -10,9 +10,8 @@ ghost use Rattle.amqp_json.specs.Meaning.{json_of, meaning, meanings, pairs_of, 
 ghost use Rattle.amqp_json.specs.Puts.{PutsEncodingOf, PutsValues, PutsPairs, IsNamed, IsLeaf, IsLeafRefusal, IsRead, IsRefusal, items_at, members_at, array_of, object_meant, next_token};
 
 use crate::error::{JsonError, Mismatch, SyntaxError};
-use crate::key::{Key, key_of};
+use crate::keys::{Key, key_of, type_of_name};
 use crate::named::{other_kind, put_number, put_string};
-use crate::names::type_of_name;
 use crate::put::{fill_length, put, put_counted, put_head, put_key};
 use amqp_value_core::types::AMQPType;
 use json::{Reader, Token};
@@ -211,7 +210,7 @@ fn put_named(
 }
 
 // A number or a string, as a value of the type.
-#[tactic(auto, using(crate::proofs::TypeKeys::number_none, crate::proofs::TypeKeys::string_none, crate::proofs::TypeKeys::no_leaf))]
+#[tactic(auto, using(crate::proofs::ObjectKeys::number_none, crate::proofs::ObjectKeys::string_none, crate::proofs::ObjectKeys::no_leaf))]
 fn put_leaf(
     alloc: Global,
     out: &mut Vec<u8>,

@@ -14,7 +14,7 @@ ghost use Rattle.amqp_in_place.specs.Refs.{Denotes};
 ghost use Rattle.amqp_json.specs.Written.{decimal_text, long_written, written};
 ghost use Rattle.amqp_json.specs.Printing.{PutsTokens, PutsJson};
 
-use super::place::Place;
+use super::Place;
 use super::tokens::{put_decimal, put_digits, put_token};
 use amqp_in_place::ValueRef;
 use amqp_value_core::types::DecimalValue;
@@ -128,7 +128,7 @@ fn decimal(buffer: &mut [u8], place: Place, d: DecimalValue) -> Place
 }
 
 // A long string, as a string if it is UTF-8.
-#[tactic(auto, using(crate::proofs::Bytes::text_is_plain, crate::proofs::Bytes::bytes_are_named))]
+#[tactic(auto, using(crate::proofs::Printed::text_is_plain, crate::proofs::Printed::bytes_are_named))]
 #[inline(never)]
 fn long_string(buffer: &mut [u8], place: Place, bytes: &[u8]) -> Place
     ensures { PutsJson buffer.old place buffer.new result (long_written bytes.now) }

@@ -6,12 +6,11 @@ ghost use Rattle.amqp_value_core.specs.Grammar.{ArrayBody};
 ghost use Rattle.amqp_in_place.specs.Bodies.{HasEntries};
 ghost use Rattle.amqp_in_place.specs.Refs.{Denotes, array_body, table_body};
 ghost use Rattle.json.specs.Json.{object};
-ghost use Rattle.amqp_json.specs.Printing.{PutsJson};
-ghost use Rattle.amqp_json.specs.Sorting.{AreSmaller, Refer};
+ghost use Rattle.amqp_json.specs.Printing.{PutsJson, AreSmaller, Refer};
 ghost use Rattle.amqp_json.specs.Written.{written, members_written};
 
+use super::Place;
 use super::leaves::put_leaf;
-use super::place::Place;
 use super::tokens::{put_key, put_token};
 use amqp_in_place::{ArrayRef, TableRef, ValueRef};
 use json::Token;

@@ -8,7 +8,7 @@ ghost use Rattle.json.specs.Print.{begins, ends, escape, token_text};
 ghost use Rattle.amqp_json.specs.Printing.{PutsBytes, PutsTokens};
 ghost use Rattle.amqp_json.specs.Written.{is_marked, written_key, decimal_text};
 
-use super::place::Place;
+use super::Place;
 use super::put::{put, put_escaped, put_hexadecimal};
 use amqp_value_core::types::DecimalValue;
 use itoa::Buffer;

@@ -11,8 +11,8 @@ ghost use Rattle.amqp_json.specs.Ascending.{IfInOrder, IfValuesAscend, IfTableAs
 ghost use Rattle.amqp_json.specs.Printing.{PutsJson};
 ghost use Rattle.amqp_json.specs.Written.{written, members_written};
 
+use super::Place;
 use super::leaves::put_leaf;
-use super::place::Place;
 use super::tokens::{put_key, put_token};
 use amqp_in_place::{ArrayRef, TableRef, ValueRef, is_above};
 use json::Token;

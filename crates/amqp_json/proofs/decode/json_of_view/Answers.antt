@@ -6,7 +6,7 @@ use Rattle.amqp_in_place.specs.Refs.{Denotes}
 use Rattle.amqp_json.specs.Conversions.{IsJsonOf}
 use Rattle.amqp_json.specs.Views.{IsViewOfRead}
 use Rattle.amqp_json.specs.Written.{json_text}
-use Rattle.amqp_json.proofs.Decoded.{decoded, within_has_json}
+use Rattle.amqp_json.proofs.PrintedTexts.{decoded, within_has_json}
 use Rattle.amqp_json.proofs.decode.json_of_view.Goals as goal
 
 pub text_of-requires : goal.text_of-requires

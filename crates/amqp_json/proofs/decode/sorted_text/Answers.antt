@@ -2,8 +2,8 @@ use Rattle.std.proofs.Common.{◌≡◌, take, rules, string_bytes, sym, ap, ◌
 use Rattle.std.specs.Str.{IsUtf8}
 use Rattle.std.specs.Vec.{with_items}
 use Rattle.std.proofs.lemmas.List.{with_items_is}
-use Rattle.amqp_json.proofs.Decoded.{text_taken, text_filled}
-use Rattle.amqp_json.proofs.ReadBack.{text_is_utf8}
+use Rattle.amqp_json.proofs.PrintedTexts.{text_taken, text_filled}
+use Rattle.amqp_json.proofs.TextRoundTrip.{text_is_utf8}
 use Rattle.amqp_json.proofs.decode.sorted_text.Goals as goal
 
 -- ---- a text that fits the first buffer

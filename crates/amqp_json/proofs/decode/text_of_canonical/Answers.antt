@@ -9,9 +9,9 @@ use Rattle.amq_protocol_types.specs.parsing.ParseResults.{IsRefusal}
 use Rattle.amqp_json.specs.Ascending.{IfInOrder}
 use Rattle.amqp_json.specs.Meaning.{meant}
 use Rattle.amqp_json.specs.Written.{json_text, HasJson}
-use Rattle.amqp_json.proofs.Again.{same_again, not_again, found_has_json}
+use Rattle.amqp_json.proofs.Encodings.{same_again, not_again, found_has_json}
 use Rattle.amqp_json.proofs.InOrder.{found_in_order}
-use Rattle.amqp_json.proofs.ReadBack.{text_is_read}
+use Rattle.amqp_json.proofs.TextRoundTrip.{text_is_read}
 use Rattle.amqp_json.proofs.decode.text_of_canonical.Goals as goal
 
 pub ordered_text-requires : goal.ordered_text-requires

@@ -1,6 +1,6 @@
 use Rattle.std.proofs.Common.{refl, arith}
 use Rattle.amqp_json.specs.Written.{json_text}
-use Rattle.amqp_json.proofs.Decoded.{decoded, text_begins, text_written}
+use Rattle.amqp_json.proofs.PrintedTexts.{decoded, text_begins, text_written}
 use Rattle.amqp_json.proofs.decode.write_json_of_view.Goals as goal
 
 pub returns-in-Some : goal.returns-in-Some

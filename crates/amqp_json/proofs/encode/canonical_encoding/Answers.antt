@@ -5,7 +5,7 @@ use Rattle.amqp_value_core.specs.Texts.{text}
 use Rattle.amqp_value_core.specs.Values.{Tree}
 use Rattle.amqp_json.specs.Conversions.{IsEncodingWithin}
 use Rattle.amqp_json.specs.Meaning.{meant_within}
-use Rattle.amqp_json.proofs.Ends.{as_written, encodes_meant}
+use Rattle.amqp_json.proofs.Encodings.{as_written, encodes_meant}
 use Rattle.amqp_json.proofs.encode.canonical_encoding.Goals as goal
 
 pub returns-then-is_canonical-clause-ok : goal.returns-then-is_canonical-clause-ok

@@ -1,5 +1,5 @@
 use Rattle.std.proofs.Common.{rules}
-use Rattle.amqp_json.proofs.Keys.{no_minus}
+use Rattle.amqp_json.proofs.ObjectKeys.{no_minus}
 use Rattle.amqp_json.proofs.named.decimal.Goals as goal
 
 pub returns-in_err-strip_prefix : goal.returns-in_err-strip_prefix

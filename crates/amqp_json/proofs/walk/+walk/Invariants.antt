@@ -1,6 +1,6 @@
 use Rattle.std.proofs.Common.{◌+◌, ◌*◌, ◌≤◌, ◌∷◌, length, option_map}
 use Rattle.amqp_json.specs.Puts.{next_token}
-use Rattle.amqp_json.proofs.Loops.{ItemsLeft, PairsLeft}
+use Rattle.amqp_json.proofs.PutEncodings.{ItemsLeft, PairsLeft}
 use Rattle.amqp_json.proofs.walk.+walk.Given as goal
 
 abbrev pub decreases-put_value : goal.decreases-put_value

@@ -3,11 +3,11 @@ use Rattle.json.specs.Token.{key}
 use Rattle.json.specs.Json.{value, read_key}
 use Rattle.json.specs.Reads.{token_of}
 use Rattle.json.proofs.Grammar.{value_is}
-use Rattle.amqp_json.specs.Names.{type_named}
+use Rattle.amqp_json.specs.Meaning.{type_named}
 use Rattle.amqp_json.specs.Puts.{IsNamed, IsLeaf, IsRead, IsRefusal, members_at, object_meant, converted}
-use Rattle.amqp_json.proofs.Loops.{puts_weaker}
+use Rattle.amqp_json.proofs.PutEncodings.{puts_weaker}
 use Rattle.amqp_json.proofs.Refusals.{refusal_of}
-use Rattle.amqp_json.proofs.TypeKeys.{no_named, no_value, sole, not_closed, not_alone, leaf_refused}
+use Rattle.amqp_json.proofs.ObjectKeys.{no_named, no_value, sole, not_closed, not_alone, leaf_refused}
 use Rattle.amqp_json.proofs.walk.put_named.Goals as goal
 
 pub returns-in_default-clause-refused : goal.returns-in_default-clause-refused

@@ -1,5 +1,5 @@
 use Rattle.std.proofs.Common.{arith}
-use Rattle.amqp_json.proofs.Plain.{plain_through}
+use Rattle.amqp_json.proofs.Escapes.{plain_through}
 use Rattle.amqp_json.proofs.printing.put.plain_end.Goals as goal
 
 pub loop-at-preserved : goal.loop-at-preserved

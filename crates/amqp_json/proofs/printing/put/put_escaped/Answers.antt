@@ -1,6 +1,7 @@
 use Rattle.std.proofs.Common.{◌<◌, ◌++◌, length, take, drop, get_or, ◌-◌, arith}
 use Rattle.json.specs.Print.{escape_byte}
-use Rattle.amqp_json.proofs.Printed.{puts_more, puts_as, escaped_end, escaped_more}
+use Rattle.amqp_json.proofs.Escapes.{escaped_end, escaped_more}
+use Rattle.amqp_json.proofs.Printed.{puts_more, puts_as}
 use Rattle.amqp_json.proofs.printing.put.put_escaped.Goals as goal
 
 pub returns-then-stop-text : goal.returns-then-stop-text

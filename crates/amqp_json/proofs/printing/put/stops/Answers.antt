@@ -1,6 +1,6 @@
 use Rattle.std.proofs.Common.{arith}
 use Rattle.std.proofs.lemmas.Simd.{zip2_splat}
-use Rattle.amqp_json.proofs.Plain.{hit, below, both, stops_are}
+use Rattle.amqp_json.proofs.Escapes.{hit, below, both, stops_are}
 use Rattle.amqp_json.proofs.printing.put.stops.Goals as goal
 
 pub returns : goal.returns

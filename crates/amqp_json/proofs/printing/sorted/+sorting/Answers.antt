@@ -6,9 +6,9 @@ use Rattle.amqp_value_core.specs.Grammar.{ArrayBody}
 use Rattle.amqp_in_place.specs.declared.refs.ValueRef.{ValueRef}
 use Rattle.amqp_in_place.specs.Refs.{array_body}
 use Rattle.amqp_in_place.specs.Suffix.{values_left}
-use Rattle.amqp_json.proofs.Ascents.{no_container}
-use Rattle.amqp_json.specs.Sorting.{Refer}
-use Rattle.amqp_json.proofs.PrintedContainers.{item_put, items_end, pair_put, pairs_end, array_put, table_put, left_of}
+use Rattle.amqp_json.proofs.AscendingKeys.{no_container}
+use Rattle.amqp_json.specs.Printing.{Refer}
+use Rattle.amqp_json.proofs.Printed.{item_put, items_end, pair_put, pairs_end, array_put, table_put, left_of}
 use Rattle.amqp_json.proofs.printing.sorted.+sorting.Goals as goal
 
 -- ---- an array

@@ -7,9 +7,7 @@ use Rattle.amqp_value_core.specs.Grammar.{ArrayBody}
 use Rattle.amqp_in_place.specs.Bodies.{HasEntries}
 use Rattle.amqp_in_place.specs.Refs.{array_body, table_body}
 use Rattle.amqp_in_place.specs.Suffix.{values_left}
-use Rattle.amqp_json.specs.Printing.{PutsTokens}
-use Rattle.amqp_json.specs.Sorting.{AreSmaller, Refer}
-use Rattle.amqp_json.specs.Views.{body_len}
+use Rattle.amqp_json.specs.Printing.{PutsTokens, AreSmaller, Refer, body_len}
 use Rattle.amqp_json.specs.Written.{written, items_written, members_written}
 use Rattle.amqp_json.proofs.printing.sorted.+sorting.Given as goal
 

@@ -3,8 +3,8 @@ use Rattle.std.specs.Borrow.{Bor}
 use Rattle.amqp_in_place.specs.declared.refs.ValueRef.{ValueRef}
 use Rattle.amqp_in_place.specs.Refs.{table_body}
 use Rattle.amqp_in_place.specs.Suffix.{pairs_left}
-use Rattle.amqp_json.specs.Sorting.{AreSmaller}
-use Rattle.amqp_json.proofs.PrintedContainers.{left_of_pair, pair_shorter}
+use Rattle.amqp_json.specs.Printing.{AreSmaller}
+use Rattle.amqp_json.proofs.Printed.{left_of_pair, pair_shorter}
 use Rattle.amqp_json.proofs.Sorting.{InsertsOn, insert_first, insert_next, insert_over, smaller_insert}
 use Rattle.amqp_json.proofs.printing.sorted.entries_of.Goals as goal
 

@@ -1,7 +1,7 @@
 use Rattle.std.proofs.Common.{◌≤◌, length}
 use Rattle.amqp_in_place.specs.Refs.{table_body}
 use Rattle.amqp_in_place.specs.Suffix.{pairs_left}
-use Rattle.amqp_json.specs.Sorting.{AreSmaller}
+use Rattle.amqp_json.specs.Printing.{AreSmaller}
 use Rattle.amqp_json.proofs.Sorting.{InsertsOn}
 use Rattle.amqp_json.proofs.printing.sorted.entries_of.Given as goal
 

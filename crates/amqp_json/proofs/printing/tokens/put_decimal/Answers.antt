@@ -1,7 +1,8 @@
 use Rattle.std.proofs.Common.{◌∷◌, [], ◌++◌, List, ℕ, decimal, sym, ap, refl, ◌∙◌, arith, append_assoc}
 use Rattle.json.specs.Token.{string}
 use Rattle.amqp_json.specs.Written.{decimal_text}
-use Rattle.amqp_json.proofs.Printed.{token_put, puts_more, puts_as, decimal_plain}
+use Rattle.amqp_json.proofs.Escapes.{decimal_plain}
+use Rattle.amqp_json.proofs.Printed.{token_put, puts_more, puts_as}
 use Rattle.amqp_json.proofs.printing.tokens.put_decimal.Goals as goal
 
 pub returns : goal.returns

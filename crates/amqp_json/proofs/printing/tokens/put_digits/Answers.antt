@@ -2,7 +2,8 @@ use Rattle.std.proofs.Common.{◌≡◌, ◌∷◌, [], ◌++◌, sym, ap, refl,
 use Rattle.hex.specs.Hex.{encode_lower}
 use Rattle.json.specs.Token.{string}
 use Rattle.json.specs.Print.{escape}
-use Rattle.amqp_json.proofs.Printed.{token_put, puts_more, puts_as, digits_plain}
+use Rattle.amqp_json.proofs.Escapes.{digits_plain}
+use Rattle.amqp_json.proofs.Printed.{token_put, puts_more, puts_as}
 use Rattle.amqp_json.proofs.printing.tokens.put_digits.Goals as goal
 
 pub returns : goal.returns

@@ -2,7 +2,8 @@ use Rattle.std.proofs.Common.{◌∷◌, [], ◌++◌, List, ℕ, cond, ap, ◌�
 use Rattle.json.specs.Print.{escape}
 use Rattle.json.specs.Token.{key}
 use Rattle.amqp_json.specs.Written.{is_marked, written_key}
-use Rattle.amqp_json.proofs.Printed.{token_put, puts_more, puts_as, key_text}
+use Rattle.amqp_json.proofs.Escapes.{key_text}
+use Rattle.amqp_json.proofs.Printed.{token_put, puts_more, puts_as}
 use Rattle.amqp_json.proofs.printing.tokens.put_key.Goals as goal
 
 pub returns : goal.returns

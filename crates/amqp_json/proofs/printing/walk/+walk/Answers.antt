@@ -8,9 +8,9 @@ use Rattle.amqp_in_place.specs.Refs.{array_body, table_body}
 use Rattle.amqp_in_place.specs.Suffix.{values_left, pairs_left}
 use Rattle.amqp_in_place.specs.Walks.{PairStep}
 use Rattle.amqp_json.specs.Ascending.{IfValuesAscend, IfTableAscends}
-use Rattle.amqp_json.specs.declared.printing.place.Place.{Place}
-use Rattle.amqp_json.proofs.Ascents.{ValuesGoOn, PairsGoOn, values_all, values_step, values_fall, values_over, pairs_all, pairs_step, pairs_fall, pairs_over, table_order, table_falls, pairs_fall_in_table, rises_on, rises_no_more, all_rise, leaf_order, no_container, array_at, table_at}
-use Rattle.amqp_json.proofs.PrintedContainers.{item_put, items_end, pair_put, pairs_end, pairs_are_entries, array_put, table_put, left_of, left_of_pair}
+use Rattle.amqp_json.specs.declared.printing.Place.{Place}
+use Rattle.amqp_json.proofs.AscendingKeys.{ValuesGoOn, PairsGoOn, values_all, values_step, values_fall, values_over, pairs_all, pairs_step, pairs_fall, pairs_over, table_order, table_falls, pairs_fall_in_table, rises_on, rises_no_more, all_rise, leaf_order, no_container, array_at, table_at}
+use Rattle.amqp_json.proofs.Printed.{item_put, items_end, pair_put, pairs_end, pairs_are_entries, array_put, table_put, left_of, left_of_pair}
 use Rattle.amqp_json.proofs.printing.walk.+walk.Goals as goal
 
 -- ---- an array

@@ -6,10 +6,9 @@ use Rattle.amqp_value_core.specs.Values.{Trees, Entries, array}
 use Rattle.amqp_value_core.specs.Grammar.{ArrayBody, TableBody}
 use Rattle.amqp_in_place.specs.Refs.{array_body, table_body}
 use Rattle.amqp_in_place.specs.Suffix.{values_left, pairs_left}
-use Rattle.amqp_json.specs.Printing.{PutsTokens}
-use Rattle.amqp_json.specs.Views.{body_len}
+use Rattle.amqp_json.specs.Printing.{PutsTokens, body_len}
 use Rattle.amqp_json.specs.Written.{written, items_written, members_written}
-use Rattle.amqp_json.proofs.Ascents.{ValuesGoOn, PairsGoOn, RisesSoFar}
+use Rattle.amqp_json.proofs.AscendingKeys.{ValuesGoOn, PairsGoOn, RisesSoFar}
 use Rattle.amqp_json.proofs.printing.walk.+walk.Given as goal
 
 -- a call has a shorter body than its caller, or as long a one and less to do

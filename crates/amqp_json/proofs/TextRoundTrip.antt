@@ -28,7 +28,7 @@ use Rattle.amqp_value_core.specs.Values as values
 use Rattle.amqp_value_core.specs.Values.{Scalar, decimal, void, Tree, scalar, short, long, octets, table, Trees, no_trees, tree, Entries, no_entries, entry}
 use Rattle.amqp_json.specs.Meaning.{meaning, meant}
 use Rattle.amqp_json.specs.Written.{under, signed, number_written, long_written, scalar_written, is_marked, written_key, written, items_written, members_written, decimal_text, HasJson, AllHaveJson, EntriesHaveJson, json_text}
-use Rattle.amqp_json.proofs.Back.{read_back}
+use Rattle.amqp_json.proofs.ValueRoundTrip.{read_back}
 
 -- ---- the texts of tokens are UTF-8
 

@@ -1,4 +1,4 @@
--- The JSON text of a value that was read at the start of some bytes.
+-- The JSON text of a whole value in a buffer.
 use Rattle.std.proofs.Common.{◌≡◌, ◌+◌, ◌<◌, ◌≤◌, ◌^◌, ℕ, List, ◌++◌, [], length, take, drop, false, refl, sym, ap, ◌∙◌, subst, append-nil, arith}
 use Rattle.std.proofs.Math.ListN.{drop_of_length-le}
 use Rattle.std.proofs.lemmas.List.{take_at}
@@ -13,11 +13,11 @@ use Rattle.amq_protocol_types.specs.parsing.Limits.{Within}
 use Rattle.amqp_json.specs.Conversions.{IsJsonOf, IsOrderedJsonOf}
 use Rattle.amqp_json.specs.Views.{WritesText}
 use Rattle.amqp_json.specs.Meaning.{meant}
-use Rattle.amqp_json.specs.declared.printing.place.Place.{Place}
+use Rattle.amqp_json.specs.declared.printing.Place.{Place}
 use Rattle.amqp_json.specs.Printing.{Begins, PutsJson}
 use Rattle.amqp_json.specs.Written.{HasJson, json_text, written}
-use Rattle.amqp_json.proofs.Encoded.{has_json}
-use Rattle.amqp_json.proofs.ReadBack.{text_is_read}
+use Rattle.amqp_json.proofs.Encodings.{has_json}
+use Rattle.amqp_json.proofs.TextRoundTrip.{text_is_read}
 
 pub within_has_json : (l : Limits) (s rest : List ℕ) (v : Tree) → IsBytes s → Within l s (found v rest) → HasJson v
 within_has_json l s rest v bytes x =

@@ -25,8 +25,7 @@ use Rattle.amqp_value_core.specs.InMemory.{IsNumber, IsScalar}
 use Rattle.amqp_value_core.specs.Json.{is_within}
 use Rattle.amqp_value_core.proofs.GrammarLaws.{rising_pairs}
 use Rattle.amqp_value_core.specs.Names.{name_of}
-use Rattle.amqp_json.specs.Names.{type_named}
-use Rattle.amqp_json.specs.Meaning.{is_type_key, entry_key, is_e, signed_of, signed_in, unsigned_in, decimal_of, value_as, with_entry, object_of, table_of, meaning, meanings, pairs_of}
+use Rattle.amqp_json.specs.Meaning.{type_named, is_type_key, entry_key, is_e, signed_of, signed_in, unsigned_in, decimal_of, value_as, with_entry, object_of, table_of, meaning, meanings, pairs_of}
 use Rattle.amqp_json.proofs.Integers.{fits_within, signed_read, unsigned_read}
 use Rattle.amqp_json.specs.Written.{under, signed, number_written, long_written, scalar_written, written_key, written, items_written, members_written, HasJson, AllHaveJson, EntriesHaveJson}
 

@@ -1,6 +1,6 @@
--- Values and pairs, one after another, of encodings whose pairs are in the order of a text.
+-- Encodings that are put one after another, with pairs in the order of the text.
 use Rattle.std.proofs.Common.{◌≡◌, ℕ, Bor, ◌-◌, ◌+◌, ◌<◌, ◌≤◌, ◌^◌, List, [], ◌∷◌, ◌++◌, length, take, drop, Option, Some, None, option_map, refl, sym, ap, ◌∙◌, subst, arith, append_assoc, append-nil, length-append}
-use Rattle.std.specs.Int.{w32, to_be_bytes}
+use Rattle.std.specs.Int.{w32, to_be_bytes, w64, from_be_bytes}
 use Rattle.std.proofs.Math.Seq.{take-append_seam, drop-append-add}
 use Rattle.json.specs.Token.{Token, key}
 use Rattle.json.specs.Json as json
@@ -8,16 +8,20 @@ use Rattle.json.specs.Json.{parse_map, after_end_array, read_key, items, members
 use Rattle.json.proofs.Grammar.{read_key-shorter, items_fail, members_fail, members_no_key}
 use Rattle.amqp_value_core.specs.Values.{Tree, scalar, long, octets, array, Trees, no_trees, tree, Entries, no_entries, entry}
 use Rattle.amqp_value_core.specs.Maps.{insert_all}
-use Rattle.amqp_value_core.specs.Grammar.{Wire, wire, raw_array, raw_table, raw_long, raw_octets, ArrayBody, no_values, value, TableBody, no_pairs, pair, short_field, long_field}
+use Rattle.amqp_value_core.specs.Grammar.{Wire, wire, raw_array, raw_table, raw_long, raw_octets, ArrayBody, no_values, value, TableBody, no_pairs, pair, short_field, long_field, raw_fixed}
 use Rattle.amqp_value_core.specs.Bytes.{IsShort}
 use Rattle.amqp_value_core.specs.Texts.{text}
 use Rattle.amqp_value_core.proofs.GrammarLaws.{put_mean, text_is_wire}
 use Rattle.amqp_json.specs.declared.error.JsonError.{JsonError}
-use Rattle.amqp_json.specs.Meaning.{entry_key, with_entry, meaning, meanings, pairs_of, table_of}
-use Rattle.amqp_json.specs.Puts.{OnMismatch, IsRead, IsRefusal, PutsEncodingOf, PutsValues, PutsPairs, PutsScalar, items_at, members_at, next_token, converted}
-use Rattle.amqp_json.proofs.Keys.{no_entry}
+use Rattle.amqp_json.specs.Meaning.{entry_key, with_entry, meaning, meanings, pairs_of, table_of, number_as}
+use Rattle.amqp_json.specs.Puts.{OnMismatch, IsRead, IsRefusal, PutsEncodingOf, PutsValues, PutsPairs, PutsScalar, items_at, members_at, next_token, converted, PutsInteger}
+use Rattle.amqp_json.proofs.ObjectKeys.{no_entry}
 use Rattle.amqp_json.proofs.Refusals.{refusal_of, refusal_by, refusal_on}
-use Rattle.amqp_json.proofs.Turns.{map_twice, map_same, item_read, no_item_after, item_refused, items_over, member_read, no_member_after, member_refused, members_over, next_is, none_is}
+use Rattle.amqp_json.proofs.MeantContainers.{map_twice, map_same, item_read, no_item_after, item_refused, items_over, member_read, no_member_after, member_refused, members_over, next_is, none_is}
+use Rattle.amqp_value_core.specs.declared.types.amqp_type.AMQPType.{AMQPType}
+use Rattle.amqp_value_core.specs.declared.types.amqp_type.AMQPType.TheVariants as amqp
+use Rattle.amqp_value_core.specs.Layouts.{whole_number}
+use Rattle.amqp_value_core.specs.Values as values
 
 -- ---- an array
 
@@ -191,7 +195,7 @@ module _ (at : ℕ) (old mid end new : List ℕ) (place : at ≡ length old + 1)
       let done = length_filled 70 at old mid end new w place headed more filled in
       (70 ∷ long_field w, table_of ps, done.1, wire 70 _ (long_field w) (table_of ps) refl (raw_table w ps (insert_all no_entries ps) (subst (λ n. n < 2 ^ 32) done.0 fits) all (put_mean ps)), f ps is)
 
--- ---- what isn't a container
+-- ---- scalars and strings
 
 pub puts_weaker : (P Q : Tree → Type 0) (old new : List ℕ) → ((v : Tree) → P v → Q v) → PutsEncodingOf P old new → PutsEncodingOf Q old new
 puts_weaker P Q old new f (w, v, more, is, h) = (w, v, more, is, f v h)
@@ -204,3 +208,17 @@ long_put P old new s put fits h = (83 ∷ long_field s, long s, put, wire 83 _ (
 
 pub octets_put : (P : Tree → Type 0) (old new s : List ℕ) → new ≡ old ++ 120 ∷ long_field s → length s < 2 ^ 32 → P (octets s) → PutsEncodingOf P old new
 octets_put P old new s put fits h = (120 ∷ long_field s, octets s, put, wire 120 _ (long_field s) (octets s) refl (raw_octets s fits), h)
+
+integer_put : (P : Tree → Type 0) (old new : List ℕ) (found : Option Tree) → ((v : Tree) → found ≡ Some v → P v) → PutsInteger found old new → PutsEncodingOf P old new
+integer_put P old new (Some (scalar x)) h put = scalar_put P old new (scalar x) (x, refl, put.1, put.0) (h (scalar x) refl)
+integer_put P old new _ h put = absurd put
+
+pub number_put : (type : AMQPType) (s old new : List ℕ) → PutsInteger (number_as type s) old new → PutsEncodingOf (λ v. number_as type s ≡ Some v) old new
+number_put type s old new = integer_put (λ v. number_as type s ≡ Some v) old new (number_as type s) (λ v h. h)
+
+-- the bits of a float are its payload
+pub float_put : (P : Tree → Type 0) (old new b : List ℕ) → new ≡ old ++ 102 ∷ b → length b ≡ 4 → P (scalar (values.number amqp.Float (from_be_bytes w32 b))) → PutsEncodingOf P old new
+float_put P old new b put size h = (102 ∷ b, scalar (values.number amqp.Float (from_be_bytes w32 b)), put, wire 102 amqp.Float b _ refl (raw_fixed amqp.Float (whole_number w32 amqp.Float) b refl size), h)
+
+pub double_put : (P : Tree → Type 0) (old new b : List ℕ) → new ≡ old ++ 100 ∷ b → length b ≡ 8 → P (scalar (values.number amqp.Double (from_be_bytes w64 b))) → PutsEncodingOf P old new
+double_put P old new b put size h = (100 ∷ b, scalar (values.number amqp.Double (from_be_bytes w64 b)), put, wire 100 amqp.Double b _ refl (raw_fixed amqp.Double (whole_number w64 amqp.Double) b refl size), h)

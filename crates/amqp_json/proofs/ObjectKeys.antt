@@ -1,5 +1,9 @@
--- An object whose first key is a type key: `$` and a name.
-use Rattle.std.proofs.Common.{◌≡◌, ℕ, zero, suc, ◌-◌, List, ◌∷◌, length, drop, true, Option, Some, None, option_map, option_and_then, refl, sym, ap, ◌∙◌, arith, Bor, ◌⊎◌, inl, inr}
+-- Keys of objects: of entries, and type keys, which are `$` and the name of a type.
+use Rattle.std.proofs.Common.{◌≡◌, ◌≢◌, true, false, not, drop, ℕ, ◌==◌, List, [], ◌∷◌, get_or, refl, ap, ◌∙◌, arith, Bool, cond, length, Option, Some, None, option_map, option_and_then, le-ltb, zero, suc, ◌-◌, sym, Bor, ◌⊎◌, inl, inr}
+use Rattle.std.specs.Prelude.{nat_lt, ◌||◌}
+use Rattle.amqp_value_core.specs.Bytes.{IsShort}
+use Rattle.amqp_value_core.specs.Values.{Tree, Entries, entry}
+use Rattle.amqp_json.specs.Meaning.{is_type_key, entry_key, with_entry, value_as, number_as, string_as, type_named}
 use Rattle.json.specs.Token as spec
 use Rattle.json.specs.Token.{Token, key, number, string}
 use Rattle.json.specs.Json as json
@@ -9,12 +13,43 @@ use Rattle.json.specs.declared.token.Token.{Token as KitToken}
 use Rattle.json.specs.declared.token.Token.TheVariants as kit
 use Rattle.json.proofs.Grammar.{value_is, members_end, members_more, members_no_key, members_fail}
 use Rattle.amqp_value_core.specs.declared.types.amqp_type.AMQPType.{AMQPType}
-use Rattle.amqp_value_core.specs.Values.{Tree}
-use Rattle.amqp_json.specs.Names.{type_named}
-use Rattle.amqp_json.specs.Meaning.{is_type_key, value_as, number_as, string_as}
 use Rattle.amqp_json.specs.Puts.{IsLeaf, IsNoLeaf, IsLeafRefusal, IsNamed, IsRefusal, members_at, object_meant, converted}
 use Rattle.amqp_json.specs.declared.error.JsonError.{JsonError}
 use Rattle.amqp_json.specs.declared.error.JsonError.TheVariants.{Syntax, TooDeep, NotAValue}
+
+-- ---- keys with a `$` and without
+
+-- a key without a `$` at its start
+pub plain : (k : List ℕ) → ((rest : List ℕ) → k ≢ 36 ∷ rest) → (is_type_key k ≡ false) × (k ≡ entry_key k)
+plain [] h = (refl, refl)
+plain (x ∷ xs) h =
+    let no : (x == 36) ≡ false = grind (arith, h xs) in
+    (rw no refl, rw no refl)
+
+-- a key with one
+pub marked : (k rest : List ℕ) → k ≡ 36 ∷ rest → (is_type_key k ≡ not (get_or rest 0 0 == 36)) × (drop 1 k ≡ rest) × (entry_key k ≡ rest)
+marked k rest e = rw e (refl, refl, refl)
+
+-- a short key that is no name is that of an entry
+pub entry_fits : (k : List ℕ) → is_type_key k ≡ false → IsShort (entry_key k) → (v : Tree) (ps : Option Entries) → with_entry k (Some v) ps ≡ option_map (entry (entry_key k) v) ps
+entry_fits k none short v ps =
+    let few : nat_lt 255 (length (entry_key k)) ≡ false = le-ltb _ _ short.few in
+    rw (none, few) refl
+
+no_pair : (b : Bool) (k : List ℕ) (ps : Option Entries) → cond b None (option_and_then {T = Tree} (λ x. option_map (entry (entry_key k) x) ps) None) ≡ None
+no_pair true k ps = refl
+no_pair false k ps = refl
+
+-- without a value it is that of none
+pub no_entry : (k : List ℕ) (o : Option Tree) (ps : Option Entries) → o ≡ None → with_entry k o ps ≡ None
+no_entry k o ps e = ap (λ v. with_entry k v ps) e ∙ no_pair (is_type_key k || nat_lt 255 (length (entry_key k))) k ps
+
+-- an exponent without a minus
+pub no_minus : (k : List ℕ) → ((rest : List ℕ) → k ≢ 45 ∷ rest) → (get_or k 0 0 == 45) ≡ false
+no_minus [] h = refl
+no_minus (x ∷ xs) h = grind (arith, h xs)
+
+-- ---- an object whose first key is a type key
 
 -- beside another member it is none of a table
 beside : (k l : List ℕ) (j i : json.Json) (ms : json.Members) → is_type_key k ≡ true → object_meant (json.member k j (json.member l i ms)) ≡ None
@@ -79,7 +114,7 @@ module _ (depth : ℕ) (k : List ℕ) (is : is_type_key k ≡ true) where
       by None h = refl
       by (Some q) h = without type q.0 (members p (length us) q.1) known (h q.0 q.1 refl)
 
--- ---- tokens that are values of no type
+-- tokens that are values of no type
 
 abbrev pick : json.Json → Option (json.Json × List Token) → json.Json
 pick d None = d
@@ -136,7 +171,7 @@ closer depth ts t (inr (inl e)) = ap (λ k. value depth (token_of k ∷ ts)) e �
 closer depth ts t (inr (inr (inl (x, e)))) = ap (λ k. value depth (token_of k ∷ ts)) e ∙ value_is depth (spec.key x.now ∷ ts)
 closer depth ts t (inr (inr (inr e))) = ap (λ k. value depth (token_of k ∷ ts)) e ∙ value_is depth (spec.bad ∷ ts)
 
--- ---- why no value is named
+-- why no value is named
 
 module _ (type : AMQPType) (name : List ℕ) (known : type_named name ≡ Some type) (t : Token) (ts : List Token) where
   pub leaf_refused : (e : JsonError) → IsLeafRefusal e type t → IsNamed name (t ∷ ts) (λ depth read. IsRefusal depth e object_meant read)

@@ -1,12 +1,35 @@
-//! The types whose values are written by their names.
+//! Keys of objects: of entries, and `$` with the name of a type.
 
-ghost use Rattle.std.specs.Prelude.{◌≡◌};
+ghost use Rattle.std.specs.Prelude.{◌≡◌, true, false, drop};
 ghost use Rattle.std.specs.Str.{bytes_eq};
-ghost use Rattle.amqp_json.specs.Names.{type_named};
+ghost use Rattle.amqp_json.specs.Meaning.{is_type_key, entry_key, type_named};
+ghost use Rattle.amqp_json.specs.Puts.{IsKey};
 
 use amqp_value_core::types::AMQPType;
 
-/// The type of a name.
+/// What a key of an object says.
+#[derive(Clone, Copy)]
+pub(crate) enum Key<'a> {
+    /// The key of an entry, without the `$` that is written before another.
+    Entry(&'a str),
+    /// The name of a type.
+    Name(&'a str),
+}
+
+#[inline(always)]
+pub(crate) fn key_of(key: &str) -> Key<'_>
+    ensures { IsKey key.now result }
+{
+    let Some(rest) = key.strip_prefix('$') else {
+        return Key::Entry(key);
+    };
+    if rest.starts_with('$') {
+        return Key::Entry(rest);
+    }
+    Key::Name(rest)
+}
+
+/// The type of a name, if its values can be written by their names.
 pub(crate) fn type_of_name(name: &str) -> Option<AMQPType>
     ensures { result ≡ type_named name.now }
 {

@@ -1,4 +1,4 @@
--- The grammar's loops, a turn at a time, under the meaning of items and of pairs.
+-- Items and members that are read one after another, under the meaning of items and of pairs.
 use Rattle.std.proofs.Common.{◌≡◌, ℕ, zero, suc, ◌-◌, ◌<◌, ◌≤◌, List, ◌∷◌, length, false, Option, Some, None, option_map, option_and_then, refl, sym, ap, ◌∙◌, arith}
 use Rattle.json.specs.Token.{Token, key}
 use Rattle.json.specs.Json as json

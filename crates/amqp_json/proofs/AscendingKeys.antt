@@ -1,25 +1,81 @@
 -- Whether keys ascend in what was written, a value or a pair at a time.
-use Rattle.std.proofs.Common.{◌≡◌, ℕ, List, ◌∷◌, ◌++◌, Option, Some, None, refl, sym, ap, ◌∙◌, subst}
+use Rattle.std.proofs.Common.{◌≡◌, ℕ, List, Some, None, sym, ◌∙◌, subst, ◌∷◌, ◌++◌, Option, refl, ap}
 use Rattle.std.specs.Borrow.{Bor}
+use Rattle.std.specs.Ordering.{nat_cmp}
+use Rattle.std.specs.Cmp.Lexicographic.{slice_cmp}
+use Rattle.std.specs.declared.cmp.Ordering.TheVariants.{Less}
+use Rattle.amqp_value_core.specs.Values.{Entries, no_entries, entry, ComesBefore, Tree, array, table, Trees, no_trees, tree}
+use Rattle.amqp_value_core.specs.Grammar.{TableBody, short_field, long_field, Wire, wire, raw_long, raw_octets, raw_array, raw_table, ArrayBody, no_values, value, no_pairs, pair}
+use Rattle.amqp_value_core.specs.Maps.{IsRising, insert_all}
+use Rattle.amqp_in_place.specs.Walks.{PairStep, ValueStep}
+use Rattle.amqp_in_place.specs.declared.refs.ValueRef.{ValueRef}
 use Rattle.amqp_value_core.specs.declared.types.amqp_type.AMQPType.TheVariants as amqp
 use Rattle.amqp_value_core.specs.Bytes.{IsShort}
 use Rattle.amqp_value_core.specs.Values as values
-use Rattle.amqp_value_core.specs.Values.{Tree, array, table, Trees, no_trees, tree, Entries, no_entries, entry, ComesBefore}
-use Rattle.amqp_value_core.specs.Maps.{insert_all, IsRising}
-use Rattle.amqp_value_core.specs.Grammar.{short_field, long_field, Wire, wire, raw_long, raw_octets, raw_array, raw_table, ArrayBody, no_values, value, TableBody, no_pairs, pair}
 use Rattle.amqp_value_core.proofs.GrammarLaws.{put_mean}
-use Rattle.amqp_in_place.specs.declared.refs.ValueRef.{ValueRef}
-use Rattle.amqp_in_place.specs.declared.refs.ValueRef.TheVariants as at
+use Rattle.amqp_in_place.specs.declared.refs.ValueRef.TheVariants as viewed
 use Rattle.amqp_in_place.specs.declared.refs.ArrayRef.{ArrayRef}
 use Rattle.amqp_in_place.specs.declared.refs.TableRef.{TableRef}
 use Rattle.amqp_in_place.specs.Refs.{array_body, table_body, Denotes}
 use Rattle.amqp_in_place.specs.Heads.{IsPlainRef}
 use Rattle.amqp_in_place.specs.Places.{IsFramed, IsViewIn, IsPairViewIn}
-use Rattle.amqp_in_place.specs.Walks.{ValueStep, PairStep}
 use Rattle.amqp_in_place.specs.Written.{written, values_written, pairs_written}
 use Rattle.amqp_in_place.specs.Canonicals.{IsAbove}
-use Rattle.amqp_json.proofs.Rising.{RisesIfRest, rising_first, rising_next, rising_over, falls, none_rises}
 use Rattle.amqp_json.specs.Ascending.{Ascends, AllAscend, EntriesAscend, InOrder, OutOfOrder, ValuesWritten, PairsWritten, IfInOrder, IfValuesAscend, IfPairsAscend, IfTableAscends}
+
+-- ---- the keys of a table, a pair at a time
+
+-- the keys ascend if those that are left do, above the previous one
+abbrev pub RisesIfRest : List ℕ → List ℕ → List ℕ → Type 0
+RisesIfRest all left j = (ps : Entries) → TableBody all ps → (qs : Entries) × TableBody left qs × (ComesBefore j qs → IsRising qs → IsRising ps) × (IsRising ps → ComesBefore j qs × IsRising qs)
+
+pub rising_first : (all left : List ℕ) (x : Bor (List ℕ) × ValueRef) (j : List ℕ) → j ≡ x.0.now → ((ps : Entries) → TableBody all ps → PairStep ps (Some x) left) → RisesIfRest all left j
+rising_first all left x j same step = λ ps p. by ps (step ps p)
+  where
+    by : (ps : Entries) → PairStep ps (Some x) left → (qs : Entries) × TableBody left qs × (ComesBefore j qs → IsRising qs → IsRising ps) × (IsRising ps → ComesBefore j qs × IsRising qs)
+    by no_entries given = absurd given
+    by (entry k v qs) given =
+        let is : j ≡ k = same ∙ given.0 in (
+          qs,
+          given.2,
+          λ before rises. (subst (λ (t : List ℕ). ComesBefore t qs) is before, rises),
+          λ rises. (subst (λ (t : List ℕ). ComesBefore t qs) (sym is) rises.0, rises.1),
+        )
+
+pub rising_next : (all left less : List ℕ) (i j : List ℕ) (x : Bor (List ℕ) × ValueRef) → RisesIfRest all left i → j ≡ x.0.now → slice_cmp nat_cmp i j ≡ Less
+    → ((qs : Entries) → TableBody left qs → PairStep qs (Some x) less) → RisesIfRest all less j
+rising_next all left less i j x so same above step = λ ps p. let at = so ps p in by ps at.0 (step at.0 at.1) at.2 at.3
+  where
+    by : (ps qs : Entries) → PairStep qs (Some x) less → (ComesBefore i qs → IsRising qs → IsRising ps) → (IsRising ps → ComesBefore i qs × IsRising qs)
+        → (rs : Entries) × TableBody less rs × (ComesBefore j rs → IsRising rs → IsRising ps) × (IsRising ps → ComesBefore j rs × IsRising rs)
+    by ps no_entries given f g = absurd given
+    by ps (entry k v rs) given f g =
+        let is : j ≡ k = same ∙ given.0 in (
+          rs,
+          given.2,
+          λ before rises. f (subst (λ (t : List ℕ). slice_cmp nat_cmp i t ≡ Less) is above) (subst (λ (t : List ℕ). ComesBefore t rs) is before, rises),
+          λ rises. let at = (g rises).1 in (subst (λ (t : List ℕ). ComesBefore t rs) (sym is) at.0, at.1),
+        )
+
+pub rising_over : (all left less j : List ℕ) → RisesIfRest all left j → ((qs : Entries) → TableBody left qs → PairStep qs None less) → (ps : Entries) → TableBody all ps → IsRising ps
+rising_over all left less j so step ps p = let at = so ps p in at.2 (by at.0 (step at.0 at.1)).0 (by at.0 (step at.0 at.1)).1
+  where
+    by : (qs : Entries) → PairStep qs None less → ComesBefore j qs × IsRising qs
+    by no_entries given = (tt, tt)
+    by (entry k v rs) given = absurd given
+
+-- a key that isn't above the previous one
+pub falls : (all left less : List ℕ) (i j : List ℕ) (x : Bor (List ℕ) × ValueRef) → RisesIfRest all left i → j ≡ x.0.now → (slice_cmp nat_cmp i j ≡ Less → ⊥)
+    → ((qs : Entries) → TableBody left qs → PairStep qs (Some x) less) → (ps : Entries) → TableBody all ps → IsRising ps → ⊥
+falls all left less i j x so same not step ps p rises = let at = so ps p in by at.0 (step at.0 at.1) (at.3 rises).0
+  where
+    by : (qs : Entries) → PairStep qs (Some x) less → ComesBefore i qs → ⊥
+    by no_entries given before = absurd given
+    by (entry k v rs) given before = not (subst (λ (t : List ℕ). slice_cmp nat_cmp i t ≡ Less) (sym (same ∙ given.0)) before)
+
+pub none_rises : (ps : Entries) (left : List ℕ) → PairStep ps None left → IsRising ps
+none_rises no_entries left given = tt
+none_rises (entry k v rs) left given = absurd given
 
 -- ---- values
 
@@ -136,7 +192,7 @@ pairs_fall_in_table s (ps, p, n) = (ps, p, λ x. n x.1)
 pub table_falls : (s : List ℕ) (ps : Entries) → ((qs : Entries) → TableBody s qs → IsRising qs → ⊥) → TableBody s ps → PairsWritten (λ es. Ascends (table es) → ⊥) s
 table_falls s ps falls p = (ps, p, λ x. falls ps p ((written_rises s ps p).1 x.0))
 
--- ---- the keys, one at a time
+-- ---- the keys, from the first one on
 
 -- those before the pairs that are left ascend, and `previous` is the last of them
 abbrev pub RisesSoFar : List ℕ → List ℕ → Option (Bor (List ℕ)) → Type 0
@@ -171,9 +227,9 @@ table_in_order (Some r) s body rest (c, k, few, e) (ps, p, a) =
     let es = insert_all no_entries ps in
     (c ∷ long_field body, table es, wire c amqp.FieldTable (long_field body) (table es) k (raw_table body ps es few p (put_mean ps)), e, a)
 
-pub no_container : (r : ValueRef) → ((a : ArrayRef) → r ≡ at.FieldArray a → ⊥) → ((t : TableRef) → r ≡ at.FieldTable t → ⊥) → IsPlainRef r
-no_container (at.FieldArray a) n m = n a refl
-no_container (at.FieldTable t) n m = m t refl
+pub no_container : (r : ValueRef) → ((a : ArrayRef) → r ≡ viewed.FieldArray a → ⊥) → ((t : TableRef) → r ≡ viewed.FieldTable t → ⊥) → IsPlainRef r
+no_container (viewed.FieldArray a) n m = n a refl
+no_container (viewed.FieldTable t) n m = m t refl
 no_container _ n m = tt
 
 -- an encoding that means no container is written without one
@@ -183,22 +239,22 @@ leaf_raw _ _ (wire c type b v k (raw_table body ps es few all mean)) n m = absur
 leaf_raw _ _ (wire c type b v k _) n m = tt
 
 pub leaf_order : (r : ValueRef) (s rest : List ℕ) → IsPlainRef r → IsViewIn s r rest → InOrder s rest
-leaf_order (at.FieldArray a) s rest leaf x = absurd leaf
-leaf_order (at.FieldTable t) s rest leaf x = absurd leaf
-leaf_order (at.LongString b) s rest leaf x =
+leaf_order (viewed.FieldArray a) s rest leaf x = absurd leaf
+leaf_order (viewed.FieldTable t) s rest leaf x = absurd leaf
+leaf_order (viewed.LongString b) s rest leaf x =
     (x.0 ∷ long_field b.now, values.long b.now, wire x.0 amqp.LongString (long_field b.now) (values.long b.now) x.1 (raw_long b.now x.2), x.3, tt)
-leaf_order (at.ByteArray b) s rest leaf x =
+leaf_order (viewed.ByteArray b) s rest leaf x =
     (x.0 ∷ long_field b.now, values.octets b.now, wire x.0 amqp.ByteArray (long_field b.now) (values.octets b.now) x.1 (raw_octets b.now x.2), x.3, tt)
 leaf_order _ s rest leaf x = (x.0, _, x.1, x.2, leaf_raw x.0 _ x.1 (λ vs e. absurd cc) (λ es e. absurd cc))
 
-pub array_at : {T : Type 0} (result : Option T) (r : ValueRef) (a : ArrayRef) (s rest : List ℕ) (v : Tree) → r ≡ at.FieldArray a → IsViewIn s r rest → Denotes r v
+pub array_at : {T : Type 0} (result : Option T) (r : ValueRef) (a : ArrayRef) (s rest : List ℕ) (v : Tree) → r ≡ viewed.FieldArray a → IsViewIn s r rest → Denotes r v
     → ((vs : Trees) → ArrayBody (array_body a) vs → IfValuesAscend result (array_body a)) → IfInOrder result s rest
 array_at result r a s rest v is x d order =
-    let means : Denotes (at.FieldArray a) v = subst (λ (y : ValueRef). Denotes y v) is d in
+    let means : Denotes (viewed.FieldArray a) v = subst (λ (y : ValueRef). Denotes y v) is d in
     array_order result s (array_body a) rest (subst (λ (y : ValueRef). IsViewIn s y rest) is x) (order means.0 means.1)
 
-pub table_at : {T : Type 0} (result : Option T) (r : ValueRef) (b : TableRef) (s rest : List ℕ) (v : Tree) → r ≡ at.FieldTable b → IsViewIn s r rest → Denotes r v
+pub table_at : {T : Type 0} (result : Option T) (r : ValueRef) (b : TableRef) (s rest : List ℕ) (v : Tree) → r ≡ viewed.FieldTable b → IsViewIn s r rest → Denotes r v
     → ((ps : Entries) → TableBody (table_body b) ps → IfTableAscends result (table_body b)) → IfInOrder result s rest
 table_at result r b s rest v is x d order =
-    let means : Denotes (at.FieldTable b) v = subst (λ (y : ValueRef). Denotes y v) is d in
+    let means : Denotes (viewed.FieldTable b) v = subst (λ (y : ValueRef). Denotes y v) is d in
     table_in_order result s (table_body b) rest (subst (λ (y : ValueRef). IsViewIn s y rest) is x) (order means.1.0 means.1.1)
