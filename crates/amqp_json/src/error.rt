@@ -1,3 +1,5 @@
+//! Why no value was read from a JSON text, and why no text was made of a value or an encoding.
+
 use amq_protocol_types::parsing::ParserError;
 use std::alloc::AllocError;
 use thiserror::Error;

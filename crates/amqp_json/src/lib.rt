@@ -1,5 +1,15 @@
 //! The JSON of AMQP values: to text and back, from values and from encodings. docs/JSON.md has the
 //! format.
+//!
+//! What comes in, through which modules, and what comes out:
+//!
+//! ```text
+//! a text     encode: walk, by keys, named and put; where it isn't JSON, syntax   an encoding, a value
+//! encoding   decode: printing::walk, if keys don't ascend printing::sorted;      a text
+//! or value   both by printing::leaves, tokens and put
+//! ```
+//!
+//! `laws` has what the definitions imply.
 #![tactic(auto)]
 
 mod decode;

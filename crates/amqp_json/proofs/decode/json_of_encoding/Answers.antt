@@ -1,3 +1,4 @@
+-- Proofs of the goals of `json_of_encoding` that tactics don't close.
 use Rattle.amqp_in_place.proofs.Canonicals.{bytes_all}
 use Rattle.amqp_json.proofs.decode.json_of_encoding.Goals as goal
 

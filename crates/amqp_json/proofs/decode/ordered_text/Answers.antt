@@ -1,3 +1,4 @@
+-- Proofs of the goals of `ordered_text` that tactics don't close.
 use Rattle.std.proofs.Common.{◌≡◌, take, rules, string_bytes, sym, ◌∙◌, subst, arith}
 use Rattle.std.specs.Str.{IsUtf8}
 use Rattle.std.specs.Vec.{with_items}

@@ -1,3 +1,4 @@
+-- Proofs of the goals of `text_of_canonical` that tactics don't close.
 use Rattle.std.proofs.Common.{rules, ◌≡◌, List, ℕ, Option, String, Global, string_bytes, sym, ap, ◌∙◌, subst}
 use Rattle.amqp_in_place.proofs.Canonicals.{bytes_all}
 use Rattle.amqp_in_place.specs.Places.{IsViewIn}

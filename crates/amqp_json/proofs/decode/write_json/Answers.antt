@@ -1,3 +1,4 @@
+-- Proofs of the goals of `write_json` that tactics don't close.
 use Rattle.std.proofs.Common.{◌≤◌, length, arith}
 use Rattle.amqp_in_place.proofs.Canonicals.{bytes_all}
 use Rattle.amqp_json.proofs.decode.write_json.Goals as goal

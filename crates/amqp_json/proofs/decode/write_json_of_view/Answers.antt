@@ -1,3 +1,4 @@
+-- Proofs of the goals of `write_json_of_view` that tactics don't close.
 use Rattle.std.proofs.Common.{refl, arith}
 use Rattle.amqp_json.specs.Written.{json_text}
 use Rattle.amqp_json.proofs.PrintedTexts.{decoded, text_begins, text_written}

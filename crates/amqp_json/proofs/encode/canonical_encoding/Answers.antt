@@ -1,3 +1,4 @@
+-- Proofs of the goals of `canonical_encoding` that tactics don't close.
 use Rattle.std.proofs.Common.{◌≡◌, Some, refl}
 use Rattle.std.proofs.lemmas.Result.{IfOk-weaker}
 use Rattle.amqp_value_core.specs.Grammar.{Wire}

@@ -1,3 +1,4 @@
+-- Proofs of the goals of `key_of` that tactics don't close.
 use Rattle.std.proofs.Common.{rules, arith, ◌≡◌, sym, ap, ◌∙◌, true, false, not, ◌==◌, get_or, ◌∷◌}
 use Rattle.std.proofs.lemmas.Str.Pattern.{strip_prefix_char}
 use Rattle.amqp_json.proofs.ObjectKeys.{plain, marked}

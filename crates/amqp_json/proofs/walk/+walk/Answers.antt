@@ -1,3 +1,4 @@
+-- Proofs of the goals of the functions of the cycle `walk` that tactics don't close.
 use Rattle.std.proofs.Common.{rules, arith, ◌≡◌, ◌<◌, ◌∷◌, [], length, Some, None, option_map, OnOk, ℕ, ◌+◌, ◌-◌, ◌^◌, false, List, ◌++◌, Bor, Option, refl, ap, ◌∙◌, subst}
 use Rattle.std.proofs.lemmas.Result.{IfErr-weaker, on_ok_weaker}
 use Rattle.json.specs.Token.{Token}

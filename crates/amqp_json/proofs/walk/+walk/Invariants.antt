@@ -1,3 +1,4 @@
+-- The invariants of the loops of the functions of the cycle `walk`, and what decreases.
 use Rattle.std.proofs.Common.{◌+◌, ◌*◌, ◌≤◌, ◌∷◌, length, option_map}
 use Rattle.amqp_json.specs.Puts.{next_token}
 use Rattle.amqp_json.proofs.PutEncodings.{ItemsLeft, PairsLeft}

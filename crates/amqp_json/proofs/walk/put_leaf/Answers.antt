@@ -1,3 +1,4 @@
+-- Proofs of the goals of `put_leaf` that tactics don't close.
 use Rattle.std.proofs.Common.{arith, ◌≡◌, Some}
 use Rattle.std.proofs.lemmas.Result.{on_ok_weaker}
 use Rattle.json.specs.Token.{number, string}

@@ -1,3 +1,4 @@
+-- Proofs of the goals of `put_named` that tactics don't close.
 use Rattle.std.proofs.Common.{rules, ◌≡◌, ◌∷◌, [], Some, None, refl, sym, ap, ◌∙◌}
 use Rattle.json.specs.Token.{key}
 use Rattle.json.specs.Json.{value, read_key}

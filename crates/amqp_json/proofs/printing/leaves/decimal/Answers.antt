@@ -1,3 +1,4 @@
+-- Proofs of the goals of `decimal` that tactics don't close.
 use Rattle.std.proofs.Common.{◌∷◌, [], codes}
 use Rattle.json.specs.Token.{begin_object, key, string}
 use Rattle.amqp_json.specs.Written.{decimal_text}

@@ -1,3 +1,4 @@
+-- Proofs of the goals of `digits` that tactics don't close.
 use Rattle.std.proofs.Common.{◌∷◌, []}
 use Rattle.hex.specs.Hex.{encode_lower}
 use Rattle.json.specs.Token.{begin_object, key, string}

@@ -1,3 +1,4 @@
+-- Proofs of the goals of `long_string` that tactics don't close.
 use Rattle.std.proofs.Common.{rules, sym, subst}
 use Rattle.std.specs.Str.{IsUtf8}
 use Rattle.json.specs.Json.{Json}

@@ -1,3 +1,4 @@
+-- Proofs of the goals of `put_leaf` that tactics don't close.
 use Rattle.std.proofs.Common.{rules, ◌≡◌, ◌∷◌, [], ℕ, List, codes, sym, subst, w8, w16, w64}
 use Rattle.std.specs.Fmt.{signed_decimal}
 use Rattle.std.specs.Int.{cast_signed, cast_unsigned}

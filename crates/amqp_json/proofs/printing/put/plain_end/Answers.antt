@@ -1,3 +1,4 @@
+-- Proofs of the goals of `plain_end` that tactics don't close.
 use Rattle.std.proofs.Common.{arith}
 use Rattle.amqp_json.proofs.Escapes.{plain_through}
 use Rattle.amqp_json.proofs.printing.put.plain_end.Goals as goal

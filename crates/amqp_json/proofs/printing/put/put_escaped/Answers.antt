@@ -1,3 +1,4 @@
+-- Proofs of the goals of `put_escaped` that tactics don't close.
 use Rattle.std.proofs.Common.{◌<◌, ◌++◌, length, take, drop, get_or, ◌-◌, arith}
 use Rattle.json.specs.Print.{escape_byte}
 use Rattle.amqp_json.proofs.Escapes.{escaped_end, escaped_more}

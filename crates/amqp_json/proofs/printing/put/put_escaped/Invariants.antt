@@ -1,3 +1,4 @@
+-- The invariant of the loop of `put_escaped`, and what decreases.
 use Rattle.std.proofs.Common.{◌≡◌, ◌-◌, ◌≤◌, ◌++◌, List, ℕ, length, drop}
 use Rattle.json.specs.Print.{escape}
 use Rattle.amqp_json.specs.Printing.{PutsBytes}

@@ -1,3 +1,4 @@
+-- Proofs of the goals of `stops` that tactics don't close.
 use Rattle.std.proofs.Common.{arith}
 use Rattle.std.proofs.lemmas.Simd.{zip2_splat}
 use Rattle.amqp_json.proofs.Escapes.{hit, below, both, stops_are}

@@ -1,3 +1,4 @@
+-- Proofs of the goals of `entries_of` that tactics don't close.
 use Rattle.std.proofs.Common.{◌≡◌, List, ℕ, [], length, sym, ap, subst, rules, arith}
 use Rattle.std.specs.Borrow.{Bor}
 use Rattle.amqp_in_place.specs.declared.refs.ValueRef.{ValueRef}

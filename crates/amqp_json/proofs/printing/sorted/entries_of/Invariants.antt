@@ -1,3 +1,4 @@
+-- The invariant of the loop of `entries_of`.
 use Rattle.std.proofs.Common.{◌≤◌, length}
 use Rattle.amqp_in_place.specs.Refs.{table_body}
 use Rattle.amqp_in_place.specs.Suffix.{pairs_left}

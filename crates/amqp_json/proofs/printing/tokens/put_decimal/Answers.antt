@@ -1,3 +1,4 @@
+-- Proofs of the goals of `put_decimal` that tactics don't close.
 use Rattle.std.proofs.Common.{◌∷◌, [], ◌++◌, List, ℕ, decimal, sym, ap, refl, ◌∙◌, arith, append_assoc}
 use Rattle.json.specs.Token.{string}
 use Rattle.amqp_json.specs.Written.{decimal_text}

@@ -1,3 +1,4 @@
+-- Proofs of the goals of `put_digits` that tactics don't close.
 use Rattle.std.proofs.Common.{◌≡◌, ◌∷◌, [], ◌++◌, sym, ap, refl, List, ℕ}
 use Rattle.hex.specs.Hex.{encode_lower}
 use Rattle.json.specs.Token.{string}

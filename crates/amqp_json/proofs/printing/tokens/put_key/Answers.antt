@@ -1,3 +1,4 @@
+-- Proofs of the goals of `put_key` that tactics don't close.
 use Rattle.std.proofs.Common.{◌∷◌, [], ◌++◌, List, ℕ, cond, ap, ◌∙◌, refl}
 use Rattle.json.specs.Print.{escape}
 use Rattle.json.specs.Token.{key}

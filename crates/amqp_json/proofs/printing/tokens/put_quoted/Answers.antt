@@ -1,3 +1,4 @@
+-- Proofs of the goals of `put_quoted` that tactics don't close.
 use Rattle.std.proofs.Common.{◌∷◌, []}
 use Rattle.amqp_json.proofs.Printed.{puts_more}
 use Rattle.amqp_json.proofs.printing.tokens.put_quoted.Goals as goal

@@ -1,3 +1,4 @@
+-- Proofs of the goals of `put_token` that tactics don't close.
 use Rattle.std.proofs.Common.{sym}
 use Rattle.json.specs.Reads.{token_of}
 use Rattle.amqp_json.proofs.Printed.{token_put}

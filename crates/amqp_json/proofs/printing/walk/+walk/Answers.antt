@@ -1,3 +1,4 @@
+-- Proofs of the goals of the functions of the cycle `walk` that tactics don't close.
 use Rattle.std.proofs.Common.{◌≡◌, ◌∷◌, [], List, ℕ, length, Option, Some, None, refl, sym, ap, subst, rules, arith}
 use Rattle.std.specs.Borrow.{Bor}
 use Rattle.std.proofs.lemmas.Option.{IfSome_then}
