@@ -67,6 +67,14 @@ without_member : (k : List ℕ) (j : json.Json) → ((ps : Option Entries) → w
 without_member k j e None = refl
 without_member k j e (Some p) = ap (option_map (λ ps. (ps, p.1))) (e (pairs_of p.0))
 
+-- a token that is a value by itself
+pub token_means : (d : ℕ) (ts s : List Token) (t : Token) (j : json.Json) (v : Option Tree) → ts ≡ t ∷ s → json.value d (t ∷ s) ≡ Some (j, s) → meaning j ≡ v → converted meaning (json.value d ts) ≡ option_map (λ u. (u, s)) v
+token_means d ts s t j v is read means = ap (λ us. converted meaning (json.value d us)) is ∙ ap (converted meaning) read ∙ ap (option_map (λ u. (u, s))) means
+
+-- no level is left
+pub no_level : (depth : ℕ) (ts s : List Token) (t : Token) → ts ≡ t ∷ s → depth ≡ 0 → json.value 0 (t ∷ s) ≡ None → converted meaning (json.value depth ts) ≡ None
+no_level depth ts s t is none read = ap (λ us. converted meaning (json.value depth us)) is ∙ ap (λ n. converted meaning (json.value n (t ∷ s))) none ∙ ap (converted meaning) read
+
 pub next_is : (ts : List Token) (o : Option (List ℕ)) (r : List Token) → read_key ts ≡ Some (o, r) → ts ≡ next_token o ∷ r
 next_is ts None r e = read_key_is ts None r e
 next_is ts (Some k) r e = read_key_is ts (Some k) r e

@@ -134,37 +134,28 @@ record AreMembersText (es : Entries) : Type 0 where
   pub numbers : MembersHaveNumbers (members_written es)
   pub utf8 : AreUtf8 (members_tokens (members_written es))
 
-array_text : (vs : Trees) → AreItemsText vs → IsText (written (values.array vs))
-array_text vs is = record { numbers = is.numbers; utf8 = (IsUtf8-are_ascii (91 ∷ []) refl, is.utf8) }
-
-table_text : (es : Entries) → AreMembersText es → IsText (written (table es))
-table_text es is = record { numbers = is.numbers; utf8 = (IsUtf8-are_ascii (123 ∷ []) refl, is.utf8) }
-
-one_more : (v : Tree) (vs : Trees) → IsText (written v) → AreItemsText vs → AreItemsText (tree v vs)
-one_more v vs first rest = record { numbers = (first.numbers, rest.numbers); utf8 = are_append _ _ first.utf8 rest.utf8 }
-
-one_more_member : (k : List ℕ) (v : Tree) (es : Entries) → IsUtf8 (written_key k) → IsText (written v) → AreMembersText es → AreMembersText (entry k v es)
-one_more_member k v es name first rest = record {
-  numbers = (first.numbers, rest.numbers);
-  utf8 = (IsUtf8-key (written_key k) name, are_append _ _ first.utf8 rest.utf8);
-}
-
 mutual
   is_text : (v : Tree) → HasJson v → IsText (written v)
   is_text (scalar x) h = scalar_text x h
   is_text (short s) h = absurd h
   is_text (long s) h = long_text s _ refl
   is_text (octets s) h = under_text amqp.ByteArray _ refl (digits_text s)
-  is_text (values.array vs) h = array_text vs (are_items vs h)
-  is_text (table es) h = table_text es (are_members es h.1)
+  is_text (values.array vs) h = let is = are_items vs h in record { numbers = is.numbers; utf8 = (IsUtf8-are_ascii (91 ∷ []) refl, is.utf8) }
+  is_text (table es) h = let is = are_members es h.1 in record { numbers = is.numbers; utf8 = (IsUtf8-are_ascii (123 ∷ []) refl, is.utf8) }
 
   are_items : (vs : Trees) → AllHaveJson vs → AreItemsText vs
   are_items no_trees h = record { numbers = tt; utf8 = (IsUtf8-are_ascii (93 ∷ []) refl, tt) }
-  are_items (tree v vs) h = one_more v vs (is_text v h.0) (are_items vs h.1)
+  are_items (tree v vs) h =
+      let first = is_text v h.0 in
+      let rest = are_items vs h.1 in
+      record { numbers = (first.numbers, rest.numbers); utf8 = are_append _ _ first.utf8 rest.utf8 }
 
   are_members : (es : Entries) → EntriesHaveJson es → AreMembersText es
   are_members no_entries h = record { numbers = tt; utf8 = (IsUtf8-are_ascii (125 ∷ []) refl, tt) }
-  are_members (entry k v es) h = one_more_member k v es (key_utf8 k _ refl h.0.utf8) (is_text v h.1) (are_members es h.2)
+  are_members (entry k v es) h =
+      let first = is_text v h.1 in
+      let rest = are_members es h.2 in
+      record { numbers = (first.numbers, rest.numbers); utf8 = (IsUtf8-key (written_key k) (key_utf8 k _ refl h.0.utf8), are_append _ _ first.utf8 rest.utf8) }
 
 -- ---- the text
 

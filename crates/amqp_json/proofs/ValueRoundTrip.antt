@@ -10,6 +10,7 @@ use Rattle.std.specs.Int.{Width, w8, w16, w32, w64, cast_signed, cast_unsigned, 
 use Rattle.std.specs.Str.{is_utf8}
 use mir.Val.{bits, hbits}
 use Rattle.std.proofs.Math.Facts.{sfits_to_z}
+use Rattle.std.proofs.Math.Seq.{take-append_seam, drop-append-add}
 use Rattle.std.proofs.lemmas.Fmt.{decimal_is_IsNumeral}
 use Rattle.std.proofs.lemmas.Int.{of_z-to_z}
 use Rattle.std.proofs.lemmas.Nat.{from_be_bytes-to_be_bytes_4, from_be_bytes-to_be_bytes_8}
@@ -87,21 +88,13 @@ cut : (ds rest : List ℕ) → AllDigits 10 ds → position_or_len is_e (ds ++ 1
 cut [] rest h = refl
 cut (c ∷ ds) rest h = let same = cut ds rest h.1 in rw (no_e c h.0) (omega (arith, same))
 
-before : (ds rest : List ℕ) → take (length ds) (ds ++ 101 ∷ rest) ≡ ds
-before [] rest = refl
-before (c ∷ ds) rest = ap (λ xs. c ∷ xs) (before ds rest)
-
-after : (ds rest : List ℕ) → drop (length ds + 1) (ds ++ 101 ∷ rest) ≡ rest
-after [] rest = refl
-after (c ∷ ds) rest = let next : length (c ∷ ds) + 1 ≡ suc (length ds + 1) = omega arith in ap (λ k. drop k (c ∷ (ds ++ 101 ∷ rest))) next ∙ after ds rest
-
 decimal_back : (scale n : ℕ) → scale < 2 ^ 8 → n < 2 ^ 32 → decimal_of (digits n ++ 101 ∷ 45 ∷ digits scale) ≡ Some (scalar (decimal scale n))
 decimal_back scale n few less =
     let ds = digits n in
     let rest = 45 ∷ digits scale in
     let at = cut ds rest (decimal_is_IsNumeral n (omega (arith, less))).0.1 in
-    let first : before_first is_e (ds ++ 101 ∷ rest) ≡ ds = ap (λ k. take k (ds ++ 101 ∷ rest)) at ∙ before ds rest in
-    let second : after_first is_e (ds ++ 101 ∷ rest) ≡ rest = ap (λ k. drop (k + 1) (ds ++ 101 ∷ rest)) at ∙ after ds rest in
+    let first : before_first is_e (ds ++ 101 ∷ rest) ≡ ds = ap (λ k. take k (ds ++ 101 ∷ rest)) at ∙ take-append_seam ds (101 ∷ rest) in
+    let second : after_first is_e (ds ++ 101 ∷ rest) ≡ rest = ap (λ k. drop (k + 1) (ds ++ 101 ∷ rest)) at ∙ drop-append-add ds (101 ∷ rest) 1 in
     rw (first, second, unsigned_back (2 ^ 32) n less (omega arith), unsigned_back (2 ^ 8) scale few (omega arith)) refl
 
 -- ---- values

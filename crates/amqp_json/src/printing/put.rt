@@ -1,7 +1,7 @@
 //! Bytes after others in a buffer: each call returns how many there are then, which may be more
 //! than the buffer has space for. Those that don't fit are counted, and not written.
 
-// The tactic at the function opens the definition of an escape, by which a byte needs none.
+// The tactics at the functions name the lemma that a clause is proved by, and open the definition of an escape.
 
 ghost use Rattle.std.specs.Prelude.{◌≡◌, ◌+◌, ◌<◌, ◌≤◌, length, take, drop, map};
 ghost use Rattle.std.specs.List.{prefix_len};
@@ -58,6 +58,7 @@ pub(crate) fn put_escaped(buffer: &mut [u8], at: usize, text: &[u8]) -> usize
 
 // The first place from this one on that has a quote, a backslash or a control character, or the end. Eight bytes
 // without one are passed at once.
+#[tactic(auto, using(crate::proofs::Escapes::plain_through))]
 #[inline(always)]
 fn plain_end(bytes: &[u8], from: usize) -> usize
     requires { from ≤ length bytes.now }

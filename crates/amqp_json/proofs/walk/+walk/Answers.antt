@@ -11,7 +11,7 @@ use Rattle.amqp_value_core.specs.Texts.{text}
 use Rattle.amqp_json.specs.Meaning.{meaning, meanings, pairs_of, number_as, table_of, is_type_key}
 use Rattle.amqp_json.specs.Puts.{OnMismatch, PutsEncodingOf, IsNamed, IsRead, IsRefusal, items_at, members_at, array_of, object_meant, next_token, converted}
 use Rattle.amqp_json.proofs.ObjectKeys.{entry_fits, closer}
-use Rattle.amqp_json.proofs.MeantContainers.{converted-items, array_meant, object_is, table_is}
+use Rattle.amqp_json.proofs.MeantContainers.{converted-items, token_means, no_level, array_meant, object_is, table_is}
 use Rattle.amqp_json.proofs.PutEncodings.{PairsLeft, items_first, items_next, items_done, items_none, pairs_first, key_is, pairs_next, pairs_done, pair_none, key_none, next_none, array_put, table_put, puts_weaker, scalar_put, long_put}
 use Rattle.amqp_json.proofs.Refusals.{refusal_of, refusal_by, array_refused, object_refused, table_refused, named_refused}
 use Rattle.amqp_json.proofs.walk.+walk.Goals as goal
@@ -110,23 +110,19 @@ put_value-returns-in_default-clause-refused t c d le =
 pub put_value-returns-then-depth-eq0-clause-refused : goal.put_value-returns-then-depth-eq0-clause-refused
 put_value-returns-then-depth-eq0-clause-refused t c =
     let s = c.next.new.self in
-    let is : c.args.reader.now ≡ Token.begin_array ∷ s = search rules in
-    let none : c.args.depth ≡ 0 = search rules in
-    ap (λ ts. converted meaning (value c.args.depth ts)) is ∙ ap (λ n. converted meaning (value n (Token.begin_array ∷ s))) none ∙ ap (converted meaning) (value_is 0 (Token.begin_array ∷ s))
+    no_level c.args.depth c.args.reader.now s Token.begin_array (search rules) (search rules) (value_is 0 (Token.begin_array ∷ s))
 
 pub put_value-returns-then-depth-eq0-2-clause-refused : goal.put_value-returns-then-depth-eq0-2-clause-refused
 put_value-returns-then-depth-eq0-2-clause-refused t c =
     let s = c.next.new.self in
-    let is : c.args.reader.now ≡ Token.begin_object ∷ s = search rules in
-    let none : c.args.depth ≡ 0 = search rules in
-    ap (λ ts. converted meaning (value c.args.depth ts)) is ∙ ap (λ n. converted meaning (value n (Token.begin_object ∷ s))) none ∙ ap (converted meaning) (value_is 0 (Token.begin_object ∷ s))
+    no_level c.args.depth c.args.reader.now s Token.begin_object (search rules) (search rules) (value_is 0 (Token.begin_object ∷ s))
 
 pub put_value-returns-in-Null-clause-ok : goal.put_value-returns-in-Null-clause-ok
 put_value-returns-in-Null-clause-ok t c =
     let s = c.next.new.self in
     let is : c.args.reader.now ≡ Token.null ∷ s = search rules in
     on_ok_weaker c.put.result (λ put. scalar_put (λ v. IsRead c.args.depth meaning (λ d. value d c.args.reader.now) v s) _ _ (scalar void) (void, refl, tt, put)
-    (λ d le. ap (λ ts. converted meaning (value d ts)) is ∙ ap (converted meaning) (value_is d (Token.null ∷ s)))) c.put.ensures.ok
+    (λ d le. token_means d _ s Token.null _ _ is (value_is d (Token.null ∷ s)) refl)) c.put.ensures.ok
 
 pub put_value-returns-in-Bool-clause-ok : goal.put_value-returns-in-Bool-clause-ok
 put_value-returns-in-Bool-clause-ok t c =
@@ -135,7 +131,7 @@ put_value-returns-in-Bool-clause-ok t c =
     let is : c.args.reader.now ≡ Token.boolean b ∷ s = search rules in
     let put : OnOk c.put-in-Bool.result (c.put-in-Bool.new.out.items ≡ c.args.out.now.items ++ text (scalar (boolean b))) = search rules in
     on_ok_weaker c.put-in-Bool.result (λ same. scalar_put (λ v. IsRead c.args.depth meaning (λ d. value d c.args.reader.now) v s) _ _ (scalar (boolean b)) (boolean b, refl, tt, same)
-    (λ d le. ap (λ ts. converted meaning (value d ts)) is ∙ ap (converted meaning) (value_is d (Token.boolean b ∷ s)))) put
+    (λ d le. token_means d _ s (Token.boolean b) _ _ is (value_is d (Token.boolean b ∷ s)) refl)) put
 
 pub put_value-returns-in-Number-clause-ok : goal.put_value-returns-in-Number-clause-ok
 put_value-returns-in-Number-clause-ok t c =
@@ -143,7 +139,7 @@ put_value-returns-in-Number-clause-ok t c =
     let x = c.in-Number.text.now in
     let is : c.args.reader.now ≡ Token.number x ∷ s = search rules in
     on_ok_weaker c.put_number.result (puts_weaker (λ v. number_as amqp.LongLongInt x ≡ Some v) (λ v. IsRead c.args.depth meaning (λ d. value d c.args.reader.now) v s) _ _
-    (λ v h d le. ap (λ ts. converted meaning (value d ts)) is ∙ ap (converted meaning) (value_is d (Token.number x ∷ s)) ∙ ap (option_map (λ u. (u, s))) h)) c.put_number.ensures.ok
+    (λ v h d le. token_means d _ s (Token.number x) _ _ is (value_is d (Token.number x ∷ s)) h)) c.put_number.ensures.ok
 
 pub put_value-returns-in-Number-clause-refused : goal.put_value-returns-in-Number-clause-refused
 put_value-returns-in-Number-clause-refused t c =
@@ -152,7 +148,7 @@ put_value-returns-in-Number-clause-refused t c =
     let is : c.args.reader.now ≡ Token.number x ∷ s = search rules in
     IfErr-weaker c.put_number.result (λ e. OnMismatch e (number_as amqp.LongLongInt x ≡ None)) (λ e. IsRefusal c.args.depth e meaning (λ d. value d c.args.reader.now))
     (λ e. refusal_by c.args.depth meaning (λ d. value d c.args.reader.now) e (number_as amqp.LongLongInt x ≡ None)
-    (λ h d le. ap (λ ts. converted meaning (value d ts)) is ∙ ap (converted meaning) (value_is d (Token.number x ∷ s)) ∙ ap (option_map (λ u. (u, s))) h)) c.put_number.ensures.refused
+    (λ h d le. token_means d _ s (Token.number x) _ _ is (value_is d (Token.number x ∷ s)) h)) c.put_number.ensures.refused
 
 pub put_value-returns-in-String-clause-ok : goal.put_value-returns-in-String-clause-ok
 put_value-returns-in-String-clause-ok t c =
@@ -161,7 +157,7 @@ put_value-returns-in-String-clause-ok t c =
     let is : c.args.reader.now ≡ Token.string x ∷ s = search rules in
     let put : OnOk c.put_counted.result ((c.put_counted.new.out.items ≡ c.args.out.now.items ++ 83 ∷ long_field x) × (length x < 2 ^ 32)) = search rules in
     on_ok_weaker c.put_counted.result (λ put. long_put (λ v. IsRead c.args.depth meaning (λ d. value d c.args.reader.now) v s) _ _ x put.0 put.1
-    (λ d le. ap (λ ts. converted meaning (value d ts)) is ∙ ap (converted meaning) (value_is d (Token.string x ∷ s)))) put
+    (λ d le. token_means d _ s (Token.string x) _ _ is (value_is d (Token.string x ∷ s)) refl)) put
 
 pub put_value-returns-else-depth-eq0-clause-ok : goal.put_value-returns-else-depth-eq0-clause-ok
 put_value-returns-else-depth-eq0-clause-ok t c =
