@@ -82,6 +82,43 @@ length_past_array
   = malformed
   [1]
 
+length_past_array_in_a_table
+  $ echo 46 00000017 06c3bcc384cebb 41 00000003 460000 026771697c71433b | xxd -r -p | amqp_show
+  FieldTable
+    "üÄλ": FieldArray
+      FieldTable
+      "\u0000\u0000\u0002gqi|qC;" (not decoded)
+  ! offset 17: the FieldTable of 5 bytes goes past the end of its container
+  = malformed
+  [1]
+
+length_past_table_in_a_table
+  $ echo 46 00000010 0161 46 00000005 0162 410000 0163 7401 | xxd -r -p | amqp_show
+  FieldTable
+    "a": FieldTable
+      "b": FieldArray
+      "\u0000\u0000\u0001ct\u0001" (not decoded)
+  ! offset 14: the FieldArray of 5 bytes goes past the end of its container
+  = malformed
+  [1]
+
+length_past_array_by_bytes
+  $ echo 41 0000000c 41 00000003 530000 7401 7400 | xxd -r -p | amqp_show --bytes
+       0  41                  type tag A, FieldArray
+       1  0000000c            length 12
+       5  41                    type tag A, FieldArray
+       6  00000003              length 3
+      10  53                      type tag S, LongString
+      11  000074017400            "\u0000\u0000t\u0001t\u0000" (not decoded)
+  ! offset 10: the LongString of 5 bytes goes past the end of its container
+  = malformed
+  [1]
+
+length_past_array_of_json
+  $ echo 0000000c 0161 41 00000002 7800 0162 56 | amqp_show --hex --table --json
+  2> amqp_show: "-": offset 11: the ByteArray of 5 bytes goes past the end of its container, in "a"[0]
+  [1]
+
 no_value_after_key
   $ echo 41 00000008 46 00000002 0161 56 | xxd -r -p | amqp_show
   FieldArray

@@ -6,7 +6,6 @@ import struct
 from collections.abc import Iterable, Iterator
 from pathlib import Path
 from random import Random
-from typing import Any
 
 import pytest
 from crates import TOP
@@ -32,19 +31,6 @@ FAULT = re.compile(r'amqp_show: ".*?": (line \d+, column \d+: .*|the text ends i
 NO_DIGITS = re.compile(r"#[^\n]*|0[xX]|\\x|[ \t\r\n\f,:]")
 
 
-# Of a counted value whose length its container cuts, the page says how many bytes it has at least. amqp_show still reads the length
-# from the bytes after the container.
-CUT_LENGTH = " of 5 bytes goes past the end of its container"
-SIZE = re.compile(r" of \d+ bytes goes past the end of its container")
-
-
-def adapted(wants: dict[str, Any], has: dict[str, Any]) -> dict[str, Any]:
-    """What the page has to read: what amqp_show prints, except for such a size."""
-    if CUT_LENGTH not in has["failure"] or not wants:
-        return wants
-    return wants | {it: SIZE.sub(CUT_LENGTH, wants[it]) for it in ("failure", "rabbitmq")}
-
-
 def judge(browser: Browser, program: Path, given: Iterable[bytes], is_table: bool = False) -> None:
     """Compares what the page reads of inputs, by both modules, with what amqp_show prints of nearly all of them."""
     all_given = [*given]
@@ -55,7 +41,7 @@ def judge(browser: Browser, program: Path, given: Iterable[bytes], is_table: boo
         for bits in (64, 32):
             read = browser.read(batch, bits, isTable=is_table)
             for data, has, wants_of_it in zip(batch, read, wants[at : at + BATCH], strict=True):
-                assert not wants_of_it or has == adapted(wants_of_it, has), data[:300].hex()
+                assert not wants_of_it or has == wants_of_it, data[:300].hex()
 
 
 def short(given: Iterable[bytes]) -> Iterator[bytes]:

@@ -34,10 +34,13 @@ pub fn problem_text(
         (ProblemKind::Cut, _) if is_truncated(problem) => format!(in alloc;
             "a value is expected; the input ends here"
         )?,
-        (ProblemKind::Cut, Some(amqp_type)) if has_tag_at(parts, place) => format!(in alloc;
-            "the {amqp_type} of {len} bytes goes past the end of its container"
-        )?,
-        (ProblemKind::Cut, _) => format!(in alloc; "a value is expected; its table ends here")?,
+        (ProblemKind::Cut, _) => match value_in_container(encoding, parts, place) {
+            Some((amqp_type, value)) => format!(in alloc;
+                "the {amqp_type} of {} bytes goes past the end of its container",
+                value_len(SliceInput::new(value))
+            )?,
+            None => format!(in alloc; "a value is expected; its table ends here")?,
+        },
         (ProblemKind::KeyCut, _) => {
             let len = there.first().copied().unwrap_or(0);
             let size = bytes_text(alloc, usize::from(len))?;
@@ -119,9 +122,25 @@ pub fn key_text(
     format!(in alloc; "offset {}: the key {key} {what}", settings.offset(pair))
 }
 
-// Whether a value begins at an offset.
-fn has_tag_at(parts: &[Part<'_>], offset: usize) -> bool {
-    parts.iter().any(|part| part.offset == offset && matches!(part.field, Field::TypeTag(_)))
+// The type of the value that begins at an offset, and its bytes up to the end of its container; `None` if
+// no value begins there.
+fn value_in_container<'a>(
+    encoding: &'a [u8],
+    parts: &[Part<'_>],
+    offset: usize,
+) -> Option<(AMQPType, &'a [u8])> {
+    let mut tags = parts
+        .iter()
+        .rev()
+        .filter(|part| matches!(part.field, Field::TypeTag(_)));
+    let value = tags.find(|part| part.offset == offset)?;
+    let container = tags.find(|part| part.level < value.level)?;
+    let body = encoding.get(container.offset..)?;
+    let end = container
+        .offset
+        .saturating_add(value_len(SliceInput::new(body)));
+    let there = encoding.get(offset..end.min(encoding.len()))?;
+    Some((type_of(there)?, there))
 }
 
 // The key at the beginning of a pair.
