@@ -37,8 +37,8 @@ DEFAULTS = {
     "crates/amqp_show/src/arguments.rt": [
         r"const MAX_BYTES: u32 = (?P<bytes>[\d_]+);",
         r"const DEPTH: u32 = (?P<depth>\d+);",
-        r'"max-bytes",\s+"(?P<bytes>\d+)"',
-        r'"depth", "(?P<depth>\d+)"',
+        r'default_value\("(?P<bytes>\d{4,})"\)',
+        r'default_value\("(?P<depth>\d{1,3})"\)',
     ],
     "packaging/amqp_show.1": [r"bytes; (?P<bytes>\d+) by default", r"(?P<depth>\d+) by default\.\n\.It Fl h"],
     "docs/SHOW.md": [r"`--max-bytes` \((?P<bytes>\d+) by default\)", r"`--depth` \((?P<depth>\d+);"],

@@ -58,7 +58,7 @@ Exit status: 0 if each value was read, 1 if a value or JSON was rejected or is t
 a mistake in the arguments or the hexadecimal, or if a file can't be read or the output written.";
 
 /// A version of RabbitMQ that was tried.
-#[derive(Clone, Copy, Debug, PartialEq, Eq)]
+#[derive(Clone, Copy, PartialEq, Eq)]
 pub struct Version {
     /// What it is called.
     pub name: &'static str,
@@ -93,7 +93,7 @@ impl Version {
 }
 
 /// How a value is shown.
-#[derive(Clone, Copy, Debug, PartialEq, Eq)]
+#[derive(Clone, Copy, PartialEq, Eq)]
 pub enum Form {
     /// As a tree.
     Tree,
@@ -121,7 +121,7 @@ impl Form {
 }
 
 /// What is read, and how it is shown.
-#[derive(Clone, Copy, Debug)]
+#[derive(Clone, Copy)]
 pub struct Settings {
     /// The input is a table without its type tag, or encoding gives one.
     pub is_table: bool,
@@ -178,59 +178,94 @@ impl Settings {
 
 /// The command line.
 pub fn command<'a>(alloc: Global) -> Result<Command<'a>, AllocError> {
-    let mut command = Command::new(alloc, "amqp_show")
+    let command = Command::new(alloc, "amqp_show")
         .version("0.1.0")
         .about("Shows AMQP 0-9-1 field tables, and at which byte one is malformed")
         .after_help(EXAMPLES);
+    command.args(all_arguments(alloc)?)
+}
+
+fn all_arguments<'a>(alloc: Global) -> Result<Vec<Arg<'a>>, AllocError> {
+    let mut arguments = Vec::new(alloc);
     for (name, help) in FLAGS {
-        let flag = Arg::new(alloc, name)
-            .long(name)
-            .action(ArgAction::SetTrue)
-            .help(help);
-        command = command.arg(with_relations(flag, name)?)?;
+        arguments.push(flag(alloc, name, help)?)?;
     }
-    let check = Arg::new(alloc, "check")
+    arguments.push(check(alloc)?)?;
+    arguments.push(max_bytes(alloc))?;
+    arguments.push(depth(alloc))?;
+    arguments.push(files(alloc))?;
+    Ok(arguments)
+}
+
+// An option without a value. Of those in the group only one may be used.
+fn flag<'a>(alloc: Global, name: &'a str, help: &'a str) -> Result<Arg<'a>, AllocError> {
+    let flag = Arg::new(alloc, name)
+        .long(name)
+        .action(ArgAction::SetTrue)
+        .help(help);
+    let relations = Relations::of_flag(name);
+    flag.groups(relations.groups)?
+        .conflicts_with_all(relations.conflicts)?
+        .requires_all(relations.needs)
+}
+
+// The groups of an option, and the options that it excludes and needs.
+#[derive(Clone, Copy)]
+struct Relations {
+    groups: &'static [&'static str],
+    conflicts: &'static [&'static str],
+    needs: &'static [&'static str],
+}
+
+impl Relations {
+    fn of_flag(name: &str) -> Relations {
+        let (groups, conflicts, needs): (&[&str], &[&str], &[&str]) = match name {
+            "hex" | "stream" => (&[], &["encode"], &[]),
+            "table" => (&[], &["stream"], &[]),
+            "tree" | "bytes" => (&["form"], &[], &[]),
+            "json" | "encode" => (&["form"], &["canonical"], &[]),
+            "raw" => (&[], &[], &["encode"]),
+            _ => (&[], &[], &[]),
+        };
+        Relations {
+            groups,
+            conflicts,
+            needs,
+        }
+    }
+}
+
+fn check<'a>(alloc: Global) -> Result<Arg<'a>, AllocError> {
+    Arg::new(alloc, "check")
         .long("check")
         .value_name("PEER")
         .value_parser(PEERS)
         .help("Show why a peer closes the connection, or else warnings")
         .group("form")?
-        .conflicts_with("canonical")?;
-    let bytes = number(
-        alloc,
-        "max-bytes",
-        "1048576",
-        "Reject values of more than N bytes",
-    );
-    let deep = "Reject containers that nest more than N deep, at most 1000";
-    let depth = number(alloc, "depth", "32", deep).value_parser(value_parser!(u32).range(
-        0..=DEEPEST,
-    ));
-    let files = Arg::new(alloc, "FILE")
-        .action(ArgAction::Append)
-        .num_args(0..)
-        .help("Files; - or none is the standard input");
-    command.arg(check)?.arg(bytes)?.arg(depth)?.arg(files)
+        .conflicts_with("canonical")
 }
 
-// Which options an option without a value needs or excludes. Of those in the group only one may be used.
-fn with_relations<'a>(flag: Arg<'a>, name: &str) -> Result<Arg<'a>, AllocError> {
-    match name {
-        "hex" | "stream" => flag.conflicts_with("encode"),
-        "table" => flag.conflicts_with("stream"),
-        "tree" | "bytes" => flag.group("form"),
-        "json" | "encode" => flag.group("form")?.conflicts_with("canonical"),
-        "raw" => flag.requires_arg("encode"),
-        _ => Ok(flag),
-    }
-}
-
-// An option whose value is a number.
-fn number<'a>(alloc: Global, name: &'a str, default: &'a str, help: &'a str) -> Arg<'a> {
-    Arg::new(alloc, name)
-        .long(name)
+fn max_bytes<'a>(alloc: Global) -> Arg<'a> {
+    Arg::new(alloc, "max-bytes")
+        .long("max-bytes")
         .value_name("N")
         .value_parser(value_parser!(u32))
-        .default_value(default)
-        .help(help)
+        .default_value("1048576")
+        .help("Reject values of more than N bytes")
+}
+
+fn depth<'a>(alloc: Global) -> Arg<'a> {
+    Arg::new(alloc, "depth")
+        .long("depth")
+        .value_name("N")
+        .value_parser(value_parser!(u32).range(0..=DEEPEST))
+        .default_value("32")
+        .help("Reject containers that nest more than N deep, at most 1000")
+}
+
+fn files<'a>(alloc: Global) -> Arg<'a> {
+    Arg::new(alloc, "FILE")
+        .action(ArgAction::Append)
+        .num_args(0..)
+        .help("Files; - or none is the standard input")
 }

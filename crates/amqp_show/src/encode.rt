@@ -55,50 +55,93 @@ pub fn encode_file(
     is_raw: bool,
     settings: Settings,
 ) -> Result<Status> {
-    let alloc = rt.alloc();
     let mut input = Input::open(rt, file, false)?;
-    let most = settings.limits.frame;
-    let most_text = (most as usize).saturating_mul(JSON_BYTES);
-    let text = input.up_to(most_text.saturating_add(1))?;
-    if text.len() > most_text {
-        let why = format!(in alloc;
-            "the text has more than {most_text} bytes, {JSON_BYTES} times what --max-bytes {most} allows"
-        )?;
-        complain(rt, file, why.as_str())?;
-        return Ok(Status::Rejected);
+    let most = json_len(settings.limits.frame);
+    let text = input.up_to(most.saturating_add(1))?;
+    if text.len() > most {
+        return reject(rt, file, too_long_text(rt.alloc(), settings.limits.frame));
     }
-    let json = match str::from_utf8(text) {
-        Ok(json) => json,
-        Err(error) => {
-            let at = place_text(alloc, text, error.valid_up_to())?;
-            let why = format!(in alloc; "the text isn't UTF-8 at {at}")?;
-            complain(rt, file, why.as_str())?;
-            return Ok(Status::Rejected);
-        }
-    };
-    let why = match encoding_of_json_within(alloc, json, settings.limits.depth) {
-        Ok(bytes) if bytes.len() > most as usize => format!(in alloc;
-            "the value has {} bytes, more than --max-bytes {most} allows",
-            bytes.len()
-        )?,
-        Ok(bytes) => match wanted_of(bytes.as_slice(), settings.is_table) {
-            Some(wanted) => {
-                let repeated = repeated_key(alloc, json)?;
-                print_encoding(rt, wanted, is_raw)?;
-                if let Some(why) = repeated {
-                    complain(rt, file, why.as_str())?;
-                }
-                return Ok(Status::Read);
-            }
-            None => format!(in alloc;
-                "--table writes a FieldTable, and the JSON is another value"
-            )?,
-        },
-        Err(JsonError::OutOfMemory) => return Err(Fault::OutOfMemory),
-        Err(error) => error_text(alloc, json, error, settings.limits.depth)?,
-    };
+    match str::from_utf8(text) {
+        Ok(json) => encode_json(rt, file, json, is_raw, settings),
+        Err(error) => reject(
+            rt,
+            file,
+            not_utf8_text(rt.alloc(), text, error.valid_up_to()),
+        ),
+    }
+}
+
+// Reports why a file's JSON is rejected.
+fn reject(rt: &HostRuntime, file: &str, why: Result<String, AllocError>) -> Result<Status> {
+    let why = why?;
     complain(rt, file, why.as_str())?;
     Ok(Status::Rejected)
+}
+
+// How many bytes the JSON may have of an encoding that has at most that many.
+fn json_len(most: u32) -> usize {
+    (most as usize).saturating_mul(JSON_BYTES)
+}
+
+fn too_long_text(alloc: Global, most: u32) -> Result<String, AllocError> {
+    let most_text = json_len(most);
+    format!(in alloc;
+        "the text has more than {most_text} bytes, {JSON_BYTES} times what --max-bytes {most} allows"
+    )
+}
+
+fn not_utf8_text(alloc: Global, text: &[u8], at: usize) -> Result<String, AllocError> {
+    let place = place_text(alloc, text, at)?;
+    format!(in alloc; "the text isn't UTF-8 at {place}")
+}
+
+fn encode_json(
+    rt: &HostRuntime,
+    file: &str,
+    json: &str,
+    is_raw: bool,
+    settings: Settings,
+) -> Result<Status> {
+    let depth = settings.limits.depth;
+    match encoding_of_json_within(rt.alloc(), json, depth) {
+        Ok(bytes) => write_encoding(rt, file, json, bytes.as_slice(), is_raw, settings),
+        Err(JsonError::OutOfMemory) => Err(Fault::OutOfMemory),
+        Err(error) => reject(rt, file, error_text(rt.alloc(), json, error, depth)),
+    }
+}
+
+// Writes the encoding of some JSON, and reports a key that comes again; or reports why it isn't written.
+fn write_encoding(
+    rt: &HostRuntime,
+    file: &str,
+    json: &str,
+    bytes: &[u8],
+    is_raw: bool,
+    settings: Settings,
+) -> Result<Status> {
+    let (len, most) = (bytes.len(), settings.limits.frame);
+    if len > most as usize {
+        return reject(
+            rt,
+            file,
+            format!(in rt.alloc();
+                "the value has {len} bytes, more than --max-bytes {most} allows"
+            ),
+        );
+    }
+    let Some(wanted) = wanted_of(bytes, settings.is_table) else {
+        return reject(
+            rt,
+            file,
+            format!(in rt.alloc(); "--table writes a FieldTable, and the JSON is another value"),
+        );
+    };
+    let repeated = repeated_key(rt.alloc(), json)?;
+    print_encoding(rt, wanted, is_raw)?;
+    if let Some(why) = repeated {
+        complain(rt, file, why.as_str())?;
+    }
+    Ok(Status::Read)
 }
 
 // Where a text is read in an array or an object that is open.
@@ -110,14 +153,25 @@ enum Step {
     Key(usize),
 }
 
-impl Step {
-    // The step once a value begins.
-    fn at_value(self) -> Self {
-        match self {
-            Step::Items(count) => Step::Items(count.saturating_add(1)),
-            Step::Key(at) => Step::Key(at),
-        }
+// Goes on to a token, which begins at a byte.
+fn pass(steps: &mut Vec<Step>, token: &Token<'_>, at: usize) -> Result<(), AllocError> {
+    if let Token::EndArray | Token::EndObject = token {
+        steps.pop();
+        return Ok(());
     }
+    if let Some(step) = steps.last_mut() {
+        *step = match (*step, token) {
+            (_, Token::Key(_)) => Step::Key(at),
+            (Step::Items(count), _) => Step::Items(count.saturating_add(1)),
+            (same, _) => same,
+        };
+    }
+    match token {
+        Token::BeginArray => steps.push(Step::Items(0))?,
+        Token::BeginObject => steps.push(Step::Key(at))?,
+        _ => {}
+    }
+    Ok(())
 }
 
 // The first key that comes again in its object.
@@ -132,31 +186,17 @@ fn repeated_key(alloc: Global, json: &str) -> Result<Option<String>, AllocError>
         let Some(token) = reader.next() else {
             break;
         };
-        if let Token::Key(key) = token {
-            if let Some(step) = steps.last_mut() {
-                *step = Step::Key(at);
-            }
-            if let Some(keys) = open.last_mut()
-                && !keys.insert(key)?
-            {
-                return Ok(Some(repeated_text(alloc, json, at, key, steps.as_slice())?));
-            }
-            continue;
-        }
-        if let Token::EndArray | Token::EndObject = token {
-            steps.pop();
-        } else if let Some(step) = steps.last_mut() {
-            *step = step.at_value();
-        }
+        pass(&mut steps, &token, at)?;
         match token {
-            Token::BeginArray => steps.push(Step::Items(0))?,
-            Token::BeginObject => {
-                steps.push(Step::Key(at))?;
-                open.push(BTreeSet::new(alloc))?;
-            }
+            Token::BeginObject => open.push(BTreeSet::new(alloc))?,
             Token::EndObject => {
                 open.pop();
             }
+            Token::Key(key) => if let Some(keys) = open.last_mut()
+                && !keys.insert(key)?
+            {
+                return Ok(Some(repeated_text(alloc, json, at, key, steps.as_slice())?));
+            },
             _ => {}
         }
     }
@@ -171,6 +211,19 @@ fn repeated_text(
     key: &str,
     steps: &[Step],
 ) -> Result<String, AllocError> {
+    let path = path_text(alloc, json, steps)?;
+    let inside = if path.is_empty() { "" } else { ", in " };
+    let (key, place) = (
+        quoted(alloc, key.as_bytes())?,
+        place_text(alloc, json.as_bytes(), at)?,
+    );
+    format!(in alloc;
+        "the key {key} comes again at {place}{inside}{path}; only its last value is written"
+    )
+}
+
+// The keys and indices that lead to the object of the last step.
+fn path_text(alloc: Global, json: &str, steps: &[Step]) -> Result<String, AllocError> {
     let mut path = String::new(alloc);
     let outer = steps.len().saturating_sub(1);
     for step in steps.iter().take(outer) {
@@ -182,14 +235,7 @@ fn repeated_text(
             }
         }
     }
-    let inside = if path.is_empty() { "" } else { ", in " };
-    let (key, place) = (
-        quoted(alloc, key.as_bytes())?,
-        place_text(alloc, json.as_bytes(), at)?,
-    );
-    format!(in alloc;
-        "the key {key} comes again at {place}{inside}{path}; only its last value is written"
-    )
+    Ok(path)
 }
 
 // The key that begins at a byte, as in a message.
@@ -321,9 +367,15 @@ fn bits_text(alloc: Global, name: &str, text: &str) -> Result<String, AllocError
 
 // The type that an object names whose value is at this byte.
 fn type_before(json: &str, at: usize) -> Option<(&'static str, &'static str)> {
-    let before = json.get(..at)?.trim_end().strip_suffix(':')?;
-    let (_, name) = before.trim_end().strip_suffix('"')?.rsplit_once("\"$")?;
+    let name = name_before(json.get(..at)?)?;
     TYPES.iter().find(|(it, _)| *it == name).copied()
+}
+
+// The name after a `$`, in the key that a text ends with.
+fn name_before(text: &str) -> Option<&str> {
+    let key = text.trim_end().strip_suffix(':')?.trim_end();
+    let (_, name) = key.strip_suffix('"')?.rsplit_once("\"$")?;
+    Some(name)
 }
 
 // What a text has from a byte on, as far as its line goes, or the beginning of that.

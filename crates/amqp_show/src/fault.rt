@@ -7,7 +7,7 @@ use std::io::ErrorKind;
 use thiserror::Error;
 
 /// How it went, from the best to the worst.
-#[derive(Clone, Copy, Debug, PartialEq, Eq)]
+#[derive(Clone, Copy, PartialEq, Eq)]
 pub enum Status {
     /// Each value was read.
     Read,

@@ -31,7 +31,7 @@ pub enum NotHexadecimal {
 }
 
 // What may come next.
-#[derive(Clone, Copy, Debug)]
+#[derive(Clone, Copy)]
 enum State {
     // The next byte, or what is between bytes.
     Between,
@@ -47,7 +47,7 @@ enum State {
 }
 
 /// What was read of a text.
-#[derive(Clone, Copy, Debug)]
+#[derive(Clone, Copy)]
 pub struct Decoder {
     state: State,
     line: u64,

@@ -35,6 +35,7 @@ mod texts;
 mod tree;
 
 use arguments::Settings;
+use clap::ArgMatches;
 use clap::error::ErrorKind;
 use fault::{Fault, Result, Status};
 use messages::{complain, say};
@@ -74,29 +75,42 @@ fn fail(rt: &HostRuntime, fault: &Fault) -> Result<()> {
 fn run(rt: &HostRuntime) -> Result<Status> {
     let alloc = rt.alloc();
     let words: Vec<String> = env::args(rt).map_err(Fault::of_input)?.collect(alloc)?;
-    let matches = match arguments::command(alloc)?.try_get_matches_from(words.as_slice()) {
-        Ok(matches) => matches,
-        Err(error) => return show_usage(rt, &error),
-    };
-    let settings = Settings::from_matches(&matches, is_terminal(rt) && allows_colours(rt));
+    match arguments::command(alloc)?.try_get_matches_from(words.as_slice()) {
+        Ok(matches) => run_files(rt, &matches),
+        Err(error) => show_usage(rt, &error),
+    }
+}
+
+// Shows each file, or encodes its JSON.
+fn run_files(rt: &HostRuntime, matches: &ArgMatches<'_>) -> Result<Status> {
+    let settings = Settings::from_matches(matches, is_terminal(rt) && allows_colours(rt));
     let mut status = Status::Read;
     for file in matches.get_strs("FILE").unwrap_or(&["-"]) {
-        let shown = if matches.get_flag("encode") {
-            encode::encode_file(rt, *file, matches.get_flag("raw"), settings)
-        } else {
-            show::show_file(rt, *file, settings)
-        };
-        status = status.and(match shown {
-            Ok(status) => status,
-            Err(fault) if fault.is_of_file() => {
-                let why = format!(in alloc; "{fault}")?;
-                complain(rt, *file, why.as_str())?;
-                Status::Mistake
-            }
-            Err(fault) => return Err(fault),
-        });
+        status = status.and(run_file(rt, *file, matches, settings)?);
     }
     Ok(status)
+}
+
+// Shows a file, or encodes its JSON; or reports why it can't be read.
+fn run_file(
+    rt: &HostRuntime,
+    file: &str,
+    matches: &ArgMatches<'_>,
+    settings: Settings,
+) -> Result<Status> {
+    let ran = if matches.get_flag("encode") {
+        encode::encode_file(rt, file, matches.get_flag("raw"), settings)
+    } else {
+        show::show_file(rt, file, settings)
+    };
+    match ran {
+        Err(fault) if fault.is_of_file() => {
+            let why = format!(in rt.alloc(); "{fault}")?;
+            complain(rt, file, why.as_str())?;
+            Ok(Status::Mistake)
+        }
+        ran => ran,
+    }
 }
 
 // Prints what the arguments ask for, or why they can't be understood.

@@ -11,7 +11,7 @@ use std::alloc::{AllocError, Global};
 use std::collections::BTreeSet;
 
 /// What a part of an encoding is.
-#[derive(Clone, Copy, Debug, PartialEq, Eq)]
+#[derive(Clone, Copy, PartialEq, Eq)]
 pub enum Field {
     /// The byte that determines the type of the value after it.
     TypeTag(AMQPType),
@@ -30,7 +30,7 @@ pub enum Field {
 }
 
 /// What readers may differ on.
-#[derive(Clone, Copy, Debug, PartialEq, Eq)]
+#[derive(Clone, Copy, PartialEq, Eq)]
 pub enum Note {
     /// The table has the key already.
     Repeated,

@@ -24,53 +24,20 @@ pub fn problem_text(
         (problem.offset, problem.offset)
     };
     let there = encoding.get(place..).unwrap_or(&[]);
-    let len = value_len(SliceInput::new(there));
-    let why = match (problem.kind, type_of(there)) {
-        (ProblemKind::UnknownTag(tag), _) => unknown_tag_text(alloc, tag)?,
-        (ProblemKind::NotFinite, _) => format!(in alloc; "the number is an infinity or a NaN")?,
-        (ProblemKind::Cut, Some(amqp_type)) if is_truncated(problem) => format!(in alloc;
-            "the input ends inside the {amqp_type}"
-        )?,
-        (ProblemKind::Cut, _) if is_truncated(problem) => format!(in alloc;
-            "a value is expected; the input ends here"
-        )?,
-        (ProblemKind::Cut, _) => match value_in_container(encoding, parts, place) {
-            Some((amqp_type, value)) => format!(in alloc;
-                "the {amqp_type} of {} bytes goes past the end of its container",
-                value_len(SliceInput::new(value))
-            )?,
-            None => format!(in alloc; "a value is expected; its table ends here")?,
-        },
-        (ProblemKind::KeyCut, _) => {
-            let len = there.first().copied().unwrap_or(0);
-            let size = bytes_text(alloc, usize::from(len))?;
-            format!(in alloc; "the key of {size} goes past the end of its table")?
-        }
-        (ProblemKind::KeyNotUtf8, _) => {
-            let key = quoted(alloc, key_of(there))?;
-            format!(in alloc; "the key {key} isn't UTF-8")?
-        }
-        (ProblemKind::TooDeep, _) => format!(in alloc;
-            "containers nest deeper than --depth {} allows",
-            settings.limits.depth
-        )?,
-        (ProblemKind::TooLarge, _) => {
-            let with_tag = if settings.is_table {
-                " with its type tag"
-            } else {
-                ""
-            };
-            let (name, most) = (settings.name(), settings.limits.frame);
-            let size = bytes_text(alloc, len)?;
-            format!(in alloc;
-                "the {name}{with_tag} has {size}, more than --max-bytes {most} allows"
-            )?
-        }
-    };
+    let why = match problem.kind {
+        ProblemKind::Cut if is_truncated(problem) => truncated_text(alloc, there),
+        ProblemKind::Cut => cut_text(alloc, encoding, parts, place),
+        ProblemKind::UnknownTag(tag) => unknown_tag_text(alloc, tag),
+        ProblemKind::NotFinite => format!(in alloc; "the number is an infinity or a NaN"),
+        ProblemKind::KeyCut => cut_key_text(alloc, there),
+        ProblemKind::KeyNotUtf8 => key_not_utf8_text(alloc, there),
+        ProblemKind::TooDeep => too_deep_text(alloc, settings),
+        ProblemKind::TooLarge => too_large_text(alloc, there, settings),
+    }?;
     let path = match settings.form {
-        Form::Tree | Form::Bytes => String::new(alloc),
-        Form::Json | Form::Check(_) => path_text(alloc, parts, place)?,
-    };
+        Form::Tree | Form::Bytes => Ok(String::new(alloc)),
+        Form::Json | Form::Check(_) => path_text(alloc, parts, place),
+    }?;
     format!(in alloc; "offset {}: {why}{path}", settings.offset(at))
 }
 
@@ -82,6 +49,55 @@ pub fn is_truncated(problem: Problem) -> bool {
 /// Whether it is that the value has more bytes than the limits allow, or nests deeper.
 pub fn is_beyond_limits(problem: Problem) -> bool {
     matches!(problem.kind, ProblemKind::TooDeep | ProblemKind::TooLarge)
+}
+
+fn truncated_text(alloc: Global, innermost: &[u8]) -> Result<String, AllocError> {
+    match type_of(innermost) {
+        Some(amqp_type) => format!(in alloc; "the input ends inside the {amqp_type}"),
+        None => format!(in alloc; "a value is expected; the input ends here"),
+    }
+}
+
+fn cut_text(
+    alloc: Global,
+    encoding: &[u8],
+    parts: &[Part<'_>],
+    offset: usize,
+) -> Result<String, AllocError> {
+    match value_in_container(encoding, parts, offset) {
+        Some((amqp_type, value)) => format!(in alloc;
+            "the {amqp_type} of {} bytes goes past the end of its container",
+            value_len(SliceInput::new(value))
+        ),
+        None => format!(in alloc; "a value is expected; its table ends here"),
+    }
+}
+
+fn cut_key_text(alloc: Global, pair: &[u8]) -> Result<String, AllocError> {
+    let len = pair.first().copied().unwrap_or(0);
+    let size = bytes_text(alloc, usize::from(len))?;
+    format!(in alloc; "the key of {size} goes past the end of its table")
+}
+
+fn key_not_utf8_text(alloc: Global, pair: &[u8]) -> Result<String, AllocError> {
+    let key = quoted(alloc, key_of(pair))?;
+    format!(in alloc; "the key {key} isn't UTF-8")
+}
+
+fn too_deep_text(alloc: Global, settings: Settings) -> Result<String, AllocError> {
+    let most = settings.limits.depth;
+    format!(in alloc; "containers nest deeper than --depth {most} allows")
+}
+
+fn too_large_text(alloc: Global, value: &[u8], settings: Settings) -> Result<String, AllocError> {
+    let with_tag = if settings.is_table {
+        " with its type tag"
+    } else {
+        ""
+    };
+    let (name, most) = (settings.name(), settings.limits.frame);
+    let size = bytes_text(alloc, value_len(SliceInput::new(value)))?;
+    format!(in alloc; "the {name}{with_tag} has {size}, more than --max-bytes {most} allows")
 }
 
 // RabbitMQ has other type tags than `amq_protocol_types`.
@@ -161,6 +177,25 @@ enum Step {
 
 /// The keys and indices that lead to an offset, as `, in "a"[0]`: none to the outermost value.
 pub fn path_text(alloc: Global, parts: &[Part<'_>], offset: usize) -> Result<String, AllocError> {
+    let mut path = String::new(alloc);
+    for step in &steps_to(alloc, parts, offset)? {
+        match *step {
+            Step::Index(count) => write!(path, "[{}]", count.saturating_sub(1))?,
+            Step::Key(index) => if let Some(part) = parts.get(index) {
+                let key = quoted(alloc, part.bytes)?;
+                write!(path, "{}{key}", if path.is_empty() { "" } else { "." })?;
+            },
+            Step::NoKey => {}
+        }
+    }
+    if path.is_empty() {
+        return Ok(path);
+    }
+    format!(in alloc; ", in {path}")
+}
+
+// What leads into each container that an offset is in.
+fn steps_to(alloc: Global, parts: &[Part<'_>], offset: usize) -> Result<Vec<Step>, AllocError> {
     let mut steps = Vec::new(alloc);
     let mut is_after_key = false;
     for (index, part) in parts.iter().enumerate() {
@@ -188,19 +223,5 @@ pub fn path_text(alloc: Global, parts: &[Part<'_>], offset: usize) -> Result<Str
             })?;
         }
     }
-    let mut path = String::new(alloc);
-    for step in &steps {
-        match *step {
-            Step::Index(count) => write!(path, "[{}]", count.saturating_sub(1))?,
-            Step::Key(index) => if let Some(part) = parts.get(index) {
-                let key = quoted(alloc, part.bytes)?;
-                write!(path, "{}{key}", if path.is_empty() { "" } else { "." })?;
-            },
-            Step::NoKey => {}
-        }
-    }
-    if path.is_empty() {
-        return Ok(path);
-    }
-    format!(in alloc; ", in {path}")
+    Ok(steps)
 }

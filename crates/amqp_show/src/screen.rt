@@ -10,7 +10,7 @@ use std::io;
 use std::io::Write;
 
 /// What is emphasised.
-#[derive(Clone, Copy, Debug)]
+#[derive(Clone, Copy)]
 pub enum Colour {
     /// A key.
     Key,

@@ -172,21 +172,33 @@ fn show_text(
     let parts = parts_of(alloc, shown, settings.limits.depth)?;
     let parts = parts.as_slice();
     if settings.form == Form::Bytes {
-        show_parts(rt, screen, bytes, parts, settings)?;
+        show_parts(rt, screen, bytes, parts, settings)
     } else {
-        show_tree(rt, screen, bytes, parts, settings.is_canonical)?;
-    }
+        show_tree(rt, screen, bytes, parts, settings.is_canonical)
+    }?;
+    push_result(alloc, screen, bytes, parts, problem, settings)?;
+    Ok(match problem {
+        Some(_) => Status::Rejected,
+        None => Status::Read,
+    })
+}
+
+// Adds a line about the first key that comes again, one about the problem, and what reading results in.
+fn push_result(
+    alloc: Global,
+    screen: &mut Screen,
+    bytes: &[u8],
+    parts: &[Part<'_>],
+    problem: Option<Problem>,
+    settings: Settings,
+) -> Result<(), AllocError> {
     push_repeated(alloc, screen, bytes, parts, settings)?;
     if let Some(problem) = problem {
         let why = problem_text(alloc, bytes, parts, problem, settings)?;
         push_remark(alloc, screen, Colour::Failure, why.as_str())?;
     }
     let outcome = outcome_text(alloc, bytes, problem, settings)?;
-    push_outcome(alloc, screen, outcome.as_str(), settings)?;
-    Ok(match problem {
-        Some(_) => Status::Rejected,
-        None => Status::Read,
-    })
+    push_outcome(alloc, screen, outcome.as_str(), settings)
 }
 
 // Adds a line about the first key that comes again in its table.

@@ -117,11 +117,7 @@ pub fn show_parts(
         if let Field::TypeTag(_) = part.field {
             value = encoding.get(part.offset..).unwrap_or(&[]);
         }
-        let digits = first_digits(alloc, part.bytes)?;
-        let begin = format!(in alloc; "{:>6}  {digits}", settings.offset(part.offset))?;
-        screen.push(begin.as_str())?;
-        let column = COLUMN.saturating_sub(digits.len());
-        push_spaces(screen, column.saturating_add(indentation(part.level)))?;
+        begin_part(alloc, screen, part, settings)?;
         push_field(alloc, screen, part, value)?;
         push_note(screen, part.note, settings.is_canonical)?;
         screen.end_line()?;
@@ -130,6 +126,20 @@ pub fn show_parts(
         }
     }
     Ok(())
+}
+
+// Adds the offset of a part and its first bytes, and indents what it is.
+fn begin_part(
+    alloc: Global,
+    screen: &mut Screen,
+    part: &Part<'_>,
+    settings: Settings,
+) -> Result<(), AllocError> {
+    let digits = first_digits(alloc, part.bytes)?;
+    let begin = format!(in alloc; "{:>6}  {digits}", settings.offset(part.offset))?;
+    screen.push(begin.as_str())?;
+    let column = COLUMN.saturating_sub(digits.len());
+    push_spaces(screen, column.saturating_add(indentation(part.level)))
 }
 
 // The first bytes in hexadecimal.
@@ -151,13 +161,13 @@ fn push_field(
     let text = match part.field {
         Field::TypeTag(amqp_type) => {
             let tag = value.first().map_or(' ', |tag| char::from(*tag));
-            format!(in alloc; "type tag {tag}, {amqp_type}")?
+            format!(in alloc; "type tag {tag}, {amqp_type}")
         }
-        Field::Length(len) => format!(in alloc; "length {len}")?,
-        Field::KeyLength(len) => format!(in alloc; "key length {len}")?,
-        Field::Key => format!(in alloc; "key ")?,
-        Field::Payload | Field::Cut(_) | Field::Rest => String::new(alloc),
-    };
+        Field::Length(len) => format!(in alloc; "length {len}"),
+        Field::KeyLength(len) => format!(in alloc; "key length {len}"),
+        Field::Key => format!(in alloc; "key "),
+        Field::Payload | Field::Cut(_) | Field::Rest => Ok(String::new(alloc)),
+    }?;
     screen.push(text.as_str())?;
     match part.field {
         Field::TypeTag(_) => Ok(()),
@@ -193,20 +203,15 @@ fn push_rest(
     let shown = part.bytes.get(..REST).unwrap_or(part.bytes);
     let count = part.bytes.len();
     let dots = if count > REST { ".." } else { "" };
-    let text = match (part.field, value.first()) {
-        (Field::Cut(len), Some(b'S')) => {
-            let words = quoted(alloc, shown)?;
-            format!(in alloc; "{words}{dots} ({count} of {len} bytes)")?
-        }
-        (Field::Cut(len), _) => {
-            let digits = hex::encode(alloc, shown)?;
-            format!(in alloc; "{digits}{dots} ({count} of {len} bytes)")?
-        }
-        _ => {
-            let words = quoted(alloc, shown)?;
-            format!(in alloc; "{words}{dots} (not decoded)")?
-        }
-    };
+    let begin = match (part.field, value.first()) {
+        (Field::Cut(_), Some(b'S')) => quoted(alloc, shown),
+        (Field::Cut(_), _) => hex::encode(alloc, shown),
+        _ => quoted(alloc, shown),
+    }?;
+    let text = match part.field {
+        Field::Cut(len) => format!(in alloc; "{begin}{dots} ({count} of {len} bytes)"),
+        _ => format!(in alloc; "{begin}{dots} (not decoded)"),
+    }?;
     screen.push_coloured(text.as_str(), Colour::Failure)
 }
 
