@@ -94,4 +94,4 @@ def test_command_of_readme(program: Path, source: str, words: str, wants: str) -
 
 def test_only_screen_writes() -> None:
     sources = sorted((CRATE / "src").glob("**/*.rt"))
-    assert [it.name for it in sources if WRITES.search(it.read_text())] == ["screen.rt", "terminal.rt"]
+    assert [it.name for it in sources if WRITES.search(it.read_text())] == ["screen.rt"]

@@ -5,7 +5,7 @@ use Rattle.std.proofs.lemmas.List.{map-id}
 use Rattle.std.specs.Char.{digit_char}
 use Rattle.std.specs.List.{flat_map}
 use Rattle.amqp_show.specs.Screens.{escape}
-use Rattle.amqp_show.specs.Pushes.{shown, AddsText}
+use Rattle.amqp_show.specs.Output.{shown, AddsText}
 use Rattle.amqp_show.specs.declared.screen.Screen.{Screen}
 
 -- nothing is added

@@ -1,3 +1,4 @@
+-- The lemmas that proofs of functions cite.
 mod Screens
 mod Adding
 mod Covering

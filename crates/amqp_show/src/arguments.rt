@@ -1,4 +1,4 @@
-//! What the command line asks for.
+//! The command line: its options, and what they ask for.
 
 use amq_protocol_types::stream::Limits;
 use clap::{Arg, ArgAction, ArgMatches, Command, value_parser};

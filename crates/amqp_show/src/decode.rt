@@ -1,7 +1,7 @@
-//! A value as JSON.
+//! Shows a value as JSON, for `--json`.
 
 ghost use Rattle.std.specs.Prelude.{OnOk};
-ghost use Rattle.amqp_show.specs.JsonLines.{AddsJsonLine};
+ghost use Rattle.amqp_show.specs.Output.{AddsJsonLine};
 
 use crate::arguments::Settings;
 use crate::fault::{Fault, Result, Status};

@@ -1,17 +1,15 @@
-//! The encoding of a value from its JSON.
+//! Writes the encoding of the value that some JSON denotes, for `--encode`.
 
 ghost use Rattle.std.specs.Prelude.{◌≡◌, ◌++◌, ◌∷◌, [], IfOk, IfSome, IsTrue, IsFalse};
 ghost use Rattle.hex.specs.Hex.{encode_lower};
 ghost use Rattle.amqp_show.specs.Screens.{in_line};
-ghost use Rattle.amqp_show.specs.Pushes.{shown};
+ghost use Rattle.amqp_show.specs.Output.{shown};
 
 use crate::arguments::Settings;
 use crate::fault::{Fault, Result, Status};
 use crate::input::Input;
-use crate::messages::complain;
-use crate::screen::Screen;
-use crate::terminal::print_raw;
-use crate::texts::quoted;
+use crate::messages::{complain, quoted};
+use crate::screen::{Screen, print_raw};
 use amqp_json::{JsonError, Mismatch, SyntaxError, encoding_of_json_within};
 use json::{Reader, Scratch, Token};
 use std::alloc::{AllocError, Global};

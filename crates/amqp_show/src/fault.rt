@@ -1,4 +1,4 @@
-//! How the work on a file ends.
+//! How the work on a file ends: the exit status, and what ends it early.
 
 use crate::hexadecimal::NotHexadecimal;
 use std::alloc::AllocError;
@@ -20,7 +20,7 @@ pub enum Status {
 
 impl Status {
     ghost use Rattle.std.specs.Prelude.{◌≡◌, max};
-    ghost use Rattle.amqp_show.specs.Statuses.{code_of};
+    ghost use Rattle.amqp_show.specs.Output.{code_of};
 
     /// The exit status of the program.
     pub fn code(self) -> u8

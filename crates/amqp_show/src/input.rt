@@ -1,4 +1,4 @@
-//! What is read: the bytes of a file, or those that it spells in hexadecimal.
+//! Reads a file, or the bytes that it spells in hexadecimal, as far as they are asked for.
 
 use crate::fault::{Fault, Result};
 use crate::hexadecimal::{Decoder, NotHexadecimal, dump_of};

@@ -4,18 +4,18 @@
 //! What comes in, through which modules, and what comes out:
 //!
 //! ```text
-//! arguments  arguments                                        Settings
-//! a file     input, with --hex by hexadecimal                 the bytes of a value
-//! the bytes  show, by parts and problems: tree, decode (to    Screen, Status
-//!            JSON), check (what RabbitMQ makes of it)
-//! JSON       encode                                           the bytes, or digits
-//! Screen     screen, by terminal; messages on standard error  what is printed
+//! arguments   arguments                                    Settings
+//! a file      input, with --hex by hexadecimal             the bytes of a value
+//! the bytes   show, by parts and problems: tree, decode    Screen, Status
+//!             (to JSON), check (RabbitMQ)
+//! JSON        encode                                       the bytes, or digits
+//! Screen      screen; messages on standard error           what is printed
 //! ```
 #![tactic(auto)]
 
 ghost use Rattle.std.specs.Prelude.{◌≡◌};
 ghost use Rattle.std.specs.Process.{exit_status};
-ghost use Rattle.amqp_show.specs.Statuses.{code_of, status_after};
+ghost use Rattle.amqp_show.specs.Output.{code_of, status_after};
 
 mod arguments;
 mod check;
@@ -27,11 +27,8 @@ mod input;
 mod messages;
 mod parts;
 mod problems;
-mod remarks;
 mod screen;
 mod show;
-mod terminal;
-mod texts;
 mod tree;
 
 use arguments::Settings;
@@ -39,10 +36,9 @@ use clap::ArgMatches;
 use clap::error::ErrorKind;
 use fault::{Fault, Result, Status};
 use messages::{complain, say};
-use screen::Screen;
+use screen::{Screen, is_terminal};
 use std::env;
 use std::process::ExitCode;
-use terminal::is_terminal;
 
 fn main(rt: HostRuntime) -> ExitCode {
     let outcome = run(&rt);

@@ -1,4 +1,4 @@
-//! The parts of an encoding.
+//! Splits an encoding into its parts, also one that is malformed or cut.
 
 ghost use Rattle.std.specs.Prelude.{◌≡◌, ◌≤◌, ◌+◌, length, take, IfOk, OnOk};
 ghost use Rattle.amqp_show.specs.Parts.{joined, HaveOffsets};

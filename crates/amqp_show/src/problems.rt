@@ -1,8 +1,8 @@
-//! Why a value isn't read, or closes a connection.
+//! Says why a value is rejected, or closes a connection, and where.
 
 use crate::arguments::{Form, Settings};
+use crate::messages::{bytes_text, quoted};
 use crate::parts::{Field, Part, type_of};
-use crate::texts::{bytes_text, quoted};
 use amq_protocol_types::AMQPType;
 use amq_protocol_types::parsing::SliceInput;
 use amq_protocol_types::parsing::header::value_len;

@@ -1,13 +1,16 @@
-//! What is printed. Nothing else in the program prints.
+//! What is printed, so that a terminal shows it and doesn't obey it. Nothing else in the program prints.
 
-ghost use Rattle.std.specs.Prelude.{string_bytes};
-ghost use Rattle.amqp_show.specs.Screens.{IsShowable};
+ghost use Rattle.std.specs.Prelude.{◌≡◌, ◌<◌, IsTrue, IsErr, OnOk, string_bytes};
+ghost use Rattle.std.specs.Char.{digit_char};
+ghost use Rattle.std.specs.Io.KnownBytes.{Appends, Keeps};
+ghost use Rattle.std.specs.Bool.{OnTrue};
+ghost use Rattle.std.specs.Str.{chars};
+ghost use Rattle.amqp_show.specs.Screens.{IsShowable, prints, all_print, turns_text};
 
 use crate::fault::Fault;
-use crate::terminal::{all_print, digit_of, does_print};
 use std::alloc::{AllocError, Global};
 use std::io;
-use std::io::Write;
+use std::io::{IsTerminal, Write};
 
 /// What is emphasised.
 #[derive(Clone, Copy)]
@@ -30,13 +33,13 @@ pub struct Screen {
 }
 
 impl Screen {
-    ghost use Rattle.std.specs.Prelude.{◌≡◌, ◌<◌, ◌∷◌, ◌++◌, [], length, IsTrue, OnOk};
-    ghost use Rattle.std.specs.Char.{digit_char, encode_utf8};
-    ghost use Rattle.std.specs.Io.KnownBytes.{Appends};
-    ghost use Rattle.amqp_show.specs.Screens.{prints, shown_character, escape, in_line};
-    ghost use Rattle.amqp_show.specs.Pushes.{shown, AddsText};
+    ghost use Rattle.std.specs.Prelude.{◌∷◌, ◌++◌, [], length};
+    ghost use Rattle.std.specs.Char.{encode_utf8};
+    ghost use Rattle.amqp_show.specs.Screens.{shown_character, escape, in_line};
+    ghost use Rattle.amqp_show.specs.Output.{shown, AddsText};
 
     /// Nothing yet.
+    #[tactic(auto, using(crate::proofs::Screens::nothing))]
     pub fn new(alloc: Global, has_colours: bool) -> Screen
         ensures empty { shown result ≡ [] }
         ensures colours { result.has_colours ≡ has_colours }
@@ -95,6 +98,7 @@ impl Screen {
     }
 
     /// Adds words in a colour, if there are colours.
+    #[tactic(auto, using(crate::proofs::Screens::colour_end))]
     pub fn push_coloured(&mut self, words: &str, colour: Colour) -> Result<(), AllocError> {
         if !self.has_colours {
             return self.push(words);
@@ -105,6 +109,7 @@ impl Screen {
     }
 
     // Begins a colour.
+    #[tactic(auto, using(crate::proofs::Screens::key_colour, crate::proofs::Screens::note_colour, crate::proofs::Screens::failure_colour))]
     fn begin(&mut self, colour: Colour) -> Result<(), AllocError>
         requires { IsTrue self.old.has_colours }
         ensures { OnOk result (IsTrue self.new.has_colours) }
@@ -117,6 +122,7 @@ impl Screen {
     }
 
     /// Ends a line.
+    #[tactic(auto, using(crate::proofs::Screens::line_end))]
     pub fn end_line(&mut self) -> Result<(), AllocError>
         ensures { OnOk result (AddsText self.old self.new (10 ∷ [])) }
     {
@@ -161,6 +167,7 @@ impl Screen {
         self.print_to(&mut rt.stderr()).map_err(Fault::of_output)
     }
 
+    #[tactic(auto, using(crate::proofs::Screens::nothing))]
     fn print_to<W: Write>(&mut self, writer: &mut W) -> io::Result<()>
         ensures written { OnOk result
             (Appends (W.contents writer.old) (W.contents writer.new) (shown self.old)) }
@@ -170,4 +177,63 @@ impl Screen {
         self.text.clear();
         Ok(())
     }
+}
+
+/// Writes bytes as they are to the standard output, unless it is a terminal, which would obey them.
+pub fn print_raw(rt: &HostRuntime, bytes: &[u8]) -> Result<(), Fault> {
+    raw_to(&mut rt.stdout(), is_terminal(rt), bytes)
+}
+
+// Writes bytes as they are, unless the writer is a terminal.
+fn raw_to<W: Write>(writer: &mut W, is_terminal: bool, bytes: &[u8]) -> Result<(), Fault>
+    ensures refused { IsTrue is_terminal → IsErr result }
+    ensures untouched { IsTrue is_terminal → Keeps (W.contents writer.old) (W.contents writer.new) }
+    ensures written { OnOk result
+        (Appends (W.contents writer.old) (W.contents writer.new) bytes.now) }
+{
+    if is_terminal {
+        return Err(Fault::Terminal);
+    }
+    writer.write_all(bytes).map_err(Fault::of_output)
+}
+
+/// Whether the standard output is a terminal.
+pub fn is_terminal(rt: &HostRuntime) -> bool {
+    rt.stdout().is_terminal()
+}
+
+// Whether a terminal shows the character and doesn't obey it.
+fn does_print(c: char) -> bool
+    ensures { result ≡ prints c }
+{
+    !c.is_control() && !turns(c)
+}
+
+// Whether each character of the words does.
+fn all_print(words: &str) -> bool
+    ensures { OnTrue result (IsTrue (all_print (chars words.now))) }
+{
+    for c in words.chars() {
+        if !does_print(c) {
+            return false;
+        }
+    }
+    true
+}
+
+// Whether the character turns the direction of the text around it.
+fn turns(c: char) -> bool
+    ensures { result ≡ turns_text c }
+{
+    matches!(c, '\u{61c}' | '\u{200e}'..='\u{200f}' | '\u{202a}'..='\u{202e}' | '\u{2066}'..='\u{2069}')
+}
+
+// The digit of a number below 16.
+fn digit_of(n: u32) -> char
+    requires { n < 16 }
+    ensures value { result ≡ digit_char n }
+    ensures shown { IsTrue (prints result) }
+{
+    let n = n as u8;
+    char::from(if n < 10 { b'0' + n } else { b'a' + (n - 10) })
 }

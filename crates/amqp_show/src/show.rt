@@ -1,4 +1,4 @@
-//! The values of a file.
+//! Shows a file: the value at its beginning, or each of a stream.
 
 ghost use Rattle.std.specs.Prelude.{◌≡◌, ◌↔◌, IfOk};
 ghost use Rattle.amqp_in_place.specs.ProblemResults.{FindsValue};
@@ -9,12 +9,10 @@ use crate::decode::show_json;
 use crate::fault::{Result, Status};
 use crate::hexadecimal::is_hexadecimal;
 use crate::input::{BLOCK, Input};
-use crate::messages::complain;
+use crate::messages::{bytes_text, complain, push_outcome, push_remark};
 use crate::parts::{Note, Part, parts_of, type_of};
 use crate::problems::{is_beyond_limits, is_truncated, key_text, problem_text};
-use crate::remarks::{push_outcome, push_remark};
 use crate::screen::{Colour, Screen};
-use crate::texts::bytes_text;
 use crate::tree::{show_parts, show_tree};
 use amq_protocol_types::parsing::{Err, Needed};
 use amqp_in_place::{

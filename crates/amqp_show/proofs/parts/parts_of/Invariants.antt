@@ -1,3 +1,4 @@
+-- What the walk keeps.
 use Rattle.std.proofs.Common.{◌≡◌}
 use Rattle.amqp_show.proofs.parts.parts_of.Given as goal
 

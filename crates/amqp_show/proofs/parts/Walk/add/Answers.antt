@@ -1,3 +1,4 @@
+-- The part that is added keeps what a walk guarantees.
 use Rattle.std.proofs.Common.{◌≡◌, ◌+◌, List, take, refl, sym, subst}
 use Rattle.amqp_show.specs.declared.parts.Part.{Part}
 use Rattle.amqp_show.specs.Parts.{joined, HaveOffsets}

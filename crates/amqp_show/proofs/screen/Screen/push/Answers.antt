@@ -1,8 +1,9 @@
+-- Words are added whole if all of them print, and otherwise one character after another.
 use Rattle.std.proofs.Common.{sym, subst}
 use Rattle.std.proofs.lemmas.Iterator.{YieldsList-from_chars}
 use Rattle.std.proofs.lemmas.Iterator.Consumers.{YieldsList-end}
 use Rattle.std.specs.Prelude.{OnOk}
-use Rattle.amqp_show.specs.Pushes.{AddsText}
+use Rattle.amqp_show.specs.Output.{AddsText}
 use Rattle.amqp_show.specs.Screens.{shown_character}
 use Rattle.amqp_show.proofs.Adding.{adds_one_more, adds_all}
 use Rattle.amqp_show.proofs.Printing.{printing_showable, printing_line}

@@ -1,6 +1,7 @@
+-- What the loop has added so far.
 use Rattle.std.specs.List.{flat_map}
 use Rattle.amqp_show.specs.Screens.{shown_character}
-use Rattle.amqp_show.specs.Pushes.{AddsText}
+use Rattle.amqp_show.specs.Output.{AddsText}
 use Rattle.amqp_show.proofs.screen.Screen.push.Given as goal
 
 -- the characters so far are added

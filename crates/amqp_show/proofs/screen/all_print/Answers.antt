@@ -1,8 +1,9 @@
+-- Each character has been looked at once the iterator ends.
 use Rattle.std.proofs.Common.{sym, ◌∙◌}
 use Rattle.std.proofs.lemmas.Iterator.{YieldsList-from_chars}
 use Rattle.std.proofs.lemmas.Iterator.Consumers.{YieldsList-end}
 use Rattle.amqp_show.proofs.Printing.{one_more_prints, all_of_them_print}
-use Rattle.amqp_show.proofs.terminal.all_print.Goals as goal
+use Rattle.amqp_show.proofs.screen.all_print.Goals as goal
 
 pub loop-c-preserved : goal.loop-c-preserved
 loop-c-preserved c = one_more_prints c.loop-c.yielded c.in-Some.c c.loop-c.invariant (sym c.does_print.ensures ∙ c.if-not-does_print.false)

@@ -1,6 +1,7 @@
+-- What is known of the characters so far.
 use Rattle.std.specs.Prelude.{IsTrue}
 use Rattle.amqp_show.specs.Screens.{all_print}
-use Rattle.amqp_show.proofs.terminal.all_print.Given as goal
+use Rattle.amqp_show.proofs.screen.all_print.Given as goal
 
 -- the characters so far print
 abbrev pub invariant-loop-c : goal.invariant-loop-c

@@ -1,0 +1,34 @@
+-- What is added to a screen, and what the program ends with.
+use Rattle.std.specs.Prelude.{◌≡◌, ℕ, Result, Ok, Err, List, [], ◌∷◌, ◌++◌, string_bytes}
+use Rattle.amq_protocol_types.specs.declared.parsing.within.Limits.{Limits}
+use Rattle.amqp_json.specs.Conversions.{IsJsonOf}
+use Rattle.amqp_show.specs.Screens.{in_line}
+use Rattle.amqp_show.specs.declared.fault.Fault.{Fault}
+use Rattle.amqp_show.specs.declared.fault.Status.{Status}
+use Rattle.amqp_show.specs.declared.fault.Status.TheVariants.{Read, Rejected, Mistake}
+use Rattle.amqp_show.specs.declared.screen.Screen.{Screen}
+
+-- the bytes that are printed
+abbrev pub shown : Screen → List ℕ
+shown s = string_bytes s.text
+
+-- more comes after what was there before
+pub record AddsText (old new : Screen) (more : List ℕ) : Type 0 where
+  pub text : shown new ≡ shown old ++ more
+  pub colours : new.has_colours ≡ old.has_colours
+
+-- the JSON text of the value at the start of s within the limits, on a line, in which what doesn't
+-- print is escaped
+abbrev pub AddsJsonLine : Limits → List ℕ → Screen → Screen → Type 0
+AddsJsonLine l s old new = (t : List ℕ) × (rest : List ℕ) × IsJsonOf l s t rest × AddsText old new (in_line t ++ 10 ∷ [])
+
+-- 0 if each value was read, 1 if one was rejected, and 2 if the program couldn't do its work
+abbrev pub code_of : Status → ℕ
+code_of Read = 0
+code_of Rejected = 1
+code_of Mistake = 2
+
+-- after a fault the program has made no more than a mistake
+abbrev pub status_after : Result Status Fault → Status
+status_after (Ok s) = s
+status_after (Err fault) = Mistake
