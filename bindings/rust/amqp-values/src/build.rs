@@ -40,7 +40,8 @@ impl<'b> TableBuilder<'b> {
         Ok(Self(Body { buffer, into: amqpv_container { written, tag: AMQPV_TABLE, ..amqpv_container::default() } }))
     }
 
-    /// Appends a pair. A key may come again, but don't send such a table: RabbitMQ and clients take different pairs.
+    /// Appends a pair. A key may come again, but don't send such a table: RabbitMQ and clients take different pairs. A container
+    /// that was read keeps its levels: inside a table they may be more than those of [`Limits::DEFAULT`](crate::Limits::DEFAULT).
     ///
     /// # Errors
     ///
