@@ -97,9 +97,9 @@ class Stored(NamedTuple):
 
 # The stored input and output of amqp_wire.
 GIVEN, STORED = ((TOP / "crates/amqp_wire" / it).read_bytes() for it in ("stdin", "stdout"))
-# A stream of three values, of which the last is cut, and its lines.
+# A stream of three values, of which the last is cut, and the lines of examples.
 STREAM = bytes.fromhex("56 4600000003016156 5300000005")
-STREAM_LINES = b"value 56\nvalue 4600000003016156\ntruncated\n"
+STREAM_LINES = b'stream: null\nstream: {"a":null}\nstream: truncated\n'
 # Cases of tests/show: a tree, parts, JSON, encodings and a message, streams, a table without type tag, what RabbitMQ
 # rejects, and its warnings.
 SHOWN = """repeated_keys number_past_array_by_bytes json_follow encode_raw encode_number stream_malformed stream_malformed_json
@@ -110,7 +110,7 @@ def stored_runs() -> dict[str, Stored]:
     """Runs of the programs, by name."""
     runs = {
         "amqp_wire": Stored(["amqp_wire"], GIVEN, Ending(STORED, b"", 0)),
-        "test_stream": Stored(["test_stream"], STREAM, Ending(STREAM_LINES, b"", 0)),
+        "examples stream": Stored(["examples", "stream"], STREAM, Ending(STREAM_LINES, b"", 0)),
     }
     shown = cases(TOP / "tests/show")
     of_show = {name: shown[name] for name in SHOWN}
@@ -123,7 +123,7 @@ def stored_runs() -> dict[str, Stored]:
 # The status and the message with which each program runs out of memory.
 NO_MEMORY = {
     "amqp_wire": (1, b"amqp_wire: out of memory\n"),
-    "test_stream": (1, b"test_stream: out of memory\n"),
+    "examples": (1, b"Error: out of memory\n"),
     "amqp_show": (2, b"amqp_show: out of memory\n"),
 }
 

@@ -52,7 +52,7 @@ def calls() -> Run:
     return Run("test_calls", [], [rows], [f"{count} rows, 0 wrong\n".encode()])
 
 
-# amqp_wire, test_stream and amqp_show
+# amqp_wire, examples and amqp_show
 
 
 @cache
@@ -76,12 +76,6 @@ def lines() -> Run:
     return Run("amqp_wire", [], ["\n".join(it.hex() for it in numbers()).encode()], [wants])
 
 
-def stream() -> Run:
-    of_numbers = "".join(f"value {it.hex()}\n" for it in numbers()).encode()
-    wants = [b"value ", *hexadecimal(), b"\n", of_numbers, b"end\n"]
-    return Run("test_stream", [], [*STRING, *numbers()], wants)
-
-
 SHOWN = [b'"', *letters(), b'"\n']
 IN_STREAM = ["--stream", "--json"]
 
@@ -94,6 +88,12 @@ def tree() -> Run:
 def texts() -> list[str]:
     """The JSON of a million values."""
     return [f'{{"$LongUInt":{n}}}' for n in range(MANY)]
+
+
+def stream() -> Run:
+    of_numbers = "".join(f"stream: {it}\n" for it in texts()).encode()
+    wants = [b"stream: ", *SHOWN, of_numbers, b"stream: ended after a value\n"]
+    return Run("examples", ["stream"], [*STRING, *numbers()], wants)
 
 
 def values_in_stream() -> Run:

@@ -5,7 +5,7 @@ calls count. The call whose allocation fails returns the error that calls.py has
 answered as the row says. A call that calls.py has no error for allocates nothing. The others request at most so many bytes as calls.py
 says for the bytes of their request, and those of JSON as docs/JSON.md says.
 
-amqp_wire runs so over its stored input, test_stream over a short stream, amqp_show on some cases; and all, amqp_show in each
+amqp_wire runs so over its stored input, examples over a short stream, amqp_show on some cases; and all, amqp_show in each
 of its forms, have too little address space for a long string. The reads and writes of a run of amqp_wire and of amqp_show fail
 in turn, the first of each with each of the system's errors, and the first write by taking nothing; and once they are of one byte
 each. At last the programs get a length of 4 GiB and little of what it claims: they must allocate little then.
@@ -33,7 +33,7 @@ from tests.model.encoding import field, write
 from tests.transcripts import Ending
 
 # Failures that a program recovers from: a vector that can't be made smaller stays as it is.
-RECOVERED = {"amqp_show": 1}
+RECOVERED = {"amqp_show": 1, "examples": 1}
 # A program may allocate fewer bytes than these for a length that claims more, in all.
 MOST_ALLOCATED = 1 << 20
 Written = Callable[[bytes], bytes]
@@ -149,7 +149,7 @@ def as_json(string: bytes) -> bytes:
 
 
 # The programs with their words, and how a value is written for them.
-OF_WIRE: list[tuple[list[str], Written]] = [(["amqp_wire"], as_a_line), (["test_stream"], as_it_is)]
+OF_WIRE: list[tuple[list[str], Written]] = [(["amqp_wire"], as_a_line), (["examples", "stream"], as_it_is)]
 OF_SHOW: list[tuple[list[str], Written]] = [(["amqp_show", *form, *ANY_SIZE], as_it_is) for form in FORMS]
 HEXADECIMAL: list[tuple[list[str], Written]] = [
     (["amqp_show", *form, "--hex", *ANY_SIZE], as_hexadecimal) for form in FORMS

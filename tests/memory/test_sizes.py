@@ -2,7 +2,7 @@
 
 No clause can state that memory sufficed, so a body that runs out of it above a size is proved. test_calls answers the rows of
 large.calls, in which calls that may run out of memory have 256 MiB, a million values or 250,000 pairs. A line of 512 MiB and
-a million lines go through amqp_wire, a stream through test_stream, and a string of 256 MiB and a million values through
+a million lines go through amqp_wire, a stream through examples, and a string of 256 MiB and a million values through
 amqp_show, as JSON, as a tree and from JSON. What they must print is made in large.py. A program may have 4 GiB of address
 space.
 

@@ -1,10 +1,11 @@
-"""amqp_wire and test_stream, as `rt ci` left them, if what they read from or write to fails.
+"""amqp_wire, and examples as it prints a stream, as `rt ci` left them, if what they read from or write to fails.
 
-tests/run memory/alloc-failures makes calls of the system fail; here the devices do. If a read or a write fails the exit status
-is 2, standard error says what happened, and standard output has a part of what a run writes if nothing fails. If standard error
-fails too, the status still reports what happened.
+tests/run memory/alloc-failures makes calls of the system fail; here the devices do. If a read or a write fails, the exit status
+and standard error report it, and standard output has a part of what a run writes if nothing fails. If standard error fails too,
+the status still reports it.
 """
 
+import re
 import subprocess
 from contextlib import suppress
 from pathlib import Path
@@ -18,28 +19,35 @@ from crates import Crates
 CRATES = Crates()
 # How often a value comes: what is written of it doesn't fit the buffer of a pipe.
 TIMES = 20_000
-# How a run ends if a read or a write fails.
-FAILED, STATUS = "input or output failed", 2
 
 
 class Form(NamedTuple):
-    """A program, what comes in, and what is written if nothing fails."""
+    """A program and its words, what comes in, and what is written if nothing fails; then the status and the messages if it does."""
 
-    name: str
+    words: list[str]
     given: bytes
     wants: bytes
+    status: int
+    unread: str
+    unwritten: str
 
-    def program(self) -> Path:
-        """The program, which is newer than its sources."""
-        path = CRATES.folder(self.name) / "out" / self.name
-        is_built = is_up_to_date(path, CRATES, self.name, ["src"])
-        assert is_built, f"{self.name} isn't there, or is older than its sources: run rt ci"
-        return path
+    def typed(self) -> list[str | Path]:
+        """The words, of which the first is the program's path; it is newer than its sources."""
+        name, *words = self.words
+        path = CRATES.folder(name) / "out" / name
+        assert is_up_to_date(
+            path, CRATES, name, ["src"]
+        ), f"{name} isn't there, or is older than its sources: run rt ci"
+        return [path, *words]
 
 
+OF_WIRE = "amqp_wire: input or output failed"
+LINES = b"stream: true\n" * TIMES + b"stream: ended after a value\n"
 FORMS = {
-    "hexadecimal": Form("amqp_wire", b"7401\n" * TIMES, b"value 7401 rest 0\n" * TIMES),
-    "stream": Form("test_stream", b"t\1" * TIMES, b"value 7401\n" * TIMES + b"end\n"),
+    "hexadecimal": Form(["amqp_wire"], b"7401\n" * TIMES, b"value 7401 rest 0\n" * TIMES, 2, OF_WIRE, OF_WIRE),
+    "stream": Form(
+        ["examples", "stream"], b"t\1" * TIMES, LINES, 1, "Error: read failed", r"Error: .* \(os error \d+\)"
+    ),
 }
 
 # What fails, as the shell has it.
@@ -53,13 +61,13 @@ pytestmark = pytest.mark.parametrize("form", FORMS.values(), ids=FORMS)
 
 def run(form: Form, elsewhere: str = "") -> subprocess.CompletedProcess[bytes]:
     """Runs the program, with these of its streams elsewhere."""
-    words: list[str | Path] = ["sh", "-c", f'exec "$0" {elsewhere}', form.program()]
+    words: list[str | Path] = ["sh", "-c", f'exec "$0" "$@" {elsewhere}', *form.typed()]
     return subprocess.run(words, input=form.given, capture_output=True, timeout=60)
 
 
-def assert_failed(form: Form, status: int, out: bytes, err: bytes) -> None:
+def assert_failed(form: Form, message: str, status: int, out: bytes, err: bytes) -> None:
     """A read or a write failed: the status and standard error report it, and a part of the output was written."""
-    assert (status, err) == (STATUS, f"{form.name}: {FAILED}\n".encode())
+    assert status == form.status and re.fullmatch(f"{message}\n", err.decode()), err
     is_part = form.wants.startswith(out) and out != form.wants
     assert is_part, f"{len(out)} bytes were written, where {len(form.wants)} are all"
 
@@ -73,19 +81,19 @@ def test_nothing_fails(form: Form) -> None:
 @pytest.mark.parametrize("elsewhere", INPUTS.values(), ids=INPUTS)
 def test_input_fails(form: Form, elsewhere: str) -> None:
     done = run(form, elsewhere)
-    assert_failed(form, done.returncode, done.stdout, done.stderr)
+    assert_failed(form, form.unread, done.returncode, done.stdout, done.stderr)
 
 
 @pytest.mark.parametrize("elsewhere", OUTPUTS.values(), ids=OUTPUTS)
 def test_output_fails(form: Form, elsewhere: str) -> None:
     done = run(form, elsewhere)
-    assert_failed(form, done.returncode, done.stdout, done.stderr)
+    assert_failed(form, form.unwritten, done.returncode, done.stdout, done.stderr)
 
 
 @pytest.mark.parametrize("count", (0, 10))
 def test_pipe_is_closed(form: Form, count: int) -> None:
     """That many bytes of what the program writes are read, and then the pipe is closed."""
-    with subprocess.Popen([form.program()], stdin=PIPE, stdout=PIPE, stderr=PIPE) as process:
+    with subprocess.Popen(form.typed(), stdin=PIPE, stdout=PIPE, stderr=PIPE) as process:
         assert process.stdin and process.stdout and process.stderr
         if count == 0:
             process.stdout.close()
@@ -94,9 +102,9 @@ def test_pipe_is_closed(form: Form, count: int) -> None:
         out = process.stdout.read(count) if count else b""
         process.stdout.close()
         err = process.stderr.read()
-    assert_failed(form, process.returncode, out, err)
+    assert_failed(form, form.unwritten, process.returncode, out, err)
 
 
 @pytest.mark.parametrize("elsewhere", ERRORS.values(), ids=ERRORS)
 def test_standard_error_fails_too(form: Form, elsewhere: str) -> None:
-    assert run(form, f">/dev/full {elsewhere}").returncode == STATUS
+    assert run(form, f">/dev/full {elsewhere}").returncode == form.status
