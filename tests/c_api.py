@@ -9,13 +9,17 @@ import mmap
 from ctypes import byref, c_char, c_size_t, c_uint8, c_uint32, c_uint64
 from typing import Any
 
+from tests.model.inputs import FRAME
+from tests.model.json_format import LEVELS
+from tests.model.rules import DEPTH
+
 OK, NONE = 0, 1
 (
     MORE, UNKNOWN_TAG, CUT, KEY_CUT, KEY_NOT_UTF8, NOT_FINITE, TOO_DEEP, TOO_LARGE, NOT_UTF8, NOT_JSON, NOT_A_VALUE,
     NO_ENCODING, INVALID, BAD_KEY, BAD_TAG, OUT_OF_RANGE, NO_ROOM, NO_MEMORY, UNORDERED,
 ) = range(-1, -20, -1)  # fmt: skip
 UNTAGGED, ANY_KEYS, RABBITMQ, FIRST_KEY, STREAMS = 1, 2, 4, 8, 16
-MAX_BYTES, MAX_DEPTH, NESTING = 2**20, 32, 127
+MAX_BYTES, MAX_DEPTH, NESTING = FRAME, DEPTH, LEVELS
 NOWHERE = 2**64 - 1
 # The kind of a problem in tests/model/tables.py, by the result.
 KINDS = {UNKNOWN_TAG: 1, NOT_FINITE: 2, CUT: 3, MORE: 3, KEY_CUT: 4, TOO_DEEP: 5, TOO_LARGE: 6, KEY_NOT_UTF8: 7}

@@ -524,17 +524,17 @@ def test_texts_that_may_mean_none(seed: int) -> None:
         if make.random() < 0.05:
             at = make.randrange(len(text) + 1)
             text = text[:at] + make.choice([b"\x80", b"\xff", b"\xc3", b"\xed\xa0\x80"]) + text[at + 1 :]
-        nesting = make.choice([*range(8), 127, 128, 2**32 - 1])
+        nesting = make.choice([*range(8), LEVELS, LEVELS + 1, 2**32 - 1])
         found = calls.from_json(text, nesting)
         assert found == meant(text, nesting), (text, nesting)
         results[found[0]] += 1
     assert len(results) == 5 and min(results.values()) > 25, results
 
 
-@pytest.mark.parametrize("depth", (1, 2, 126, 127, 128, 129))
-@pytest.mark.parametrize("nesting", (0, 1, 126, 127, 128, 2**32 - 1))
+@pytest.mark.parametrize("depth", (1, 2, LEVELS - 1, LEVELS, LEVELS + 1, LEVELS + 2))
+@pytest.mark.parametrize("nesting", (0, 1, LEVELS - 1, LEVELS, LEVELS + 1, 2**32 - 1))
 def test_deep_texts(depth: int, nesting: int) -> None:
-    """Brackets nest at most 127 deep, whatever the limit is; values may be deeper."""
+    """Brackets nest at most LEVELS deep, whatever the limit is; values may be deeper."""
     for form in ("A", "F", "AF"):
         data = nested(form, depth, b"V")
         result, text = calls.to_json(data, 0, calls.MAX_BYTES, depth)

@@ -8,7 +8,7 @@ import pytest
 from tests import c_api as calls
 from tests.c.compiling import HERE, compiled, printed
 from tests.c.test_by_model import KEYS, NUMBERS, VALUES, encoding, is_inside, looked_up, stepped, wanted_problem
-from tests.c_api import INVALID, MAX_DEPTH, OK
+from tests.c_api import INVALID, MAX_BYTES, MAX_DEPTH, OK
 from tests.model.encoding import TYPES, extent, field, is_utf8, lack
 from tests.model.inputs import value_of
 from tests.model.tables import odd_table
@@ -107,7 +107,7 @@ def some_line(make: Random, writer: Writer) -> str:
         return f"{line} {word(data)}"
     if what == "value":
         data, flags = make.choice(VALUES), make.choice([0, 0, 1, 2, 4, 16, 32])
-        by_reading = wanted_problem(data, flags, 2**20, MAX_DEPTH)[0]
+        by_reading = wanted_problem(data, flags, MAX_BYTES, MAX_DEPTH)[0]
         whole, wrong = b"F" * (flags & 1) + data, INVALID if flags > 31 else by_reading
         writer.append(key, whole[: extent(whole)], wrong)
         return f"{line} {word(data)} {flags}"

@@ -376,7 +376,7 @@ ODD = [
     '{"$Float":-1e999}', '{"$Float":"000000000"}', '{"$Double":"\u00e9"}', '{"$ShortInt":"5"}', '{"$ShortInt":[]}',
     '{"$Timestamp":-1}', '{"$ShortShortInt":128}', '{"$ShortInt":5,"a":1}', '{"a":1,"$ShortInt":5}', '{"$FieldTable":{}}',
     '{"$DecimalValue":"01e-2"}', '{"$DecimalValue":"1e2"}', '{"$DecimalValue":314}', '{"$DecimalValue":"4294967296e-2"}',
-    '{"$ShortString":"a"}', f'{{"{"k" * 256}":1}}', f'{{"$${"k" * 255}":1}}', "[" * 127 + "]" * 127, "[" * 128, "\0", " ",
+    '{"$ShortString":"a"}', f'{{"{"k" * 256}":1}}', f'{{"$${"k" * 255}":1}}', "[" * LEVELS + "]" * LEVELS, "[" * (LEVELS + 1), "\0", " ",
     "\u00e9", *VALUES,
 ]  # fmt: skip
 

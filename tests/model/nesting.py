@@ -23,6 +23,7 @@ from crates import TOP
 
 from tests.checks import within
 from tests.model.inputs import nested
+from tests.model.json_format import LEVELS
 
 PAGE, HEADING = TOP / "docs/PROMISES.md", "## What nesting takes of the stack"
 # How many bytes an input has that no limit lets through, and the limit and the stack that it is read with.
@@ -101,7 +102,7 @@ class Call(NamedTuple):
 
 # The calls of JSON of which docs/JSON.md says how many levels fit a stack.
 JSON = ("to_json", "json_of_encoding", "from_json", "encoding_of_json", "encoding_of_json_within")
-DEEP, DEEPER, OF_JSON, UNLIMITED = (LIMIT, 1000), (LIMIT, 10_000), (LIMIT, 127), (LIMIT, 1000, 10_000)
+DEEP, DEEPER, OF_JSON, UNLIMITED = (LIMIT, 1000), (LIMIT, 10_000), (LIMIT, LEVELS), (LIMIT, 1000, 10_000)
 # The calls that take more in the program of tests/counts, which compares the page with that.
 IN_COUNTS = {"parse_value", "parse_value_within", "ValueReader::next"}
 # What a call returns that rejects the nesting.

@@ -74,7 +74,7 @@ def test_texts_that_may_mean_none(seed: int) -> None:
         if make.random() < 0.05:
             at = make.randrange(len(text) + 1)
             text = text[:at] + make.choice([b"\x80", b"\xff", b"\xc3", b"\xed\xa0\x80"]) + text[at + 1 :]
-        depth, is_table = make.choice([*range(8), 32, 127, 128, 512]), make.random() < 0.3
+        depth, is_table = make.choice([*range(8), 32, LEVELS, LEVELS + 1, 512]), make.random() < 0.3
         wanted, how = wrong_of(text, depth, is_table), {"depth": depth, "table": is_table}
         assert own_error(lambda: own.from_json(text, **how)) == wanted, (text, how)
         kinds[wanted[0] if wanted else ""] += 1
@@ -185,12 +185,12 @@ def test_limits() -> None:
 
 @pytest.mark.parametrize("form", ("A", "F", "AF"))
 def test_depth(form: str) -> None:
-    """Up to the largest depth in a thread of 512 KiB; brackets nest at most 127 deep, whatever the limit is."""
+    """Up to the largest depth in a thread of 512 KiB; brackets nest at most LEVELS deep, whatever the limit is."""
     rows: list[tuple[bytes, str, int, Problem | None, Problem | None]] = []
-    for levels in (1, 32, 33, 126, 127, 128, own.MOST_DEPTH, own.MOST_DEPTH + 1):
+    for levels in (1, 32, 33, LEVELS - 1, LEVELS, LEVELS + 1, own.MOST_DEPTH, own.MOST_DEPTH + 1):
         data = nested(form, levels, b"V")
         text = json_of(read(data)[0])
-        for depth in (32, 126, 127, 128, own.MOST_DEPTH):
+        for depth in (32, LEVELS - 1, LEVELS, LEVELS + 1, own.MOST_DEPTH):
             problem, opened = first_problem(data, "read", depth), [at for at, it in enumerate(text) if it in "[{"]
             deeper = opened[min(depth, LEVELS) :]
             of_text = ("too deep", deeper[0], 0) if deeper else None

@@ -10,12 +10,11 @@ from decimal import Decimal
 from typing import Any, NamedTuple
 
 from tests.model.encoding import SIGNED, TYPES, Value, is_utf8
+from tests.model.rules import DEPTH as DEPTH
 from tests.model.tables import decimal, float_of, number, text
 
 EPOCH, LAST_SECOND = datetime(1970, 1, 1), 253402300799
 UTC = timezone.utc
-# The levels that the adapters read.
-DEPTH = 32
 # A value by its type tag and content; of a table all its pairs.
 Read = tuple[str, Any]
 

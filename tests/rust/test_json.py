@@ -59,9 +59,9 @@ def rows(make: Random) -> Iterator[Row]:
             if extent(data) < 2**32:
                 yield of_bytes(data, make.choice([0, 1, 2, 32]), number % 2 if data[:1] == b"F" else 0)
         for text in texts(make, [value]):
-            yield of_text(text, make.choice([1, 3, 32, 127, 2**32 - 1]), number % 3 == 0)
+            yield of_text(text, make.choice([1, 3, 32, LEVELS, 2**32 - 1]), number % 3 == 0)
     for form in ("A", "F", "AF"):
-        for levels in (1, 126, 127, 128, MOST_DEPTH, MOST_DEPTH + 1):
+        for levels in (1, LEVELS - 1, LEVELS, LEVELS + 1, MOST_DEPTH, MOST_DEPTH + 1):
             data = nested(form, levels, b"V")
             yield of_bytes(data, 2**32 - 1, 0)
             yield of_text(json_of(read(data)[0]).encode(), 2**32 - 1, False)
