@@ -1,10 +1,13 @@
-"""What tests share that need no pytest: checks that are counted, what a file has, commands, and programs with little of a resource."""
+"""What tests share that need no pytest: checks that are counted, what a file has, commands, programs, and these with little of a resource."""
 
 import resource
 import subprocess
 from collections.abc import Mapping, Sequence
 from pathlib import Path
 from typing import Any
+
+from building import is_up_to_date
+from crates import Crates
 
 Words = Sequence[str | Path]
 Done = subprocess.CompletedProcess[str]
@@ -26,6 +29,14 @@ class Checks:
         """Prints the last line, and returns the exit status."""
         print(f"{self.passed} passed, {self.failed} failed")
         return 1 if self.failed or not self.passed else 0
+
+
+def built(name: str) -> Path:
+    """The program of a crate, as `rt ci` left it, which is no older than its sources."""
+    crates = Crates()
+    path = crates.folder(name) / "out" / name
+    assert is_up_to_date(path, crates, name, ["src"]), f"{name} isn't there, or is older than its sources: run rt ci"
+    return path
 
 
 def content(path: Path) -> bytes:

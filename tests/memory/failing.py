@@ -8,9 +8,9 @@ from functools import cache
 from pathlib import Path
 from typing import NamedTuple
 
-from building import is_up_to_date
-from crates import TOP, Crates
+from crates import TOP
 
+from tests.checks import built
 from tests.transcripts import Ending, cases
 
 Words = Sequence[str | Path]
@@ -21,13 +21,12 @@ NOT_WRAPPED = [b"calloc", b"memalign", b"posix_memalign", b"valloc", b"reallocar
 
 @cache
 def program(name: str) -> Path:
-    """The built program of the crate, which is no older than its sources."""
-    built = TOP / "crates" / name / "out" / name
-    assert is_up_to_date(built, Crates(), name, ["src"]), f"{name} isn't there, or is older than its sources: run rt ci"
-    names = built.read_bytes().split(b"\0")
+    """The program of a crate, all of whose allocations fail_alloc.c sees."""
+    path = built(name)
+    names = path.read_bytes().split(b"\0")
     found = [it.decode() for it in NOT_WRAPPED if it in names]
     assert not found, f"{name} allocates by {', '.join(found)}, which fail_alloc.c doesn't wrap"
-    return built
+    return path
 
 
 class Run(NamedTuple):

@@ -25,17 +25,13 @@ from typing import IO
 import pytest
 from crates import TOP
 
-from tests.checks import within
+from tests.checks import built, within
 from tests.memory.large import RUNS, Pieces, Run
 from tests.model import nesting
 
 # The most seconds of a processor.
 SECONDS = 300
 CHECKS = [*nesting.checks(nesting.CALLS)]
-
-
-def program(name: str) -> Path:
-    return TOP / "crates" / name / "out" / name
 
 
 # Large input
@@ -69,7 +65,7 @@ def first_other(printed: IO[bytes], wants: Pieces) -> str:
 def test_large(made: Callable[[], Run]) -> None:
     """The program prints what it should, and doesn't fail."""
     run = made()
-    words: list[str | Path] = [program(run.program), *run.words]
+    words: list[str | Path] = [built(run.program), *run.words]
     process = subprocess.Popen(words, stdin=PIPE, stdout=PIPE, stderr=PIPE, preexec_fn=partial(limit, run.space))
     assert process.stdin and process.stdout and process.stderr
     with process:
@@ -89,7 +85,7 @@ def test_large(made: Callable[[], Run]) -> None:
 @pytest.mark.parametrize("check", CHECKS, ids=[it.name for it in CHECKS])
 def test_nested(check: nesting.Check) -> None:
     """A call on a small stack."""
-    assert check.wrong(program("test_calls")) == ""
+    assert check.wrong(built("test_calls")) == ""
 
 
 @pytest.mark.parametrize("page", ("README.md", "docs/LIMITS.md"))
@@ -102,7 +98,7 @@ def test_stack_of_unlimited_parsing(page: str, form: str) -> None:
     a_level = len(nesting.encoding(form, 2)) - len(nesting.encoding(form, 1))
     for depth, wants in ((size // a_level, "status -11"), (size // a_level // 2, "done")):
         given = nesting.encoding(form, depth)
-        assert nesting.answer(program("test_calls"), nesting.CALLS["parse_value"], depth, given, stack) == wants
+        assert nesting.answer(built("test_calls"), nesting.CALLS["parse_value"], depth, given, stack) == wants
 
 
 def stack_of_show() -> int:
@@ -114,7 +110,7 @@ def stack_of_show() -> int:
 
 def status_on(stack: int, words: str, given: bytes) -> int:
     """How amqp_show ends on this stack, with the deepest limit."""
-    return within(RLIMIT_STACK, stack, [program("amqp_show"), "--depth", "1000", *words.split()], given).returncode
+    return within(RLIMIT_STACK, stack, [built("amqp_show"), "--depth", "1000", *words.split()], given).returncode
 
 
 @pytest.mark.parametrize("form", nesting.FORMS.values(), ids=nesting.FORMS)

@@ -13,10 +13,9 @@ from subprocess import PIPE
 from typing import NamedTuple
 
 import pytest
-from building import is_up_to_date
-from crates import Crates
 
-CRATES = Crates()
+from tests.checks import built
+
 # How often a value comes: what is written of it doesn't fit the buffer of a pipe.
 TIMES = 20_000
 
@@ -32,13 +31,8 @@ class Form(NamedTuple):
     unwritten: str
 
     def typed(self) -> list[str | Path]:
-        """The words, of which the first is the program's path; it is newer than its sources."""
-        name, *words = self.words
-        path = CRATES.folder(name) / "out" / name
-        assert is_up_to_date(
-            path, CRATES, name, ["src"]
-        ), f"{name} isn't there, or is older than its sources: run rt ci"
-        return [path, *words]
+        """The words, of which the first is the program's path."""
+        return [built(self.words[0]), *self.words[1:]]
 
 
 OF_WIRE = "amqp_wire: input or output failed"

@@ -1,21 +1,17 @@
 """amqp_wire, as `rt ci` left it, against the model."""
 
-import subprocess
 from collections import Counter
 from collections.abc import Iterator
 from random import Random
 
-from building import is_up_to_date
-from crates import Crates
-
 from tests.calls import bytes_of
 from tests.calls import stored as rows_of
+from tests.checks import built, run
 from tests.model.encoding import write
 from tests.model.stored_output import line
 from tests.model.tables import EVERY_TYPE, odd_table, random_value
 from tests.wire.answered import answers
 
-CRATES = Crates()
 # What takes the place of a byte: bounds, type tags, and bytes that are none and no UTF-8.
 BYTES = b"\x00\x01\x04AFStxz\x7f\x80\xff"
 COUNT = 2_000
@@ -46,16 +42,10 @@ def random_encodings(make: Random) -> Iterator[bytes]:
 
 def assert_lines(given: list[bytes]) -> None:
     """The program prints of each the line that the model does."""
-    path = CRATES.folder("amqp_wire") / "out/amqp_wire"
-    assert is_up_to_date(
-        path, CRATES, "amqp_wire", ["src"]
-    ), "amqp_wire isn't there, or is older than its sources: run rt ci"
-    text = "".join(f"{it.hex()}\n" for it in given)
-    done = subprocess.run([path], input=text, capture_output=True, text=True, timeout=60)
+    done = run([built("amqp_wire")], input="".join(f"{it.hex()}\n" for it in given))
     assert (done.returncode, done.stderr) == (0, "")
-    printed = done.stdout.splitlines()
-    assert len(printed) == len(given)
-    others = [(it.hex(), said, line(it.hex())) for it, said in zip(given, printed) if said != line(it.hex())]
+    printed = zip(given, done.stdout.splitlines(), strict=True)
+    others = [(it.hex(), said, line(it.hex())) for it, said in printed if said != line(it.hex())]
     assert not others, f"{len(others)} lines; the first is of, is, and is predicted: {others[0]}"
 
 

@@ -1,28 +1,20 @@
 """amqp_wire and test_calls, as `rt ci` left them, on each case of vectors/."""
 
 import re
-import subprocess
-
-from building import is_up_to_date
-from crates import Crates
 
 from tests.calls import bytes_of
+from tests.checks import built, run
 from tests.model.test_rows import JSON_OF_ENCODING, LONG
 from tests.vectors.cases import CASES, none_of
 from tests.wire.answered import answers
 
-CRATES = Crates()
 # The most bytes of an encoding whose JSON is tried, since test_calls also tries each small limit. tests/c has all.
 MOST = 3_000
 TOO_DEEP = re.compile(r" but read TooDeep\(\d+\)")
 
 
 def test_amqp_wire() -> None:
-    path = CRATES.folder("amqp_wire") / "out/amqp_wire"
-    is_built = is_up_to_date(path, CRATES, "amqp_wire", ["src"])
-    assert is_built, "amqp_wire isn't there, or is older than its sources: run rt ci"
-    given = "".join(f"{it.tagged.hex()}\n" for it in CASES)
-    done = subprocess.run([path], input=given, capture_output=True, text=True, timeout=60)
+    done = run([built("amqp_wire")], input="".join(f"{it.tagged.hex()}\n" for it in CASES))
     assert (done.returncode, done.stderr) == (0, "")
     said = zip(CASES, done.stdout.splitlines(), strict=True)
     assert none_of([f"{it.id}: {text}" for it, text in said if text != it.line]) == ""
