@@ -1,4 +1,4 @@
-"""What the tests over the Rust crate are given: its folder, how many requests, and which program answers."""
+"""What the tests over the Rust crate are given: its folder, and how many requests."""
 
 import time
 from pathlib import Path
@@ -13,8 +13,6 @@ def pytest_addoption(parser: pytest.Parser) -> None:
     group.addoption("--crate", type=Path, metavar="FOLDER", default=named(), help="the Rust crate's folder")
     group.addoption("--packages", type=Path, metavar="FOLDER", help="from where cargo takes all packages")
     group.addoption("--count", type=int, default=1_000_000, help="how many fresh requests are asked (1,000,000)")
-    group.addoption("--program", type=Path, metavar="PATH", help="a test_calls that is built elsewhere")
-    group.addoption("--tried", action="store_true", help="test_calls by `rt try`, with nothing proved")
 
 
 def pytest_configure(config: pytest.Config) -> None:

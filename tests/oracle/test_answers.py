@@ -2,10 +2,7 @@
 
 import os
 import re
-import subprocess
-import tempfile
 from collections import Counter
-from collections.abc import Iterable, Iterator
 from concurrent.futures import ProcessPoolExecutor
 from itertools import repeat
 from pathlib import Path
@@ -15,12 +12,12 @@ import pytest
 from crates import TOP
 
 from tests.calls import DATA, rows
+from tests.checks import built, run
 from tests.oracle.crate import Driver
 from tests.oracle.inputs import request as made
 
-CALLS = TOP / "crates/test_calls"
 STORED, STORED_DIFFERENCES = DATA / "rust.calls", DATA / "differences.calls"
-# How many requests are made and asked at once: `rt try` takes no more than 1 MiB of standard error.
+# How many requests are made and asked at once.
 BLOCK = 10_000
 # What the driver answers to a request for which the Rust crate has no call.
 NO_REQUEST = "no request"
@@ -60,30 +57,16 @@ def answered(driver: Driver, seed: int, count: int) -> bytes:
 
 def judged(program: Path, block: bytes) -> str:
     """What test_calls prints of these rows."""
-    done = subprocess.run([program], input=block, stdout=subprocess.PIPE, stderr=subprocess.DEVNULL)
-    return done.stdout.decode()
-
-
-def tried(blocks: Iterable[bytes]) -> Iterator[str]:
-    """What test_calls prints of each of these, as `rt try` runs it with nothing proved."""
-    with tempfile.TemporaryDirectory() as folder:
-        for number, block in enumerate(blocks):
-            (Path(folder) / f"{number:05}").write_bytes(block)
-        # (one step, since the interpreter would be too slow: only the compiled program is to answer)
-        words = ["rt", "try", "--steps", "1", "--seconds", "600", "--cases", folder]
-        done = subprocess.run(words, cwd=CALLS, stdout=subprocess.PIPE, stderr=subprocess.DEVNULL, text=True)
-    yield from re.split(r"(?m)^(?:== \d{5}\n|case=.*\n?(?s:.*))", done.stdout)[1:]
+    return run([program], input=block.decode()).stdout
 
 
 def test_fresh_requests(driver: Driver, request: pytest.FixtureRequest, seed: int, notes: list[str]) -> None:
     """This library answers fresh requests as the crate does."""
-    option = request.config.getoption
-    count, program = int(option("--count")), option("--program") or CALLS / "out/test_calls"
+    count, program = int(request.config.getoption("--count")), built("test_calls")
     counts = [min(BLOCK, count - at) for at in range(0, count, BLOCK)]
-    assert option("--tried") or program.is_file(), "test_calls isn't built: `rt run` in crates/test_calls builds it"
     with ProcessPoolExecutor(len(os.sched_getaffinity(0))) as pool:
         blocks = [*pool.map(answered, repeat(driver), range(seed * 1000, seed * 1000 + len(counts)), counts)]
-        said = [*tried(blocks)] if option("--tried") else [*pool.map(judged, repeat(program), blocks)]
+        said = [*pool.map(judged, repeat(program), blocks)]
     calls = Counter(it.partition(" ")[0] for block in blocks for it, _ in rows(block.decode()))
     notes.append(", ".join(f"{call} {number}" for call, number in sorted(calls.items())))
     assert not [it for block in blocks for it in rows(block.decode()) if it[1] == NO_REQUEST]
