@@ -61,9 +61,10 @@ def run(
         return Done(typed, 127, "", f"{typed[0]} is missing (make setup installs it)")
 
 
-def assert_well(done: Done) -> None:
-    """A command ended well."""
+def assert_well(done: Done) -> str:
+    """A command ended well; what it printed."""
     assert done.returncode == 0, (done.stdout + done.stderr)[-1500:]
+    return done.stdout
 
 
 def within(kind: int, most: int, words: Words, given: bytes) -> subprocess.CompletedProcess[bytes]:

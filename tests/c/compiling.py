@@ -28,9 +28,7 @@ OF_AARCH64 = ["qemu-aarch64", "-L", "/usr/aarch64-linux-gnu", "-cpu", "cortex-a5
 
 def printed(words: Words, **others: Any) -> str:
     """What a command prints that ends well."""
-    done = run(words, **others)
-    assert_well(done)
-    return done.stdout
+    return assert_well(run(words, **others))
 
 
 def compiled(source: Path, to: Path, words: Words = C, options: Words = (), libraries: Words = LINKED) -> Path:

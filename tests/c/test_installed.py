@@ -184,9 +184,8 @@ NEW = ("include/amqp_values.h", "crates/amqp_c/src/lib.rt", "crates/amqp_value_c
 
 @pytest.mark.parametrize("name", ("", *NEW), ids=("nothing", *NEW))
 def test_what_is_made_anew(out: Path, name: str) -> None:
-    done = make(out, "-n", *(["-W", name] if name else []))
-    assert_well(done)
-    assert ("packaging/archives.py" in done.stdout) == bool(name)
+    said = assert_well(make(out, "-n", *(["-W", name] if name else [])))
+    assert ("packaging/archives.py" in said) == bool(name)
 
 
 def test_build_that_fails_is_not_installed(out: Path, tmp_path: Path) -> None:
@@ -203,8 +202,7 @@ def test_build_that_fails_is_not_installed(out: Path, tmp_path: Path) -> None:
 
 
 def test_library_without_the_tool(out: Path, prefix: Path, tmp_path: Path) -> None:
-    done = make(out, "install-lib", f"PREFIX={tmp_path}")
-    assert_well(done)
+    assert_well(make(out, "install-lib", f"PREFIX={tmp_path}"))
     assert files_in(prefix) - files_in(tmp_path) == {"bin/amqp_show", "share/man/man1/amqp_show.1"}
 
 
@@ -247,14 +245,13 @@ def test_install(out: Path, prefix: Path, root: Path) -> None:
     """Others can read all, each file is printed, and all is removed again."""
     before = os.umask(0o077)
     try:
-        done = make(out, "install", f"DESTDIR={root}", "PREFIX=/usr")
-        assert_well(done)
+        said = assert_well(make(out, "install", f"DESTDIR={root}", "PREFIX=/usr"))
     finally:
         os.umask(before)
     modes = {(it.stat().st_mode & 0o777, it.is_dir() or it.parent.name == "bin") for it in root.rglob("*")}
     assert modes == {(0o755, True), (0o644, False)}
     assert files_in(root / "usr") == files_in(prefix)
-    assert {*done.stdout.splitlines()} >= {f"-- Installing: {root / it}" for it in files_in(root)}
+    assert {*said.splitlines()} >= {f"-- Installing: {root / it}" for it in files_in(root)}
     assert_well(make(out, "uninstall", f"DESTDIR={root}", "PREFIX=/usr"))
     assert files_in(root) == set()
     assert not [*root.rglob(NAME)]

@@ -109,9 +109,7 @@ def printed_by_rattle(code: str, made: Made) -> list[str]:
     source = made.folder / "crates/deaths/src/main.rt"
     source.parent.mkdir(parents=True)
     source.write_text(IN_RATTLE.format(code=code, given=", ".join(map(literal, GIVEN))))
-    done = run(["rt", "try"], source.parent.parent)
-    assert_well(done)
-    return done.stdout.splitlines()
+    return assert_well(run(["rt", "try"], source.parent.parent)).splitlines()
 
 
 IN_C = """
@@ -138,9 +136,7 @@ def printed_by_c(code: str, made: Made) -> list[str]:
     source.write_text(IN_C.format(code=code, given=given, lengths=lengths))
     words = ["cc", "-std=c11", "-Wall", "-Wextra", "-Werror", f"-I{TOP}/include"]
     assert_well(run([*words, "-o", program, source, made.archive]))
-    done = run([program])
-    assert_well(done)
-    return done.stdout.splitlines()
+    return assert_well(run([program])).splitlines()
 
 
 IN_RUST = """
@@ -160,9 +156,7 @@ def printed_by_rust(code: str, made: Made) -> list[str]:
     more = f'[[bin]]\nname = "deaths"\npath = "{source}"\n'
     folder = package("deaths", [f'amqp-values = {{ path = "{made.copies}/amqp-values" }}'], more)
     assert_well(cargo(folder, "build", "--quiet"))
-    done = run([TARGET / "debug/deaths"])
-    assert_well(done)
-    return done.stdout.splitlines()
+    return assert_well(run([TARGET / "debug/deaths"])).splitlines()
 
 
 IN_PYTHON = """
@@ -179,9 +173,7 @@ for headers in {given!r}:
 def printed_by_python(code: str, made: Made) -> list[str]:
     assert not compile_package(made.archive, made.folder)
     words = [PYTHON, "-B", "-c", IN_PYTHON.format(code=code, given=GIVEN)]
-    done = run(words, env={"PYTHONPATH": str(made.folder)})
-    assert_well(done)
-    return done.stdout.splitlines()
+    return assert_well(run(words, env={"PYTHONPATH": str(made.folder)})).splitlines()
 
 
 RUNNERS: dict[str, Callable[[str, Made], list[str]]] = {

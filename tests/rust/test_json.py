@@ -1,6 +1,5 @@
 """JSON by amqp-values, as json.rs calls it, next to the model."""
 
-import subprocess
 from collections import Counter
 from collections.abc import Iterator
 from pathlib import Path
@@ -12,7 +11,7 @@ from tests.model.json_format import LEVELS, SPACE, Rejected, json_of, large_valu
 from tests.model.encoding import TYPES, extent, lack, read, write
 from tests.model.inputs import damaged, nested, value_of
 from tests.model.tables import first_problem, odd_table, random_table, raw
-from tests.rust.cargo import CRATES, TARGET, assert_well, cargo, package
+from tests.rust.cargo import CRATES, TARGET, assert_well, cargo, package, run
 
 pytestmark = [pytest.mark.needs("cargo"), pytest.mark.usefixtures("deep")]
 # How the crate calls each problem of the model, and each error of a text.
@@ -72,9 +71,7 @@ def test_json(copies: Path, seed: int) -> None:
     assert_well(cargo(folder, "build", "--release", "--quiet"))
     asked = [*rows(Random(seed))]
     given = "".join(f"{it}\n" for it, _ in asked)
-    done = subprocess.run([TARGET / "release/json"], input=given, capture_output=True, text=True, timeout=300)
-    assert (done.returncode, done.stderr) == (0, "")
-    said = done.stdout.splitlines()
+    said = assert_well(run([TARGET / "release/json"], input=given, timeout=300)).splitlines()
     wrong = [(it, wanted, found) for (it, wanted), found in zip(asked, said, strict=True) if found != wanted]
     assert not wrong, f"{len(wrong)}, as {str(wrong[0]):.2000}"
     counts = Counter(it.partition(" {")[0].partition("(")[0] if it[:1] in "IP" else "" for it in said)

@@ -35,9 +35,8 @@ def test_layout(edition: str) -> None:
 @pytest.mark.parametrize("processor", ("x86_64", "aarch64"))
 def test_declarations_are_made_from_the_header(processor: str) -> None:
     """The same for each processor."""
-    done = run([RUST / "declarations", f"{processor}-unknown-linux-gnu"])
-    assert_well(done)
-    assert done.stdout == (RUST / "amqp-values-sys/src/bindings.rs").read_text()
+    found = assert_well(run([RUST / "declarations", f"{processor}-unknown-linux-gnu"]))
+    assert found == (RUST / "amqp-values-sys/src/bindings.rs").read_text()
 
 
 def test_duties_are_those_of_the_header() -> None:

@@ -1,7 +1,6 @@
 """amqp-values on each case of vectors/, as vectors.rs reads it."""
 
 import json
-import subprocess
 from pathlib import Path
 from typing import Any
 
@@ -10,7 +9,7 @@ import pytest
 from tests.model.json_format import json_of
 from tests.model.encoding import Value
 from tests.model.tables import number
-from tests.rust.cargo import CRATES, TARGET, assert_well, cargo, package
+from tests.rust.cargo import CRATES, TARGET, assert_well, cargo, package, run
 from tests.vectors.cases import CASES, Case, none_of
 
 pytestmark = [pytest.mark.needs("cargo"), pytest.mark.usefixtures("deep")]
@@ -47,7 +46,6 @@ def test_vectors(copies: Path) -> None:
     folder = package("vectors", [f'amqp-values = {{ path = "{copies / CRATES[1]}" }}'], vectors="vectors")
     assert_well(cargo(folder, "build", "--release", "--quiet"))
     given = "".join(f"{it.case['form']} {it.data.hex()}\n" for it in CASES)
-    done = subprocess.run([TARGET / "release/vectors"], input=given, capture_output=True, text=True, timeout=60)
-    assert (done.returncode, done.stderr) == (0, "")
-    said = zip(CASES, done.stdout.splitlines(), strict=True)
+    printed = assert_well(run([TARGET / "release/vectors"], input=given, timeout=60))
+    said = zip(CASES, printed.splitlines(), strict=True)
     assert none_of([f"{it.id}: {text:.200}" for it, text in said if not is_well(it, text)]) == ""
