@@ -12,7 +12,6 @@ that isn't proved.
 
 import argparse
 import subprocess
-import sys
 import time
 from collections.abc import Iterator, Sequence
 from contextlib import contextmanager
@@ -21,16 +20,9 @@ from pathlib import Path
 from building import C_API, COMPILERS, X86_64, build_archive
 from crates import Crates
 from processes import end_on_signals
-from programs import require
+from programs import end_if_failed, require
 
 TOOL = "amqp_show"
-Done = subprocess.CompletedProcess[str]
-
-
-def check(what: str, done: Done) -> None:
-    """Ends the program, with the end of what was printed, if a command failed."""
-    if done.returncode:
-        sys.exit(f"archives: {what}: {(done.stderr or done.stdout)[-2000:]}")
 
 
 @contextmanager
@@ -53,7 +45,8 @@ def prove(crates: Crates, names: Sequence[str]) -> None:
         # (a program is built by running it)
         words = ["rt", "run", "--", "--version"] if name == TOOL else ["rt", "lib"]
         with timed(f"{at} of {len(names)}, {name}"):
-            check(name, subprocess.run(words, cwd=crates.folder(name), capture_output=True, text=True))
+            done = subprocess.run(words, cwd=crates.folder(name), capture_output=True, text=True)
+            end_if_failed("archives", name, done)
 
 
 def main() -> None:
@@ -71,7 +64,7 @@ def main() -> None:
         prove(crates, [it for it in needed if it not in crates.static])
     for name in C_API:
         with timed(f"lib{name}.a for {said.target}"):
-            check(name, build_archive(crates, name, True, said.target))
+            end_if_failed("archives", f"lib{name}.a", build_archive(crates, name, True, said.target))
 
 
 if __name__ == "__main__":

@@ -81,20 +81,8 @@ def build_archive(crates: Crates, name: str, is_built: bool, target: str = X86_6
             words = ["true"]
         else:
             # What another target's build has proved isn't proved again.
-            how = [
-                "--incremental",
-                "out/incremental",
-                "--target",
-                target,
-                "--cpu",
-                TARGETS[target],
-                "--toolchain",
-                f"{kit()}/toolchain",
-                "--jobs",
-                str(min(4, os.cpu_count() or 1)),
-                "-o",
-                str(path),
-            ]
+            how = ["--incremental", "out/incremental", "--target", target, "--cpu", TARGETS[target]]
+            how += ["--toolchain", f"{kit()}/toolchain", "--jobs", str(min(4, os.cpu_count() or 1)), "-o", str(path)]
             kind = [] if name in crates.static else ["--crate-type", "staticlib"]
             words = [f"{kit()}/bin/rattle", "build", *crates.words(name), *kind, *how]
         return subprocess.run(words, cwd=folder, capture_output=True, text=True)
@@ -109,9 +97,14 @@ def shared_object(crates: Crates, folder: Path, is_built: bool) -> tuple[Path, s
         done = build_archive(crates, name, is_built)
         if done.returncode:
             return path, f"lib{name}.a: {(done.stderr or done.stdout)[-1000:]}"
-    whole = ["-Wl,--whole-archive", *(archive(crates, it) for it in C_API), "-Wl,--no-whole-archive"]
-    words = ["cc", "-shared", "-fPIC", "-O2", "-o", path, MALLOC, *whole]
-    done = subprocess.run([str(it) for it in words], capture_output=True, text=True)
+    archives = (archive(crates, it) for it in C_API)
+    return linked(path, MALLOC, "-Wl,--whole-archive", *archives, "-Wl,--no-whole-archive")
+
+
+def linked(path: Path, *words: str | Path) -> tuple[Path, str]:
+    """Links a shared object of these; its path, and what went wrong."""
+    given = [str(it) for it in ("-o", path, *words)]
+    done = subprocess.run(["cc", "-std=c11", "-shared", "-fPIC", "-O2", *given], capture_output=True, text=True)
     return path, (done.stderr or "cc failed")[-1000:] if done.returncode else ""
 
 
@@ -119,9 +112,7 @@ def before_librabbitmq(crates: Crates, folder: Path, is_built: bool) -> tuple[Pa
     """Builds the shared object that comes before librabbitmq in a folder; its path, and what went wrong."""
     path, name = folder / "libamqp_values_rabbitmq.so", C_API[0]
     done = build_archive(crates, name, is_built)
-    if not done.returncode:
-        words = ["cc", "-std=c11", "-shared", "-fPIC", "-O2", f"-I{TOP / 'include'}", "-o", path]
-        script = TOP / "packaging/amqp_values_rabbitmq.map"
-        words += [f"-Wl,--version-script={script}", TOP / "c/amqp_values_rabbitmq.c", archive(crates, name)]
-        done = subprocess.run([str(it) for it in words], capture_output=True, text=True)
-    return path, (done.stderr or done.stdout or "it failed")[-1000:] if done.returncode else ""
+    if done.returncode:
+        return path, f"lib{name}.a: {(done.stderr or done.stdout)[-1000:]}"
+    script = f"-Wl,--version-script={TOP}/packaging/amqp_values_rabbitmq.map"
+    return linked(path, f"-I{TOP}/include", script, TOP / "c/amqp_values_rabbitmq.c", archive(crates, name))

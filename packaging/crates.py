@@ -53,9 +53,6 @@ class Crates:
     def is_program(self, name: str) -> bool:
         return (self.folder(name) / "src/main.rt").exists()
 
-    def has_tests(self, name: str) -> bool:
-        return any("#[test]" in it.read_text() for it in self.folder(name).glob("src/**/*.rt"))
-
     def library(self, name: str) -> Path:
         """The path at which rt leaves a crate's library."""
         return self.folder(name) / "out/rlib" / f"{name}.rlib"

@@ -3,7 +3,6 @@
 import json
 import os
 import re
-import shutil
 import subprocess
 from pathlib import Path
 from typing import NamedTuple
@@ -51,13 +50,6 @@ def named() -> Path | None:
     """The folder of the Rust crate, as the environment names it."""
     folder = os.environ.get("AMQ_PROTOCOL_TYPES")
     return Path(folder) if folder else None
-
-
-def is_at_hand() -> bool:
-    """Whether there are cargo and the Rust crate, in that folder or in what cargo has kept of its registry."""
-    home = Path(os.environ.get("CARGO_HOME") or Path.home() / ".cargo")
-    kept = home.glob("registry/cache/*/amq-protocol-types-10.6.3.crate")
-    return bool(shutil.which("cargo")) and (named() is not None or any(kept))
 
 
 def quoted(path: Path) -> str:

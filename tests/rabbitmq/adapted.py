@@ -81,7 +81,20 @@ def error_of(call: Callable[[], Any]) -> str:
     return ""
 
 
-class Pika:
+class Blocking:
+    """A client whose calls return once they are done."""
+
+    connection: Any
+    channel: Any
+
+    def bind(self, queue: str, exchange: str, arguments: Any) -> None:
+        self.channel.queue_bind(queue, exchange, "", arguments=arguments)
+
+    def close(self) -> None:
+        self.connection.close()
+
+
+class Pika(Blocking):
     def __init__(self, port: int, _: float) -> None:
         import pika
 
@@ -99,14 +112,8 @@ class Pika:
     def declare(self, queue: str, arguments: Any) -> None:
         self.channel.queue_declare(queue, arguments=arguments)
 
-    def bind(self, queue: str, exchange: str, arguments: Any) -> None:
-        self.channel.queue_bind(queue, exchange, "", arguments=arguments)
 
-    def close(self) -> None:
-        self.connection.close()
-
-
-class PyAmqp:
+class PyAmqp(Blocking):
     def __init__(self, port: int, _: float) -> None:
         import amqp
 
@@ -125,12 +132,6 @@ class PyAmqp:
 
     def declare(self, queue: str, arguments: Any) -> None:
         self.channel.queue_declare(queue, auto_delete=False, arguments=arguments)
-
-    def bind(self, queue: str, exchange: str, arguments: Any) -> None:
-        self.channel.queue_bind(queue, exchange, "", arguments=arguments)
-
-    def close(self) -> None:
-        self.connection.close()
 
 
 class OfAsyncio:

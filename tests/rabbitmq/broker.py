@@ -20,7 +20,6 @@ ROOTS = {DEBIAN_12: Path("/"), DEBIAN_13: Path("/var/lib/maolkint/trixie")}
 # Debian's own Python, which has Debian's modules.
 PYTHON = "/usr/bin/python3"
 SERVER = "usr/lib/rabbitmq/bin/rabbitmq-server"
-SERVERS = {version: str(root / SERVER) for version, root in ROOTS.items()}
 # Runs a program in a root, where the folder of the broker is mounted for this process alone. The process isn't root's.
 MOUNTED = Path("/mnt")
 IN_ROOT = f'mount --bind "$1" "$0{MOUNTED}" && root=$0 && shift && exec chroot "$root" setpriv --pdeathsig=KILL "$@"'
