@@ -227,16 +227,6 @@ def other_lengths() -> Iterator[str]:
 
 def faults() -> Iterator[str]:
     """Yields what is repeated otherwise than it is made."""
-    checks = (
-        other_defaults,
-        other_ratios,
-        other_picture,
-        long_pages,
-        other_logics,
-        tables_of_no_run,
-        versions_by_hand,
-        files_of_a_type,
-        other_lengths,
-    )
-    for check in checks:
+    checks = [other_defaults, other_ratios, other_picture, long_pages, other_logics, tables_of_no_run, versions_by_hand]
+    for check in (*checks, files_of_a_type, other_lengths):
         yield from check()

@@ -276,18 +276,9 @@ def calls_in(path: Path, exported: Collection[str], is_module: bool) -> Iterator
         whole = text[it.end() : after]
         head = " ".join(re.split(r"\b(?:requires|ensures)\b|\{|;\n", whole)[0].split())
         own = owner_of(block[2] + block[3]) if block else path.parent.parent.name if path.stem == "lib" else path.stem
-        yield Call(
-            place(path, text, it.start(3)),
-            it.start(),
-            block[2] if block else "",
-            it[3],
-            f"{own}::{it[3]}",
-            is_public and is_reached,
-            bool(BODY.search(whole.partition("\n}")[0])),
-            is_of_trait,
-            head,
-            re.findall(CLAUSE, whole),
-        )
+        names, has_body = (block[2] if block else "", it[3], f"{own}::{it[3]}"), BODY.search(whole.partition("\n}")[0])
+        kinds = is_public and is_reached, bool(has_body), is_of_trait
+        yield Call(place(path, text, it.start(3)), it.start(), *names, *kinds, head, re.findall(CLAUSE, whole))
 
 
 def owner_of(head: str) -> str:
@@ -551,22 +542,8 @@ def not_with_much() -> Iterator[str]:
 
 
 def main() -> int:
-    checks = (
-        missing,
-        wrong_lengths,
-        misquoted,
-        private,
-        unlisted,
-        wrong_clauses,
-        untried,
-        uncalled,
-        allocating,
-        not_with_much,
-        wrong_figure,
-        circular,
-        made_up.faults,
-        figures.faults,
-    )
+    checks = [missing, wrong_lengths, misquoted, private, unlisted, wrong_clauses, untried, uncalled, allocating]
+    checks += [not_with_much, wrong_figure, circular, made_up.faults, figures.faults]
     found = [[*check()] for check in checks]
     print("".join(f"{it}\n" for wrong in found for it in wrong), end="")
     failed = sum(map(bool, found))

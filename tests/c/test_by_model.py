@@ -216,13 +216,8 @@ def as_struct(entry: Any) -> Any:
 
 def some_span(make: Random, length: int) -> Span:
     """A span inside some bytes, or almost, or with numbers that overflow."""
-    numbers = [make.randrange(length + 2) for _ in range(8)] + [
-        2**64 - 1,
-        2**63,
-        2**63 - 1,
-        2**32,
-        2**64 - length,
-    ]
+    numbers = [make.randrange(length + 2) for _ in range(8)]
+    numbers += [2**64 - 1, 2**63, 2**63 - 1, 2**32, 2**64 - length]
     return make.choice(numbers), make.choice(numbers)
 
 
@@ -274,15 +269,11 @@ NUMBERS += [2**64 - it for it in (1, 127, 128, 129, 2**15, 2**15 + 1, 2**31, 2**
 def test_numbers() -> None:
     for tag in map(chr, range(256)):
         for bits in NUMBERS:
-            signed, is_integer = tag in "bsIl", tag in "bsIlBui"
-            is_large = bits >= 2**63
-            result = (
-                OK if is_integer and (signed or not is_large) else calls.OUT_OF_RANGE if is_integer else calls.BAD_TAG
-            )
+            signed, is_large = tag in "bsIl", bits >= 2**63
+            no_number = calls.OUT_OF_RANGE if tag in "bsIlBui" else calls.BAD_TAG
+            result = OK if tag in "bsIlBui" and (signed or not is_large) else no_number
             assert calls.as_number("as_int", tag, bits) == (result, bits - 2**64 * is_large if result == OK else None)
-            result = (
-                OK if is_integer and not (signed and is_large) else calls.OUT_OF_RANGE if is_integer else calls.BAD_TAG
-            )
+            result = OK if tag in "bsIlBui" and not (signed and is_large) else no_number
             assert calls.as_number("as_uint", tag, bits) == (result, bits if result == OK else None)
 
 
@@ -293,14 +284,8 @@ class Written:
     """A container as the model has it, next to the struct that the calls get."""
 
     def __init__(self, offset: int = 0, length: int = 0, tag: str = "A", any_keys: int = 0, inner: int = 0) -> None:
-        self.offset, self.length, self.tag, self.inner, self.any_keys, self.needed = (
-            offset,
-            length,
-            tag,
-            inner,
-            any_keys,
-            77,
-        )
+        self.offset, self.length, self.tag = offset, length, tag
+        self.inner, self.any_keys, self.needed = inner, any_keys, 77
         self.struct: Any = calls.Container((offset, length), ord(tag), inner, any_keys, 77)
 
     @property
@@ -465,9 +450,9 @@ def test_larger_buffer(seed: int) -> None:
 # The canonical encoding and JSON
 
 
-def assert_written(data: bytes, left_out: int = 0, max_depth: int = calls.MAX_DEPTH, others: int = 0) -> None:
+def assert_written(data: bytes, left_out: int, others: int = 0) -> None:
     """The canonical encoding and the JSON of a value, which means it, whatever other flags there are."""
-    flags, limits = left_out, (left_out | others, calls.MAX_BYTES, max_depth)
+    flags, limits = left_out, (left_out | others, calls.MAX_BYTES, calls.MAX_DEPTH)
     result, _ = wanted_problem(data, left_out, *limits[1:])
     if result != OK:
         for call in (calls.canonical, calls.to_json, calls.write_json):

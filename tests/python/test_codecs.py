@@ -257,15 +257,8 @@ def test_times(client: Client, monkeypatch: pytest.MonkeyPatch) -> None:
         for it in (datetime(1969, 12, 31, 23, 59, 59, 999999), datetime(1970, 1, 1, 5, tzinfo=EAST)):
             assert error_of(lambda: codec(client).write({"t": it})) in unwritten(client)
         assert codec(client).write({"t": datetime(1970, 1, 1, 5, 0, 2, tzinfo=EAST)})[-8:] == b"\0" * 7 + b"\1"
-        for it in (
-            2**32 - 1,
-            2**32,
-            1_800_000_000_123,
-            253402300799,
-            253402300800,
-            253402300799_999,
-            253402300800_000,
-        ):
+        seconds = (2**32 - 1, 2**32, 253402300799, 253402300800)
+        for it in (*seconds, 1_800_000_000_123, 253402300799_999, 253402300800_000):
             data = raw(("F", {b"t": number("T", it)}))[1:]
             assert repr(codec(client).read(data, 0)[0]) == repr(seen(client, parsed(b"F" + data)[0]))
     finally:

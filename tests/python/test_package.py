@@ -303,13 +303,8 @@ def test_paths() -> None:
 
 
 def test_plain_types() -> None:
-    value = [
-        own.ShortShortInt(-1),
-        own.Timestamp(1_800_000_000),
-        own.Float(1.5),
-        own.LongString(b"\xff"),
-        Decimal("1.50"),
-    ]
+    value = [own.ShortShortInt(-1), own.Timestamp(1_800_000_000), own.Float(1.5), own.LongString(b"\xff")]
+    value.append(Decimal("1.50"))
     plain = [-1, datetime(2027, 1, 15, 8, tzinfo=UTC), 1.5, b"\xff", Decimal("1.50")]
     for more in ([own.LongUInt(2), {"a": own.LongInt(2)}], [2, {"a": 2}]), (b"\xff", b"\xff"), (True, True):
         value, plain = [*value, more[0]], [*plain, more[1]]
