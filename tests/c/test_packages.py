@@ -1,6 +1,6 @@
 """What CMake and debian/ make of the C library, as someone who has only that uses it: pages, packages, a release.
 
-With --root the packages are installed, used and removed in a fresh root made by debootstrap.
+With --root a release is installed, used and removed in a fresh root, by tests/release.
 """
 
 import os
@@ -8,13 +8,11 @@ import re
 import shutil
 from datetime import datetime, timezone
 from pathlib import Path
-from typing import Any
-
 import pytest
 from crates import TOP
 
 from tests.c.calls import CALLS
-from tests.c.compiling import Done, Words, assert_well, printed, run, version
+from tests.c.compiling import Words, assert_well, printed, run, version
 from tests.c.pages import commands_of_first, names_that_lack
 from tests.c.places import NAME, PATH, files_in
 
@@ -163,44 +161,6 @@ def test_manual_of_packages(unpacked: Path, of_packages: dict[str, str], page: s
     assert done.stderr == ""
 
 
-# What dpkg and others note for themselves, outside of what a package has.
-NOTES = re.compile(r"(?:var/(?:lib/dpkg|cache|log)|etc/ld\.so\.cache|tmp)(?:/|$)")
-
-
-@pytest.fixture(scope="module")
-def root(folder: Path) -> Path:
-    """A fresh root, which debootstrap makes."""
-    path = folder / "root"
-    words: Words = ["debootstrap", "--variant=minbase", "--include=gcc,libc6-dev,pkg-config", "bookworm", path]
-    assert_well(run(words))
-    return path
-
-
-@pytest.mark.needs("--root")
-def test_fresh_root(packages: Path, root: Path) -> None:
-    """The packages are installed there, used, and removed without a trace."""
-
-    def inside(*words: str, **others: Any) -> Done:
-        chrooted: Words = ["chroot", root, *words]
-        return run(chrooted, env={"PATH": "/usr/sbin:/usr/bin:/sbin:/bin", "LC_ALL": "C.UTF-8"}, **others)
-
-    def files() -> set[str]:
-        return {it for it in files_in(root) if not NOTES.match(it)}
-
-    before, names = files(), [it.name for it in packages.glob("*.deb")]
-    for it in names:
-        shutil.copy(packages / it, root / "tmp")
-    assert_well(inside("dpkg", "-i", *(f"/tmp/{it}" for it in names)))
-    # as one who isn't root, and has only the page
-    page = (root / "usr/share/doc/libamqp-values-dev/C.md").read_text()
-    commands, wants = commands_of_first(page.partition("**Link.**")[2])
-    typed = f"set -e; mkdir /tmp/own; cd /tmp/own\n{commands}"
-    assert assert_well(inside("su", "nobody", "-s", "/bin/sh", "-c", typed)) == wants
-    assert assert_well(inside("amqp_show", "--hex", input="49 00000007")).startswith("LongInt 7\n")
-    assert_well(inside("dpkg", "--purge", *(it.partition("_")[0] for it in names)))
-    assert sorted(before ^ files()) == []
-
-
 # A release
 
 
@@ -255,6 +215,10 @@ class TestRelease:
         finally:
             os.umask(before)
         assert (again / "SHA256SUMS").read_text() == (release / "SHA256SUMS").read_text()
+
+    @pytest.mark.needs("--root")
+    def test_on_a_fresh_machine(self, release: Path) -> None:
+        assert_well(run([TOP / "tests/release", release]))
 
     def test_checksums(self, release: Path) -> None:
         said = printed(["sha256sum", "--check", "SHA256SUMS"], cwd=release)
