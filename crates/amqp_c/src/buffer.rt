@@ -10,7 +10,6 @@ use crate::Fault;
 use crate::container::Container;
 
 /// Writes the bytes from `at` on.
-#[inline(always)]
 pub fn write(buffer: &mut [u8], at: usize, bytes: &[u8])
     requires { at + length bytes.now ≤ length buffer.old }
     ensures { buffer.new ≡ with_bytes at bytes.now buffer.old }
@@ -81,7 +80,6 @@ fn write_long(buffer: &mut [u8], at: usize, bytes: &[u8])
 }
 
 /// Writes N to 2 * N bytes: the first N and the last N, which may overlap.
-#[inline(always)]
 fn write_ends<const N: usize>(buffer: &mut [u8], at: usize, bytes: &[u8])
     requires fits { at + length bytes.now ≤ length buffer.old }
     requires least { N ≤ length bytes.now }

@@ -33,7 +33,6 @@ pub fn is_container_tag(tag: u8) -> bool
 
 impl Container {
     /// A container of which nothing is written yet.
-    #[inline(always)]
     pub fn empty_at(at: usize, tag: u8, any_keys: u8) -> Container
         ensures { result ≡ empty_at at tag any_keys }
     {
@@ -51,7 +50,6 @@ impl Container {
 
     /// Where the next entry begins, at the end of what is written, if in a buffer of that many bytes
     /// one with this key can be put.
-    #[inline(always)]
     pub fn place(self, buffer_length: usize, key: &[u8]) -> Result<usize, Fault>
         ensures { MatchResult result
             (λ at. IsPlace buffer_length self key.now × (at ≡ end_of self))
@@ -86,7 +84,6 @@ impl Container {
     }
 
     /// Whether these bytes can be before the value of an entry.
-    #[inline(always)]
     pub fn has_name(self, name: &[u8]) -> bool
         ensures { MatchBool result
             ((k : List ℕ) × IsKeyOf self k × (name.now ≡ named self.tag k))
@@ -102,7 +99,6 @@ impl Container {
     }
 
     /// The container, if what is written ends there, and nothing is open in it.
-    #[inline(always)]
     pub fn up_to(self, at: usize) -> Container
         requires begins { self.written.offset ≤ at }
         requires none { HasNoneOpen self }

@@ -218,7 +218,6 @@ fn read_number<'a>(
 
 impl Number {
     /// The number with these bits, which is no decimal.
-    #[inline(always)]
     fn from_bits(bits: u64) -> Number
         ensures { (result.bits ≡ bits) × (result.scale ≡ 0) }
     {

@@ -44,7 +44,6 @@ impl Entry {
 }
 
 /// Whether it is the type tag of signed numbers.
-#[inline(always)]
 fn is_signed_tag(tag: u8) -> bool
     ensures { MatchBool result (IsSignedTag tag) (IsSignedTag tag → ⊥) }
 {
@@ -52,7 +51,6 @@ fn is_signed_tag(tag: u8) -> bool
 }
 
 /// Whether it is the type tag of unsigned numbers.
-#[inline(always)]
 fn is_unsigned_tag(tag: u8) -> bool
     ensures { MatchBool result (IsUnsignedTag tag) (IsUnsignedTag tag → ⊥) }
 {

@@ -31,7 +31,6 @@ pub struct Input<'a> {
 
 impl<'a> Input<'a> {
     /// The bytes.
-    #[inline(always)]
     pub(crate) fn bytes(&self) -> &'a [u8]
         ensures same { result.now ≡ self.now.bytes.now }
         ensures bytes { IsBytes self.now.bytes.now }
@@ -40,7 +39,6 @@ impl<'a> Input<'a> {
     }
 
     /// The limits.
-    #[inline(always)]
     pub fn limits(&self) -> Limits
         ensures { result ≡ limits self.now }
     {
@@ -51,7 +49,6 @@ impl<'a> Input<'a> {
     }
 
     /// Whether the bytes begin with a table without its type tag.
-    #[inline(always)]
     pub fn is_untagged(&self) -> bool
         ensures { result ≡ is_untagged self.now }
     {
@@ -59,7 +56,6 @@ impl<'a> Input<'a> {
     }
 
     /// Whether the first of equal keys counts, rather than the last.
-    #[inline(always)]
     pub(crate) fn is_first_key(&self) -> bool
         ensures { result ≡ is_first_key self.now }
     {
@@ -74,7 +70,6 @@ impl<'a> Input<'a> {
     }
 
     /// Whether a flag is unknown.
-    #[inline(always)]
     pub fn has_unknown_flag(&self) -> bool
         ensures { result ≡ has_unknown_flag self.now }
     {
@@ -82,7 +77,6 @@ impl<'a> Input<'a> {
     }
 
     /// The rules that the value has to keep, or `None` if a flag is unknown.
-    #[inline(always)]
     pub(crate) fn rules(&self) -> Option<Rules>
         ensures { result ≡ rules self.now }
     {
@@ -99,7 +93,6 @@ impl<'a> Input<'a> {
     }
 
     /// Whether no flag is unknown.
-    #[inline(always)]
     pub fn has_known_flags(&self) -> bool
         ensures { result ≡ has_known_flags self.now }
     {
@@ -107,7 +100,6 @@ impl<'a> Input<'a> {
     }
 
     /// Why the value at the start isn't read by the rules, or `None` if it is.
-    #[inline(always)]
     #[tactic(auto, using(crate::proofs::ReadErrors::reported))]
     pub(crate) fn read_error(&self, rules: Rules) -> Option<ReadError>
         ensures first { result ≡ read_error rules self.now }
@@ -124,7 +116,6 @@ impl<'a> Input<'a> {
 
     /// What the type tag and the length determine.
     #[cold]
-    #[inline(never)]
     fn header(self) -> Header
         ensures { IsHeader (limits self.entry).frame (encoding self.entry) result }
     {
@@ -136,7 +127,6 @@ impl<'a> Input<'a> {
     }
 
     /// The first problem of the value, by its offset in the bytes.
-    #[inline(always)]
     fn first_problem(&self, rules: Rules) -> Option<Problem>
         ensures first { result ≡ first_problem rules self.now }
         ensures read { rules ≡ Reading
@@ -154,7 +144,6 @@ impl<'a> Input<'a> {
 }
 
 /// The same bytes.
-#[inline(always)]
 fn as_bytes(bytes: &[u8]) -> &[u8]
     ensures same { result.now ≡ bytes.now }
     ensures bytes { IsBytes bytes.now }

@@ -42,7 +42,6 @@ fn is_short_ascii(bytes: &[u8]) -> bool
 }
 
 /// Whether none of eight bytes has its high bit set.
-#[inline(always)]
 fn has_no_high_bit(eight: &[u8; 8]) -> bool
     ensures { result ≡ true → IsAscii eight.now }
 {

@@ -178,7 +178,6 @@ fn place_of_index(values: &[u8], index: usize) -> Result<Option<usize>, Fault>
 }
 
 /// The key of the pair at the start, and the bytes from its value on.
-#[inline(always)]
 fn split_key(pairs: &[u8]) -> Option<(&[u8], &[u8])>
     ensures { MatchOption result
         (HasNoKey pairs.now)
@@ -193,7 +192,6 @@ fn split_key(pairs: &[u8]) -> Option<(&[u8], &[u8])>
 }
 
 /// What is after the value at the start, by its header only.
-#[inline(always)]
 fn after_value(value: &[u8]) -> Option<&[u8]>
     ensures { MatchOption result
         (IsHeaded value.now → ⊥)

@@ -10,7 +10,6 @@ use crate::buffer::{append, write};
 use crate::container::{Container, is_container_tag};
 
 /// Opens an entry whose value is an array or a table, and returns its body, which is empty.
-#[inline(always)]
 pub fn open(buffer: &mut [u8], into: Container, key: &[u8], tag: u8) -> Result<Container, Fault>
     ensures opened { MatchResult result
         (IsOpened tag buffer.old into key.now buffer.new)
@@ -27,7 +26,6 @@ pub fn open(buffer: &mut [u8], into: Container, key: &[u8], tag: u8) -> Result<C
 }
 
 /// Closes the entry whose value is the array or the table with this body: fills in its length.
-#[inline(always)]
 pub fn close(buffer: &mut [u8], into: Container, body: Container) -> Result<Container, Fault>
     ensures closed { MatchResult result
         (IsClosed buffer.old into body buffer.new)
@@ -47,7 +45,6 @@ pub fn close(buffer: &mut [u8], into: Container, body: Container) -> Result<Cont
 
 /// Whether the body is one of an entry that was opened after what `into` has, and nothing is open in
 /// the body.
-#[inline(always)]
 fn is_open(buffer: &[u8], into: Container, body: Container) -> bool
     ensures { MatchBool result
         ((k : List ℕ) × IsOpen buffer.now into body k)

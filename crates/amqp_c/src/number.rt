@@ -34,7 +34,6 @@ impl Model for Encoding {
 
 impl Encoding {
     /// The encoding of this type tag and this payload.
-    #[inline(always)]
     fn new(tag: u8, payload: &[u8]) -> Encoding
         requires { length payload.now ≤ 8 }
         ensures { result ≡ tag ∷ payload.now }
@@ -48,7 +47,6 @@ impl Encoding {
     }
 
     /// Its type tag, and eight bytes that begin with its payload, with how many that has.
-    #[inline(always)]
     pub fn parts(&self) -> (u8, [u8; 8], usize)
         ensures few { result.2 ≤ 8 }
         ensures parts { result.0 ∷ take result.2 result.1 ≡ self.now }
@@ -58,7 +56,6 @@ impl Encoding {
 }
 
 /// The bytes, and then zeros.
-#[inline(always)]
 fn eight_bytes(bytes: &[u8]) -> [u8; 8]
     requires { length bytes.now ≤ 8 }
     ensures { take (length bytes.now) result ≡ bytes.now }
@@ -69,7 +66,6 @@ fn eight_bytes(bytes: &[u8]) -> [u8; 8]
 }
 
 /// The encoding of the value of fixed width that these determine, as those of an entry do.
-#[inline(always)]
 pub fn encoding_of(tag: u8, bits: u64, scale: u8) -> Result<Encoding, Fault>
     ensures { MatchResult result
         (λ e. (x : Scalar) × IsScalarOf tag bits scale x × (e ≡ text (scalar x)))
@@ -84,7 +80,6 @@ pub fn encoding_of(tag: u8, bits: u64, scale: u8) -> Result<Encoding, Fault>
 
 /// Whether it is the type tag that is written for a type of fixed width.
 #[cold]
-#[inline(never)]
 // The tactic names why the type tag isn't of fixed width: of no type, of one with content, of another.
 #[tactic(auto, using(crate::proofs::Tags::no_kind, crate::proofs::Tags::with_content, crate::proofs::Tags::other_id, crate::proofs::Tags::same_id))]
 fn is_scalar_tag(tag: u8) -> bool
@@ -104,7 +99,6 @@ fn is_scalar_tag(tag: u8) -> bool
 }
 
 /// The encoding of the value of fixed width that these determine, if there is one.
-#[inline(always)]
 fn encoding_by_tag(tag: u8, bits: u64, scale: u8) -> Option<Encoding>
     ensures { MatchOption result
         ((x : Scalar) → IsScalarOf tag bits scale x → ⊥)
@@ -127,7 +121,6 @@ fn encoding_by_tag(tag: u8, bits: u64, scale: u8) -> Option<Encoding>
 }
 
 /// The encoding of the value of this type that the bits determine, with a scale of 0.
-#[inline(always)]
 fn encoding_by_type(amqp_type: AMQPType, bits: u64) -> Option<Encoding>
     ensures { MatchOption result
         ((x : Scalar) → IsScalarOfType amqp_type bits 0 x → ⊥)
@@ -178,7 +171,6 @@ fn encoding_by_type(amqp_type: AMQPType, bits: u64) -> Option<Encoding>
 }
 
 /// The encoding of a decimal: its scale in a byte, and its number in four.
-#[inline(always)]
 fn decimal(bits: u64, scale: u8) -> Option<Encoding>
     ensures { MatchOption result
         ((x : Scalar) → IsScalarOfType amqp.DecimalValue bits scale x → ⊥)
@@ -190,7 +182,6 @@ fn decimal(bits: u64, scale: u8) -> Option<Encoding>
 }
 
 /// The encoding of a boolean, whose bits are 0 or 1.
-#[inline(always)]
 fn boolean(bits: u64) -> Option<Encoding>
     ensures { MatchOption result
         ((x : Scalar) → IsScalarOfType amqp.Boolean bits 0 x → ⊥)
@@ -204,7 +195,6 @@ fn boolean(bits: u64) -> Option<Encoding>
 }
 
 /// The encoding of nothing, whose bits are 0.
-#[inline(always)]
 fn void(bits: u64) -> Option<Encoding>
     ensures { MatchOption result
         ((x : Scalar) → IsScalarOfType amqp.Void bits 0 x → ⊥)

@@ -25,7 +25,6 @@ pub fn put_at_start(bytes: &[u8], buffer: &mut [u8]) -> Result<usize, Fault>
 }
 
 /// Stores how many bytes were written, or which capacity is needed, or else 0, and returns the result.
-#[inline]
 pub fn return_length(done: Result<usize, Fault>, length: &mut usize) -> i32
     ensures returned { result ≡ return_code_of done }
     ensures length { length.new ≡ length_of done }

@@ -17,7 +17,6 @@ use amqp_in_place::Rules;
 use amqp_value_core::input::{SliceInput, SplitInput};
 
 /// Puts a value of fixed width, by its type tag, its bits and its scale.
-#[inline(always)]
 pub fn put_scalar(
     buffer: &mut [u8],
     into: Container,
@@ -38,7 +37,6 @@ pub fn put_scalar(
 }
 
 /// Puts a long string or a byte array.
-#[inline(always)]
 pub fn put_bytes(
     buffer: &mut [u8],
     into: Container,
@@ -63,7 +61,6 @@ pub fn put_bytes(
 }
 
 /// What is before the bytes of a long string or a byte array: its type tag, and their length.
-#[inline(always)]
 fn head_of(tag: u8, length: [u8; 4]) -> [u8; 5]
     ensures { result ≡ tag ∷ length }
 {

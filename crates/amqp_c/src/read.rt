@@ -18,7 +18,6 @@ use amqp_value_core::input::{ParsableInput, SliceInput};
 use amqp_value_core::types::AMQPType;
 
 /// Reads the value within the limits by the rules: its entry by its type tag and its length, and then checks all of it.
-#[inline(always)]
 pub fn read(input: &Input<'_>, rules: Rules) -> Result<Entry, ReadError>
     ensures error { MatchResult result
         (λ entry. read_error rules input.now ≡ None)
@@ -39,7 +38,6 @@ pub fn read(input: &Input<'_>, rules: Rules) -> Result<Entry, ReadError>
 }
 
 /// The entry of the value, by its type tag and its length only. What is inside a container isn't looked at.
-#[inline(always)]
 pub fn peek(input: &Input<'_>) -> Result<Entry, Fault>
     ensures { MatchResult result
         (IsEntryOf input.now)
@@ -53,7 +51,6 @@ pub fn peek(input: &Input<'_>) -> Result<Entry, Fault>
 }
 
 /// The entry of the table without its type tag, by its length only.
-#[inline(always)]
 fn first_table(bytes: &[u8]) -> Result<Entry, Fault>
     ensures { MatchResult result
         (IsPrefixedTable bytes.now)

@@ -21,7 +21,6 @@ impl Span {
     };
 
     /// The bytes of the span, if it is inside `bytes`.
-    #[inline]
     pub fn of(self, bytes: &[u8]) -> Option<&[u8]>
         ensures { MatchOption result
             (SpanIsIn (length bytes.now) self → ⊥)
@@ -34,7 +33,6 @@ impl Span {
     }
 
     /// The end of the span, if it is inside that many bytes.
-    #[inline]
     pub(crate) fn end_in(self, count: usize) -> Option<usize>
         ensures { MatchOption result
             (SpanIsIn count self → ⊥)
@@ -47,7 +45,6 @@ impl Span {
     }
 
     /// The span, with that many bytes more before it.
-    #[inline]
     pub(crate) fn span_after(self, by: usize) -> Span
         requires { self.offset + by < 2 ^ 64 }
         ensures { result ≡ span_after by self }
@@ -59,7 +56,6 @@ impl Span {
     }
 
     /// What is after a part of the span, in the span.
-    #[inline]
     pub(crate) fn rest_after(self, part: Span) -> Span
         requires part { part.offset + part.length ≤ self.offset + self.length }
         requires fits { self.offset + self.length < 2 ^ 64 }
@@ -73,7 +69,6 @@ impl Span {
     }
 
     /// That many of its last bytes.
-    #[inline]
     pub(crate) fn last(self, count: usize) -> Span
         requires count { count ≤ self.length }
         requires fits { self.offset + self.length < 2 ^ 64 }

@@ -18,7 +18,6 @@ const OK: i32 = 0;
 const NONE: i32 = 1;
 
 /// Stores what a call returns, and returns its result code.
-#[inline(always)]
 pub fn store<T: Copy>(done: Result<T, Fault>, place: &mut T) -> i32
     ensures returned { result ≡ return_code_of done }
     ensures place { place.new ≡ ok_or_old place.old done }
@@ -34,7 +33,6 @@ pub fn store<T: Copy>(done: Result<T, Fault>, place: &mut T) -> i32
 
 /// Stores how far a container is written after an entry was added, or the capacity that the buffer
 /// should have.
-#[inline(always)]
 pub fn store_grown(done: Result<Container, Fault>, into: &mut Container) -> i32
     ensures returned { result ≡ return_code_of done }
     ensures container { into.new ≡ grown_or_needing into.old done }
@@ -50,7 +48,6 @@ pub fn store_grown(done: Result<Container, Fault>, into: &mut Container) -> i32
 
 /// Stores the body that was opened, and in its container that one is open, or the capacity that the
 /// buffer should have.
-#[inline(always)]
 pub fn store_opened(
     done: Result<Container, Fault>,
     into: &mut Container,
@@ -72,7 +69,6 @@ pub fn store_opened(
 
 /// Stores how far a container is written after an entry in it was closed, and that none is open in
 /// it.
-#[inline(always)]
 pub fn store_closed(done: Result<Container, Fault>, into: &mut Container) -> i32
     ensures returned { result ≡ return_code_of done }
     ensures container { into.new ≡ closed_or_old into.old done }
@@ -88,7 +84,6 @@ pub fn store_closed(done: Result<Container, Fault>, into: &mut Container) -> i32
 }
 
 /// Leaves the capacity that a buffer should have that is too small.
-#[inline(always)]
 fn store_fault(fault: Fault, into: &mut Container) -> i32
     ensures returned { result ≡ code_of fault }
     ensures container { into.new ≡ needing fault into.old }
@@ -100,7 +95,6 @@ fn store_fault(fault: Fault, into: &mut Container) -> i32
 }
 
 /// Stores what was read, or where reading failed.
-#[inline(always)]
 pub fn store_read<T: Copy>(done: Result<T, ReadError>, place: &mut T, problem: &mut Problem) -> i32
     ensures read { IfOk done (λ read.
         (result ≡ pos 0) × (place.new ≡ read) × (problem.new ≡ problem.old)) }
@@ -146,7 +140,6 @@ pub fn store_found(done: Result<Option<Entry>, Fault>, entry: &mut Entry) -> i32
 }
 
 /// Stores the entry and the cursor that a step returns.
-#[inline(always)]
 pub fn store_step(
     done: Result<Option<(Entry, Cursor)>, Fault>,
     cursor: &mut Cursor,
