@@ -15,7 +15,7 @@ use Rattle.amqp_in_place.specs.declared.problems.Rules.{Rules}
 use Rattle.amqp_in_place.specs.declared.problems.Rules.TheVariants.{AnyKeys}
 use Rattle.amqp_in_place.specs.Problems.{inside, value_problem}
 use Rattle.amqp_in_place.proofs.AnyKeys.{value_there, payload_there, no_fixed_problem, as_weak, inside_weaker}
-use Rattle.amqp_c.specs.BuiltEntries.{IsEncodingBy}
+use Rattle.amqp_c.specs.Items.{IsEncodingBy}
 use Rattle.amqp_c.proofs.ByRules.{value_size, encoding_is, field_there}
 
 -- ---- values by the grammar

@@ -6,7 +6,7 @@ use Rattle.std.proofs.lemmas.Bool.{ne_eqb}
 use Rattle.amqp_c.specs.declared.container.Container.{Container}
 use Rattle.amqp_c.specs.Containers.{IsPlace, named, end_of, entry_of, end_with, up_to}
 use Rattle.amqp_c.specs.Growth.{IsAppended}
-use Rattle.amqp_c.specs.Buffers.{with_bytes}
+use Rattle.amqp_c.specs.CallResults.{with_bytes}
 
 -- bytes that are written after others are written with these at once
 pub with_bytes-join : (at next : ℕ) (a b buffer : List ℕ) → next ≡ at + length a → next ≤ length buffer

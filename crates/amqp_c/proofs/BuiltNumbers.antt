@@ -13,7 +13,7 @@ use Rattle.amqp_value_core.specs.InMemory.{IsNumber}
 use Rattle.amqp_value_core.specs.Texts.{text}
 use Rattle.amqp_value_core.specs.Values.{Scalar, number, decimal, scalar}
 use Rattle.amqp_c.specs.Scalars.{bits_of_number}
-use Rattle.amqp_c.specs.BuiltEntries.{IsScalarOfType}
+use Rattle.amqp_c.specs.Items.{IsScalarOfType}
 
 -- what a conversion returned that succeeded
 pub converted : {T E : Type 0} (r : Result T E) (o : Option T) (x v : T) (P : Type 0) → o ≡ Some x → o ≡ result_ok r → OkIff r P v → P × (x ≡ v)

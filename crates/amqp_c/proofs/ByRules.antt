@@ -16,7 +16,7 @@ use Rattle.amqp_in_place.specs.declared.problems.Rules.{Rules}
 use Rattle.amqp_in_place.specs.declared.problems.Rules.TheVariants as by_rules
 use Rattle.amqp_in_place.specs.Problems.{Search, known, allow_key, further, in_entries, in_payload, in_value, in_pair, pair_len, inside, value_problem, pair_problem}
 use Rattle.amqp_in_place.proofs.AnyKeys.{no_further, neither, payload_there, payload_right, value_there, value_right, pair_there, pair_right}
-use Rattle.amqp_c.specs.BuiltEntries.{IsEncodingBy, AreValuesBy, ArePairsBy, IsBodyBy}
+use Rattle.amqp_c.specs.Items.{IsEncodingBy, AreValuesBy, ArePairsBy, IsBodyBy}
 
 -- ---- searches that find nothing
 

@@ -3,7 +3,7 @@ use Rattle.std.proofs.Common.{◌≡◌, ◌<◌, ◌^◌, ℕ, ℤ, pos, negsuc
 use Rattle.std.specs.Int.{w64, cast_signed, cast_unsigned, FitsUnsignedBits}
 use Rattle.std.proofs.lemmas.Int.{of_z-to_z}
 use Rattle.amqp_c.specs.declared.entry.Entry.{Entry}
-use Rattle.amqp_c.specs.Getters.{IsSignedTag, IsUnsignedTag, IsInteger, IsIntegerTag}
+use Rattle.amqp_c.specs.Scalars.{IsSignedTag, IsUnsignedTag, IsInteger, IsIntegerTag}
 
 pub no_integer : (tag : ℕ) → (IsSignedTag tag → ⊥) → (IsUnsignedTag tag → ⊥) → IsIntegerTag tag → ⊥
 no_integer tag first second (inl x) = first x

@@ -6,13 +6,12 @@ use Rattle.amqp_value_core.specs.declared.types.amqp_type.AMQPType.TheVariants a
 use Rattle.amqp_value_core.specs.Bytes.{IsShort}
 use Rattle.amqp_value_core.specs.Grammar.{short_field, long_field, Wire, wire, raw_array, raw_table, ArrayBody, no_values, value, TableBody, no_pairs, pair}
 use Rattle.amqp_value_core.specs.Values.{Tree, scalar, short, long, octets, array, table, Trees, no_trees, tree, Entries, no_entries, entry}
-use Rattle.amqp_c.specs.Spans.{part, SpanIsIn}
+use Rattle.amqp_c.specs.Entries.{part, SpanIsIn, array_tag, table_tag}
 use Rattle.amqp_c.specs.declared.container.Container.{Container}
-use Rattle.amqp_c.specs.Heads.{array_tag, table_tag}
 use Rattle.amqp_c.specs.Containers.{named, end_of, entry_of, up_to}
-use Rattle.amqp_c.specs.BuiltEntries.{IsOfBody, AreValuesBy, ArePairsBy}
+use Rattle.amqp_c.specs.Items.{IsOfBody, AreValuesBy, ArePairsBy}
 use Rattle.amqp_c.specs.Growth.{and_value, and_pair, GrowsContainer, IsOpen, IsClosed}
-use Rattle.amqp_c.specs.Buffers.{with_bytes, StandsAt}
+use Rattle.amqp_c.specs.CallResults.{with_bytes, StandsAt}
 use Rattle.amqp_c.proofs.Buffers.{with_bytes-join}
 use Rattle.amqp_c.proofs.ByRules.{values_join, one_value, pairs_join, one_pair, closed_by}
 

@@ -16,9 +16,7 @@ use Rattle.amqp_c.specs.declared.entry.Entry.{Entry}
 use Rattle.amqp_c.specs.declared.fault.Fault.{Fault}
 use Rattle.amqp_c.specs.declared.fault.Fault.TheVariants.{Cut}
 use Rattle.amqp_c.specs.declared.span.Span.{Span}
-use Rattle.amqp_c.specs.Heads.{array_tag, table_tag}
-use Rattle.amqp_c.specs.Spans.{part, rest_after, last, SpanIsIn}
-use Rattle.amqp_c.specs.Entries.{IsTagged, IsTrueTo, EntryIsIn}
+use Rattle.amqp_c.specs.Entries.{array_tag, table_tag, part, rest_after, last, SpanIsIn, IsTagged, IsTrueTo, EntryIsIn}
 use Rattle.amqp_c.specs.Steps.{IsHeaded, HasNoPair, StandsAlone, StandsKeyed, EndsIn}
 use Rattle.amqp_c.specs.LookUps.{HasPair, none_left, first_here, one_more, HasNth, too_few, here, later, HasEntriesBy, IsOf, GivesFound, GivesBytes, StandsAtKey, IsFoundIn, FindsIn, LooksUp, LooksUpNth, IsPlaceOf, HasNoKey}
 use Rattle.amqp_c.proofs.Parts.{part_after, part_length, part_last}

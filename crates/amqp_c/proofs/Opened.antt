@@ -2,9 +2,8 @@
 use Rattle.std.proofs.Common.{◌≡◌, ◌+◌, ◌-◌, ℕ, Bool, true, false, List, [], ◌∷◌, ◌++◌, length, take, drop, refl, sym, ap, ap₂, ◌∙◌, arith, length-append, length-drop}
 use Rattle.std.specs.Bool.{MatchBool}
 use Rattle.std.proofs.lemmas.List.{take_at, length-take-le}
-use Rattle.amqp_c.specs.Spans.{SpanIsIn}
+use Rattle.amqp_c.specs.Entries.{SpanIsIn, IsContainerTag}
 use Rattle.amqp_c.specs.declared.container.Container.{Container}
-use Rattle.amqp_c.specs.Heads.{IsContainerTag}
 use Rattle.amqp_c.specs.Containers.{HasNoneOpen, HasOneOpen, IsKeyOf, named, end_of, entry_of}
 use Rattle.amqp_c.specs.Growth.{IsOpen}
 

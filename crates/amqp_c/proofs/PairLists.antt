@@ -11,10 +11,8 @@ use Rattle.std.specs.Prelude.{slice_get}
 use Rattle.amqp_c.specs.declared.cursor.Cursor.{Cursor}
 use Rattle.amqp_c.specs.declared.entry.Entry.{Entry}
 use Rattle.amqp_c.specs.declared.fault.Fault.{Fault}
-use Rattle.amqp_c.specs.Heads.{array_tag, table_tag}
-use Rattle.amqp_c.specs.Spans.{part}
-use Rattle.amqp_c.specs.LookUps.{HasPair, none_left, first_here, one_more, HasNth, too_few, here, later, IsOf, GivesBytes, LooksUp, LooksUpNth}
-use Rattle.amqp_c.specs.PairLists.{ArePairEncodings, no_pair_encodings, pair_encoding, last_of_pairs, first_of_pairs, HasLast, HasFirst, never, at_once, after_another, AreEncodings, no_encodings, encoding}
+use Rattle.amqp_c.specs.Entries.{array_tag, table_tag, part}
+use Rattle.amqp_c.specs.LookUps.{HasPair, none_left, first_here, one_more, HasNth, too_few, here, later, IsOf, GivesBytes, LooksUp, LooksUpNth, ArePairEncodings, no_pair_encodings, pair_encoding, last_of_pairs, first_of_pairs, HasLast, HasFirst, never, at_once, after_another, AreEncodings, no_encodings, encoding}
 use Rattle.amqp_c.proofs.LookUps.{differ}
 
 -- the bytes of the value, if the key is the pair's

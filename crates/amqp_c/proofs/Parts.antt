@@ -3,7 +3,7 @@ use Rattle.std.proofs.Common.{◌≡◌, ◌+◌, ◌-◌, ◌≤◌, ℕ, List,
 use Rattle.std.proofs.lemmas.List.{take_at, take-take, drop-drop, drop-take, length-take-le}
 use Rattle.amqp_value_core.specs.Grammar.{long_field}
 use Rattle.amqp_c.specs.declared.span.Span.{Span}
-use Rattle.amqp_c.specs.Spans.{part, span_after, rest_after, last}
+use Rattle.amqp_c.specs.Entries.{part, span_after, rest_after, last}
 
 -- at the start
 pub part_prefix : (s : List ℕ) (p : Span) → p.offset ≡ 0 → part s p ≡ take p.length s

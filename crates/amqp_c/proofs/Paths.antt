@@ -12,9 +12,7 @@ use Rattle.amqp_c.specs.declared.entry.Entry.{Entry}
 use Rattle.amqp_c.specs.declared.lookup.Step.{Step}
 use Rattle.amqp_c.specs.declared.fault.Fault.{Fault}
 use Rattle.amqp_c.specs.declared.fault.Fault.TheVariants.{Invalid}
-use Rattle.amqp_c.specs.Heads.{array_tag, table_tag}
-use Rattle.amqp_c.specs.Spans.{part}
-use Rattle.amqp_c.specs.Entries.{IsEntry}
+use Rattle.amqp_c.specs.Entries.{array_tag, table_tag, part, IsEntry}
 use Rattle.amqp_c.specs.declared.span.Span.{Span}
 use Rattle.amqp_c.specs.Steps.{contents}
 use Rattle.amqp_c.specs.LookUps.{GivesFound, IsFoundIn, LooksUp, LooksUpNth}

@@ -27,13 +27,10 @@ use Rattle.amqp_in_place.proofs.Skipping.{frame_extent as framed_extent}
 use Rattle.amqp_c.specs.declared.entry.Entry.{Entry}
 use Rattle.amqp_c.specs.declared.fault.Fault.{Fault}
 use Rattle.amqp_c.specs.declared.fault.Fault.TheVariants.{More, UnknownTag}
-use Rattle.amqp_c.specs.ReturnCodes.{header_fault}
-use Rattle.amqp_c.specs.CallResults.{HeaderFaults}
-use Rattle.amqp_c.specs.Entries.{HasNoNumber, DescribesValue, IsEntry, HoldsContent, IsTagged}
-use Rattle.amqp_c.specs.Heads.{has_content}
+use Rattle.amqp_c.specs.CallResults.{header_fault}
+use Rattle.amqp_c.specs.Entries.{HeaderFaults, HasNoNumber, DescribesValue, IsEntry, HoldsContent, IsTagged, has_content, part}
 use Rattle.amqp_c.specs.Steps.{IsHeaded}
 use Rattle.amqp_c.specs.Scalars.{bits_in, scale_in}
-use Rattle.amqp_c.specs.Spans.{part}
 use Rattle.amqp_c.proofs.Parts.{part_prefix, part_content}
 
 -- a value that is found has at least one byte

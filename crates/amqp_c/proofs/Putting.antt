@@ -22,14 +22,12 @@ use Rattle.amqp_in_place.specs.Problems.{problem_of, problem_in_table_of, withou
 use Rattle.amqp_in_place.proofs.AnyKeys.{none_of_any_keys, within_limits}
 use Rattle.amqp_c.specs.declared.fault.Fault.{Fault}
 use Rattle.amqp_c.specs.declared.input.Input.{Input}
-use Rattle.amqp_c.specs.Inputs.{limits, is_untagged, encoding}
-use Rattle.amqp_c.specs.ReadErrors.{first_problem, error_of, read_error}
+use Rattle.amqp_c.specs.Inputs.{limits, is_untagged, encoding, first_problem, error_of, read_error}
 use Rattle.amqp_c.specs.declared.container.Container.{Container}
-use Rattle.amqp_c.specs.Buffers.{LacksRoom}
+use Rattle.amqp_c.specs.CallResults.{LacksRoom}
 use Rattle.amqp_c.specs.Containers.{IsPlace, end_with, entry_of, up_to}
-use Rattle.amqp_c.specs.BuiltEntries.{IsScalarOf, IsStringTag, IsStringValue, IsEncodingBy}
-use Rattle.amqp_c.specs.Items.{Item, encoded, IsPutEncoding, IsReadEncoding, IsEncodedBy, item_depth, missing_tag}
-use Rattle.amqp_c.specs.Faults.{IsPutFault}
+use Rattle.amqp_c.specs.Items.{IsScalarOf, IsStringTag, IsStringValue, IsEncodingBy, Item, encoded, IsPutEncoding, IsReadEncoding, IsEncodedBy, item_depth, missing_tag}
+use Rattle.amqp_c.specs.BuildCalls.{IsPutFault}
 use Rattle.amqp_c.specs.Growth.{IsAppended, IsEntryPut}
 use Rattle.amqp_c.proofs.AnyKeys.{IsPlain, start_reads, value_whole}
 use Rattle.amqp_c.proofs.Growing.{part_grown, grows_by}

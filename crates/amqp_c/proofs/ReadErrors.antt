@@ -22,8 +22,7 @@ use Rattle.amqp_in_place.specs.ProblemResults.{FindsValue}
 use Rattle.amqp_in_place.proofs.ProblemReadings.{reads_if_none, table_read_if_none}
 use Rattle.amqp_in_place.specs.Problems.{here, without_tag, problem_of, problem_in_table_of}
 use Rattle.amqp_c.specs.declared.input.Input.{Input}
-use Rattle.amqp_c.specs.Inputs.{limits, is_untagged, encoding}
-use Rattle.amqp_c.specs.ReadErrors.{error_of, header_lack, first_problem, read_error}
+use Rattle.amqp_c.specs.Inputs.{limits, is_untagged, encoding, error_of, header_lack, first_problem, read_error}
 
 -- no byte is asked for after what is no type tag
 unknown_wants : (s : List ℕ) → Outcome s unknown → wanted s ≡ 0

@@ -17,12 +17,9 @@ use Rattle.amqp_in_place.specs.ProblemResults.{FindsValue}
 use Rattle.amqp_c.specs.declared.entry.Entry.{Entry}
 use Rattle.amqp_c.specs.declared.fault.Fault.{Fault}
 use Rattle.amqp_c.specs.declared.input.Input.{Input}
-use Rattle.amqp_c.specs.Inputs.{limits, is_untagged, encoding}
-use Rattle.amqp_c.specs.ReadErrors.{error_of, first_problem, read_error}
-use Rattle.amqp_c.specs.Spans.{part}
-use Rattle.amqp_c.specs.CallResults.{IsTableTaken, HeaderFaults, GivesFirst, untagged_table}
-use Rattle.amqp_c.specs.Entries.{IsEntryAtStart, EntryIsIn}
-use Rattle.amqp_c.specs.Reads.{IsFirstTable, GivesTable, IsPrefixedTable, IsEntryBy, IsEntryOf, IsReadBy, IsReadEntry}
+use Rattle.amqp_c.specs.Inputs.{limits, is_untagged, encoding, error_of, first_problem, read_error}
+use Rattle.amqp_c.specs.Entries.{part, HeaderFaults, GivesFirst, IsEntryAtStart, EntryIsIn}
+use Rattle.amqp_c.specs.Reads.{IsTableTaken, untagged_table, IsFirstTable, GivesTable, IsPrefixedTable, IsEntryBy, IsEntryOf, IsReadBy, IsReadEntry}
 use Rattle.amqp_c.specs.Steps.{IsHeaded}
 use Rattle.amqp_in_place.proofs.AnyKeys.{within_limits}
 use Rattle.amqp_c.proofs.AnyKeys.{value_whole}

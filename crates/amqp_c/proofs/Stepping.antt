@@ -9,10 +9,7 @@ use Rattle.amq_protocol_types.specs.parsing.Headers.{extent}
 use Rattle.amqp_in_place.specs.Bodies.{HasEntries}
 use Rattle.amqp_c.specs.declared.entry.Entry.{Entry}
 use Rattle.amqp_c.specs.declared.span.Span.{Span}
-use Rattle.amqp_c.specs.CallResults.{GivesFirst}
-use Rattle.amqp_c.specs.Entries.{DescribesValue, IsEntryAtStart, HoldsContent, IsTagged, IsTrueTo, EntryIsIn}
-use Rattle.amqp_c.specs.Heads.{has_content}
-use Rattle.amqp_c.specs.Spans.{part, span_after, rest_after, SpanIsIn}
+use Rattle.amqp_c.specs.Entries.{GivesFirst, DescribesValue, IsEntryAtStart, HoldsContent, IsTagged, IsTrueTo, EntryIsIn, has_content, part, span_after, rest_after, SpanIsIn}
 use Rattle.amqp_c.specs.Steps.{IsHeaded, HasNoPair, IsFirstEntryIn, IsValueIn, IsPairIn, BeginsWithKey, StandsKeyed}
 use Rattle.amqp_c.proofs.Parts.{part_prefix, part_within, part_after, part_length}
 

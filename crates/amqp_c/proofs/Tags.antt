@@ -6,8 +6,8 @@ use Rattle.amqp_value_core.specs.Ids.{kind, id_of}
 use Rattle.amqp_value_core.specs.Names.{read_as}
 use Rattle.amqp_value_core.specs.Values.{Scalar, boolean, number, decimal, void, scalar_type}
 use Rattle.amqp_value_core.specs.InMemory.{IsScalar, IsNumber}
-use Rattle.amqp_c.specs.BuiltEntries.{IsScalarTag}
-use Rattle.amqp_c.specs.Heads.{has_content}
+use Rattle.amqp_c.specs.Items.{IsScalarTag}
+use Rattle.amqp_c.specs.Entries.{has_content}
 
 -- a type of numbers is the one that its type tag denotes, and has no bytes after a length
 number_kind : (type : AMQPType) (n : ℕ) → IsNumber type n → (kind (id_of type) ≡ Some type) × (has_content type ≡ false)

@@ -1,67 +1,64 @@
--- What the calls return.
-use Rattle.std.specs.Prelude.{ℕ, ◌≡◌, ◌+◌, ℤ, pos, List, length, Option, Some, None, Result, Ok, Err, MatchResult}
-use Rattle.amqp_value_core.specs.declared.types.amqp_type.AMQPType.TheVariants.{FieldTable}
-use Rattle.amqp_value_core.specs.Ids.{id_of}
-use Rattle.amqp_value_core.specs.Values.{Tree, table, Entries}
-use Rattle.amqp_value_core.specs.Outcomes.{Reading, found, more, unknown, Outcome}
-use Rattle.amq_protocol_types.specs.declared.parsing.within.Limits.{Limits}
-use Rattle.amq_protocol_types.specs.parsing.ParseResults.{IsRefusal}
-use Rattle.amq_protocol_types.specs.parsing.Limits.{Within}
-use Rattle.amq_protocol_types.specs.parsing.Untagged.{UntaggedWithin}
+-- What calls return, and what they leave at their pointers and in a buffer.
+use Rattle.std.specs.Prelude.{ℕ, ℤ, pos, negsuc, Result, Ok, Err, ◌≡◌, ◌+◌, List, length, Option, Some, None, MatchResult, ◌++◌, take, drop, ◌<◌, ◌≤◌}
+use Rattle.amq_protocol_types.specs.declared.parsing.errors.Err.TheVariants.{Incomplete, Error, Failure}
+use Rattle.amq_protocol_types.specs.declared.parsing.errors.Needed.TheVariants.{Unknown, Size}
+use Rattle.amq_protocol_types.specs.declared.parsing.errors.ErrorKind.TheVariants as kind
 use Rattle.amq_protocol_types.specs.parsing.Refusals.{Refusal}
-use Rattle.amqp_in_place.specs.Bodies.{HasEntries}
+use Rattle.amqp_c.specs.declared.fault.Fault.{Fault}
+use Rattle.amqp_c.specs.declared.fault.Fault.TheVariants.{More, UnknownTag, Cut, KeyCut, KeyNotUtf8, NotFinite, TooDeep, TooLarge, NotUtf8, NotJson, NotAValue, NoEncoding, Invalid, BadKey, BadTag, OutOfRange, NoRoom, NoMemory, Unordered}
 use Rattle.amqp_c.specs.declared.cursor.Cursor.{Cursor}
 use Rattle.amqp_c.specs.declared.entry.Entry.{Entry}
-use Rattle.amqp_c.specs.declared.fault.Fault.{Fault}
-use Rattle.amqp_c.specs.declared.fault.Fault.TheVariants.{More, UnknownTag}
-use Rattle.amqp_c.specs.ReturnCodes.{header_fault, code_of, return_code_of}
-use Rattle.amqp_c.specs.Spans.{part}
-use Rattle.amqp_c.specs.Entries.{IsEntry, IsEntryAtStart, EntryIsIn}
 
--- it is what an error that is right of reading s is reported as
-abbrev pub IsRefusalOf : List ℕ → Fault → Type 0
-IsRefusalOf s f = (e : Refusal) × (f ≡ header_fault e) × IsRefusal (Outcome s) ⊥ e
+-- ---- the results that C gets
 
--- a fault of the type tag and the length is right: more bytes are needed, or the tag is unknown
-abbrev pub HeaderFaults : (Reading → Type 0) → Fault → Type 0
-HeaderFaults Is (More n) = Is (more n)
-HeaderFaults Is UnknownTag = Is unknown
-HeaderFaults Is _ = ⊥
+-- the result that is returned for a fault
+abbrev pub code_of : Fault → ℤ
+code_of (More n) = negsuc 0
+code_of UnknownTag = negsuc 1
+code_of Cut = negsuc 2
+code_of KeyCut = negsuc 3
+code_of KeyNotUtf8 = negsuc 4
+code_of NotFinite = negsuc 5
+code_of TooDeep = negsuc 6
+code_of TooLarge = negsuc 7
+code_of NotUtf8 = negsuc 8
+code_of NotJson = negsuc 9
+code_of NotAValue = negsuc 10
+code_of NoEncoding = negsuc 11
+code_of Invalid = negsuc 12
+code_of BadKey = negsuc 13
+code_of BadTag = negsuc 14
+code_of OutOfRange = negsuc 15
+code_of (NoRoom n) = negsuc 16
+code_of NoMemory = negsuc 17
+code_of Unordered = negsuc 18
 
--- a value is read within limits from the start of s, and e is its entry, without a key, all of it inside s
-pub record IsValueTaken (l : Limits) (s : List ℕ) (e : Entry) : Type 0 where
-  pub meaning : Tree
-  pub rest : List ℕ
-  pub read : Within l s (found meaning rest)
-  pub taken : e.value.length + length rest ≡ length s
-  pub entry : IsEntry s e meaning
-  pub at_start : IsEntryAtStart s e
-  pub inside : EntryIsIn (length s) e
+-- the result: 0 if the call succeeded
+abbrev pub return_code_of : {T : Type 0} → Result T Fault → ℤ
+return_code_of (Ok x) = pos 0
+return_code_of (Err f) = code_of f
 
--- the entry of a table without its type tag at the start, whose body has n bytes after its length
-abbrev pub untagged_table : ℕ → Entry
-untagged_table n = record { key = record { offset = 0; length = 0 }; value = record { offset = 0; length = 4 + n }; content = record { offset = 4; length = n }; bits = 0; tag = id_of FieldTable; scale = 0 }
+-- the number of bytes that were written, or the capacity that is needed, otherwise 0
+abbrev pub length_of : Result ℕ Fault → ℕ
+length_of (Ok n) = n
+length_of (Err (NoRoom n)) = n
+length_of (Err f) = 0
 
--- a table without its type tag is read within limits from the start of s: e is its entry, and has its
--- pairs as content
-pub record IsTableTaken (l : Limits) (s : List ℕ) (e : Entry) : Type 0 where
-  pub entries : Entries
-  pub rest : List ℕ
-  pub read : UntaggedWithin l FieldTable s (found (table entries) rest)
-  pub taken : e.value.length + length rest ≡ length s
-  pub pairs : HasEntries (part s e.content) entries
-  pub entry : e ≡ untagged_table e.content.length
-
--- the entry of the value at the start is given, wherever there is one
-abbrev pub GivesFirst : List ℕ → Tree → List ℕ → Result Entry Fault → Type 0
-GivesFirst s v rest (Ok e) = IsEntry s e v × (e.value.offset ≡ 0) × (e.value.length + length rest ≡ length s)
-GivesFirst s v rest (Err f) = ⊥
+-- what an error of reading a type tag, a length or a number is reported as
+abbrev pub header_fault : Refusal → Fault
+header_fault (Incomplete (Size n)) = More n
+header_fault (Incomplete Unknown) = More 1
+header_fault (Failure k) = NoMemory
+header_fault (Error kind.MapOpt) = UnknownTag
+header_fault (Error _) = Cut
 
 -- the number that denotes a result: 0 if something is returned, 1 if there is nothing
 abbrev pub return_code_if_any : {T : Type 0} → Result (Option T) Fault → ℤ
 return_code_if_any (Ok (Some x)) = pos 0
 return_code_if_any (Ok None) = pos 1
 return_code_if_any (Err f) = code_of f
+
+-- ---- what is left at a pointer
 
 -- what is returned, or what was there
 abbrev pub ok_or_old : {T : Type 0} → T → Result T Fault → T
@@ -87,3 +84,21 @@ pub record Gives {T : Type 0} (Is : T → Type 0) (Refuses : Fault → Type 0) (
   pub returned : code ≡ return_code_of done
   pub given : new ≡ ok_or_old old done
   pub right : MatchResult done Is Refuses
+
+-- ---- what is left in a buffer
+
+-- the buffer with these bytes from `at` on, and else as it was
+abbrev pub with_bytes : ℕ → List ℕ → List ℕ → List ℕ
+with_bytes at bytes buffer = take at buffer ++ (bytes ++ drop (at + length bytes) buffer)
+
+-- these bytes are in the buffer from `at` on
+abbrev pub StandsAt : ℕ → List ℕ → List ℕ → Type 0
+StandsAt at bytes buffer = take (length bytes) (drop at buffer) ≡ bytes
+
+-- the first n bytes of the buffer are now these, and after them it is as it was
+abbrev pub IsPutAtStart : List ℕ → List ℕ → List ℕ → ℕ → Type 0
+IsPutAtStart bytes old new n = (n ≡ length bytes) × (n ≤ length old) × (new ≡ bytes ++ drop n old)
+
+-- a buffer of that many bytes is too small, and the fault reports how many are needed
+abbrev pub LacksRoom : ℕ → ℕ → Fault → Type 0
+LacksRoom needed capacity f = (f ≡ NoRoom needed) × (capacity < needed)

@@ -2,8 +2,7 @@
 use Rattle.std.specs.Prelude.{ℕ, ◌≡◌, ◌+◌, ◌-◌, ◌<◌, ◌≤◌, List, [], ◌++◌, ◌==◌, if◌then◌else◌, length, ◌⊎◌}
 use Rattle.amqp_value_core.specs.Bytes.{IsShort}
 use Rattle.amqp_value_core.specs.Grammar.{short_field}
-use Rattle.amqp_c.specs.Heads.{array_tag, table_tag, IsContainerTag}
-use Rattle.amqp_c.specs.Spans.{SpanIsIn}
+use Rattle.amqp_c.specs.Entries.{array_tag, table_tag, IsContainerTag, SpanIsIn}
 use Rattle.amqp_c.specs.declared.container.Container.{Container}
 
 -- no entry is open in the container, and one is; it has another number only if that was written from outside

@@ -1,15 +1,65 @@
--- What an entry holds of the bytes that it was read from.
-use Rattle.std.specs.Prelude.{ℕ, ◌≡◌, ◌+◌, ◌<◌, Bool, true, false, Some, List, [], ◌∷◌}
+-- What an entry holds of the bytes that it was read from, by spans of these.
+use Rattle.std.specs.Prelude.{ℕ, ◌+◌, ◌-◌, ◌≤◌, List, take, drop, ◌≡◌, Bool, true, false, ◌⊎◌, ◌<◌, Some, [], ◌∷◌, length, Result, Ok, Err}
 use Rattle.amqp_value_core.specs.declared.types.amqp_type.AMQPType.{AMQPType}
+use Rattle.amqp_value_core.specs.declared.types.amqp_type.AMQPType.TheVariants as amqp
 use Rattle.amqp_value_core.specs.Ids.{kind, id_of}
 use Rattle.amqp_value_core.specs.Values.{Tree, scalar, short, long, octets, array, table, type_of}
 use Rattle.amqp_value_core.specs.Grammar.{Wire, ArrayBody}
+use Rattle.amqp_value_core.specs.Outcomes.{Reading, more, unknown, Outcome}
 use Rattle.amq_protocol_types.specs.parsing.Headers.{extent}
+use Rattle.amq_protocol_types.specs.parsing.ParseResults.{IsRefusal}
+use Rattle.amq_protocol_types.specs.parsing.Refusals.{Refusal}
 use Rattle.amqp_in_place.specs.Bodies.{HasEntries}
+use Rattle.amqp_c.specs.declared.span.Span.{Span}
 use Rattle.amqp_c.specs.declared.entry.Entry.{Entry}
-use Rattle.amqp_c.specs.Heads.{has_content}
+use Rattle.amqp_c.specs.declared.fault.Fault.{Fault}
+use Rattle.amqp_c.specs.declared.fault.Fault.TheVariants.{More, UnknownTag}
 use Rattle.amqp_c.specs.Scalars.{scalar_bits, scalar_scale}
-use Rattle.amqp_c.specs.Spans.{part, SpanIsIn}
+use Rattle.amqp_c.specs.CallResults.{header_fault}
+
+-- ---- spans: bytes by the offset of the first and their number
+
+-- the bytes of the span
+abbrev pub part : List ℕ → Span → List ℕ
+part s p = take p.length (drop p.offset s)
+
+-- the span is inside n bytes
+abbrev pub SpanIsIn : ℕ → Span → Type 0
+SpanIsIn n p = p.offset + p.length ≤ n
+
+-- the span of p's bytes, if n more are before them
+abbrev pub span_after : ℕ → Span → Span
+span_after n p = record { offset = p.offset + n; length = p.length }
+
+-- the bytes of p after those of q
+abbrev pub rest_after : Span → Span → Span
+rest_after p q = record { offset = q.offset + q.length; length = p.offset + p.length - (q.offset + q.length) }
+
+-- the last n bytes of p
+abbrev pub last : Span → ℕ → Span
+last p n = record { offset = p.offset + (p.length - n); length = n }
+
+-- ---- type tags of containers, and which types have bytes after a length
+
+-- the type tags of an array and of a table, `A` and `F`
+abbrev pub array_tag : ℕ
+array_tag = 65
+
+abbrev pub table_tag : ℕ
+table_tag = 70
+
+abbrev pub IsContainerTag : ℕ → Type 0
+IsContainerTag tag = (tag ≡ array_tag) ⊎ (tag ≡ table_tag)
+
+-- as a value: a string, a byte array or a container
+abbrev pub has_content : AMQPType → Bool
+has_content amqp.LongString = true
+has_content amqp.ByteArray = true
+has_content amqp.FieldArray = true
+has_content amqp.FieldTable = true
+has_content _ = false
+
+-- ---- entries
 
 -- the entry has no number
 abbrev pub HasNoNumber : Entry → Type 0
@@ -59,3 +109,20 @@ pub record EntryIsIn (n : ℕ) (e : Entry) : Type 0 where
   pub value : SpanIsIn n e.value
   pub content : SpanIsIn n e.content
   pub some : 0 < e.value.length
+
+-- ---- what the value at the start of some bytes gives
+
+-- it is what an error that is right of reading s is reported as
+abbrev pub IsRefusalOf : List ℕ → Fault → Type 0
+IsRefusalOf s f = (e : Refusal) × (f ≡ header_fault e) × IsRefusal (Outcome s) ⊥ e
+
+-- a fault of the type tag and the length is right: more bytes are needed, or the tag is unknown
+abbrev pub HeaderFaults : (Reading → Type 0) → Fault → Type 0
+HeaderFaults Is (More n) = Is (more n)
+HeaderFaults Is UnknownTag = Is unknown
+HeaderFaults Is _ = ⊥
+
+-- the entry of the value at the start is given, wherever there is one
+abbrev pub GivesFirst : List ℕ → Tree → List ℕ → Result Entry Fault → Type 0
+GivesFirst s v rest (Ok e) = IsEntry s e v × (e.value.offset ≡ 0) × (e.value.length + length rest ≡ length s)
+GivesFirst s v rest (Err f) = ⊥

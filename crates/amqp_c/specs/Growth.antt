@@ -6,13 +6,11 @@ use Rattle.amqp_value_core.specs.Bytes.{IsShort}
 use Rattle.amqp_value_core.specs.Grammar.{long_field, Wire, ArrayBody, TableBody}
 use Rattle.amqp_in_place.specs.declared.problems.Rules.{Rules}
 use Rattle.amqp_in_place.specs.Problems.{allow_key}
-use Rattle.amqp_c.specs.Spans.{part, SpanIsIn}
+use Rattle.amqp_c.specs.Entries.{part, SpanIsIn, array_tag, table_tag, IsContainerTag}
 use Rattle.amqp_c.specs.declared.container.Container.{Container}
-use Rattle.amqp_c.specs.Heads.{array_tag, table_tag, IsContainerTag}
 use Rattle.amqp_c.specs.Containers.{HasNoneOpen, HasOneOpen, IsKeyOf, IsPlace, end_of, entry_of, end_with, empty_at, up_to}
-use Rattle.amqp_c.specs.BuiltEntries.{tag_and_zeros, IsOfBody, IsEncodingBy, AreValuesBy, ArePairsBy, IsBodyBy}
-use Rattle.amqp_c.specs.Items.{Item, IsPutEncoding, IsEncodedBy, item_depth}
-use Rattle.amqp_c.specs.Buffers.{with_bytes, StandsAt}
+use Rattle.amqp_c.specs.Items.{tag_and_zeros, IsOfBody, IsEncodingBy, AreValuesBy, ArePairsBy, IsBodyBy, Item, IsPutEncoding, IsEncodedBy, item_depth}
+use Rattle.amqp_c.specs.CallResults.{with_bytes, StandsAt}
 
 -- the values, with v after them
 abbrev pub and_value : Trees → Tree → Trees

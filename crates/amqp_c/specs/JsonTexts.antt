@@ -9,10 +9,8 @@ use Rattle.amqp_json.specs.Written.{counted}
 use Rattle.amqp_c.specs.declared.fault.Fault.{Fault}
 use Rattle.amqp_c.specs.declared.fault.Fault.TheVariants.{Invalid, Unordered}
 use Rattle.amqp_c.specs.declared.input.Input.{Input}
-use Rattle.amqp_c.specs.Buffers.{IsPutAtStart, LacksRoom}
-use Rattle.amqp_c.specs.Inputs.{limits, has_known_flags, encoding}
-use Rattle.amqp_c.specs.ReadErrors.{IsInputFault}
-use Rattle.amqp_c.specs.ReturnCodes.{return_code_of, length_of}
+use Rattle.amqp_c.specs.CallResults.{IsPutAtStart, LacksRoom, return_code_of, length_of}
+use Rattle.amqp_c.specs.Inputs.{limits, has_known_flags, encoding, IsInputFault}
 
 -- the JSON text of the value that is read is put into the buffer, and in its tables the keys ascend
 abbrev pub IsOrderedJsonPut : Input → List ℕ → List ℕ → ℕ → Type 0

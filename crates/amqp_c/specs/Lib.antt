@@ -1,23 +1,19 @@
-pub mod ReturnCodes
+-- What the contracts of the calls say, in reading order.
+
+-- bytes to read, and the entry of a value in them
 pub mod Inputs
-pub mod ReadErrors
-pub mod Spans
+pub mod CallResults
 pub mod Scalars
-pub mod Heads
 pub mod Entries
+-- reading, stepping through a container, and looking up
+pub mod Reads
 pub mod Steps
 pub mod LookUps
-pub mod PairLists
 pub mod Paths
-pub mod CallResults
-pub mod Calls
-pub mod Reads
+-- building a container in a buffer
 pub mod Containers
-pub mod Buffers
-pub mod BuiltEntries
 pub mod Items
 pub mod Growth
-pub mod Faults
-pub mod Getters
 pub mod BuildCalls
+-- JSON
 pub mod JsonTexts

@@ -1,5 +1,5 @@
--- Looking a value up by a path.
-use Rattle.std.specs.Prelude.{ℕ, ◌≡◌, List, [], ◌∷◌, length, Bool, false, ◌==◌, if◌then◌else◌, Option, Some, None, IfSome, Result, Ok, Err, IfOk}
+-- Looking a value up by a path, and what the call for it returns.
+use Rattle.std.specs.Prelude.{ℕ, ◌≡◌, List, [], ◌∷◌, length, Bool, false, ◌==◌, if◌then◌else◌, Option, Some, None, IfSome, Result, Ok, Err, IfOk, ℤ}
 use Rattle.amqp_value_core.specs.Values.{Tree, array, table}
 use Rattle.amqp_value_core.specs.Maps.{value_at}
 use Rattle.amqp_in_place.specs.Walks.{tree_at}
@@ -7,11 +7,10 @@ use Rattle.amqp_c.specs.declared.entry.Entry.{Entry}
 use Rattle.amqp_c.specs.declared.lookup.Step.{Step}
 use Rattle.amqp_c.specs.declared.fault.Fault.{Fault}
 use Rattle.amqp_c.specs.declared.fault.Fault.TheVariants.{Invalid}
-use Rattle.amqp_c.specs.Heads.{array_tag, table_tag, IsContainerTag}
-use Rattle.amqp_c.specs.Spans.{SpanIsIn}
-use Rattle.amqp_c.specs.Entries.{IsEntry}
+use Rattle.amqp_c.specs.Entries.{array_tag, table_tag, IsContainerTag, SpanIsIn, IsEntry}
 use Rattle.amqp_c.specs.Steps.{contents}
 use Rattle.amqp_c.specs.LookUps.{GivesFound, LooksUp, LooksUpNth}
+use Rattle.amqp_c.specs.CallResults.{return_code_if_any, found_or_old}
 
 -- the step is into a table or an array, and the entry is of one
 abbrev pub Fits : Step → Entry → Type 0
@@ -55,3 +54,10 @@ pub record LooksUpOn (s : List ℕ) (from : Entry) (steps : List Step) (first : 
   pub found : (v : Tree) → first ≡ false → IsInside (length s) from → IsEntry s from v → GivesFound s (value_on steps (Some v)) done
   pub inside : IfOk done (λ o. IfSome o (IsInside (length s)))
   pub invalid : (IsInside (length s) from → ⊥) → done ≡ Err Invalid
+
+-- a look-up by a path: what is found is given
+pub record FindsPath (s : List ℕ) (from : Entry) (path : List Step) (first : Bool) (old : Entry) (code : ℤ) (new : Entry) : Type 0 where
+  pub done : Result (Option Entry) Fault
+  pub returned : code ≡ return_code_if_any done
+  pub entry : new ≡ found_or_old old done
+  pub looked_up : LooksUpOn s from path first done

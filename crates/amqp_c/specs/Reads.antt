@@ -1,20 +1,21 @@
 -- Reading the value at the start of an input, measuring it, and whether it is encoded canonically.
-use Rattle.std.specs.Prelude.{ℕ, ◌≡◌, ◌+◌, ◌≤◌, ℤ, pos, Bool, true, false, List, ◌++◌, length, drop, Option, None, IfSome, MatchOption, Result, Ok, Err}
+use Rattle.std.specs.Prelude.{ℕ, ◌≡◌, ◌+◌, ℤ, pos, List, length, Option, None, Result, Ok, Err, ◌≤◌, Bool, true, false, ◌++◌, drop, IfSome, MatchOption}
 use Rattle.amqp_value_core.specs.declared.types.amqp_type.AMQPType.TheVariants.{FieldTable}
+use Rattle.amqp_value_core.specs.Ids.{id_of}
+use Rattle.amqp_value_core.specs.Values.{Tree, table, Entries, count, depth}
+use Rattle.amqp_value_core.specs.Outcomes.{found, Outcome}
 use Rattle.amqp_value_core.specs.Bytes.{IsBytes}
-use Rattle.amqp_value_core.specs.Values.{Tree, table, count, depth}
-use Rattle.amqp_value_core.specs.Outcomes.{Outcome, found}
 use Rattle.amqp_value_core.specs.Texts.{text}
 use Rattle.amq_protocol_types.specs.declared.parsing.within.Limits.{Limits}
+use Rattle.amq_protocol_types.specs.parsing.Limits.{Within}
+use Rattle.amq_protocol_types.specs.parsing.Untagged.{UntaggedWithin, tagged}
 use Rattle.amq_protocol_types.specs.parsing.Bodies.{IsLengthPrefixed}
 use Rattle.amq_protocol_types.specs.parsing.Headers.{extent}
-use Rattle.amq_protocol_types.specs.parsing.Limits.{Within}
-use Rattle.amq_protocol_types.specs.parsing.Untagged.{tagged}
+use Rattle.amqp_in_place.specs.Bodies.{HasEntries}
 use Rattle.amqp_in_place.specs.declared.problems.Rules.{Rules}
 use Rattle.amqp_in_place.specs.declared.problems.Rules.TheVariants.{Reading}
 use Rattle.amqp_in_place.specs.declared.measure.Measure.{Measure}
 use Rattle.amqp_in_place.specs.declared.refs.ValueRef.{ValueRef}
-use Rattle.amqp_in_place.specs.Bodies.{HasEntries}
 use Rattle.amqp_in_place.specs.Written.{OfEncoding, written}
 use Rattle.amqp_in_place.specs.Places.{IsViewIn}
 use Rattle.amqp_in_place.specs.ProblemResults.{FailsAt}
@@ -25,12 +26,33 @@ use Rattle.amqp_c.specs.declared.input.Input.{Input}
 use Rattle.amqp_c.specs.declared.measure.Size.{Size}
 use Rattle.amqp_c.specs.declared.problem.Problem.{Problem}
 use Rattle.amqp_c.specs.declared.problem.ReadError.{ReadError}
-use Rattle.amqp_c.specs.Inputs.{limits, is_untagged, encoding}
-use Rattle.amqp_c.specs.ReadErrors.{first_problem, read_error, IsReadFault}
-use Rattle.amqp_c.specs.ReturnCodes.{code_of}
-use Rattle.amqp_c.specs.Spans.{part}
-use Rattle.amqp_c.specs.CallResults.{IsValueTaken, IsTableTaken, GivesFirst, untagged_table}
-use Rattle.amqp_c.specs.Entries.{IsEntryAtStart, EntryIsIn}
+use Rattle.amqp_c.specs.CallResults.{code_of}
+use Rattle.amqp_c.specs.Entries.{part, IsEntry, IsEntryAtStart, EntryIsIn, GivesFirst}
+use Rattle.amqp_c.specs.Inputs.{limits, is_untagged, encoding, first_problem, read_error, IsReadFault}
+
+-- a value is read within limits from the start of s, and e is its entry, without a key, all of it inside s
+pub record IsValueTaken (l : Limits) (s : List ℕ) (e : Entry) : Type 0 where
+  pub meaning : Tree
+  pub rest : List ℕ
+  pub read : Within l s (found meaning rest)
+  pub taken : e.value.length + length rest ≡ length s
+  pub entry : IsEntry s e meaning
+  pub at_start : IsEntryAtStart s e
+  pub inside : EntryIsIn (length s) e
+
+-- the entry of a table without its type tag at the start, whose body has n bytes after its length
+abbrev pub untagged_table : ℕ → Entry
+untagged_table n = record { key = record { offset = 0; length = 0 }; value = record { offset = 0; length = 4 + n }; content = record { offset = 4; length = n }; bits = 0; tag = id_of FieldTable; scale = 0 }
+
+-- a table without its type tag is read within limits from the start of s: e is its entry, and has its
+-- pairs as content
+pub record IsTableTaken (l : Limits) (s : List ℕ) (e : Entry) : Type 0 where
+  pub entries : Entries
+  pub rest : List ℕ
+  pub read : UntaggedWithin l FieldTable s (found (table entries) rest)
+  pub taken : e.value.length + length rest ≡ length s
+  pub pairs : HasEntries (part s e.content) entries
+  pub entry : e ≡ untagged_table e.content.length
 
 -- e is the entry of the value at the start of s, by its type tag and its length
 pub record IsFirstEntry (s : List ℕ) (e : Entry) : Type 0 where

@@ -1,5 +1,5 @@
--- Stepping through the body of a container by a cursor.
-use Rattle.std.specs.Prelude.{ℕ, ◌≡◌, ◌+◌, ◌<◌, ◌≤◌, List, ◌++◌, length, Option, Some, None, Result, Ok}
+-- Stepping through the body of a container by a cursor, and what the call for it returns.
+use Rattle.std.specs.Prelude.{ℕ, ◌≡◌, ◌+◌, ◌<◌, ◌≤◌, List, ◌++◌, length, Option, Some, None, Result, Ok, ℤ, IfOk, IfErr}
 use Rattle.amqp_value_core.specs.Values.{Tree, Trees, no_trees, tree, Entries, no_entries, entry}
 use Rattle.amqp_value_core.specs.Grammar.{short_field, ArrayBody, TableBody}
 use Rattle.amq_protocol_types.specs.parsing.Headers.{extent}
@@ -8,9 +8,8 @@ use Rattle.amqp_c.specs.declared.entry.Entry.{Entry}
 use Rattle.amqp_c.specs.declared.fault.Fault.{Fault}
 use Rattle.amqp_c.specs.declared.fault.Fault.TheVariants.{Cut, Invalid}
 use Rattle.amqp_c.specs.declared.span.Span.{Span}
-use Rattle.amqp_c.specs.Heads.{array_tag, table_tag, IsContainerTag}
-use Rattle.amqp_c.specs.Spans.{part, rest_after, SpanIsIn}
-use Rattle.amqp_c.specs.Entries.{IsEntry, IsTagged, IsTrueTo, EntryIsIn}
+use Rattle.amqp_c.specs.Entries.{array_tag, table_tag, IsContainerTag, part, rest_after, SpanIsIn, IsEntry, IsTagged, IsTrueTo, EntryIsIn}
+use Rattle.amqp_c.specs.CallResults.{return_code_if_any, entry_or_old, cursor_or_old}
 
 -- the cursor before the first entry of a container
 abbrev pub contents : Entry → Cursor
@@ -103,6 +102,18 @@ GivesNextValue s c done = (vs : Trees) → SpanIsIn (length s) c.left → c.tag 
 -- of a table that is left, the first of the pairs
 abbrev pub GivesNextPair : List ℕ → Cursor → Result (Option (Entry × Cursor)) Fault → Type 0
 GivesNextPair s c done = (ps : Entries) → SpanIsIn (length s) c.left → c.tag ≡ table_tag → TableBody (part s c.left) ps → GivesPair s ps done
+
+-- a step: the first of what is left is returned, if it is values or pairs, and whatever it is, what
+-- goes out is inside s; what is left is cut only if no entry is at its start
+pub record StepsToNext (s : List ℕ) (c : Cursor) (old : Entry) (code : ℤ) (new : Cursor) (e : Entry) : Type 0 where
+  pub done : Result (Option (Entry × Cursor)) Fault
+  pub returned : code ≡ return_code_if_any done
+  pub cursor : new ≡ cursor_or_old c done
+  pub entry : e ≡ entry_or_old old done
+  pub values : GivesNextValue s c done
+  pub pairs : GivesNextPair s c done
+  pub inside : IfOk done (StepsIn s c)
+  pub refused : IfErr done (RefusesStep s c)
 
 -- ---- on the way
 

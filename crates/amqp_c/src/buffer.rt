@@ -4,7 +4,7 @@ ghost use Rattle.std.specs.Prelude.{◌≡◌, ◌+◌, ◌≤◌, ◌<◌, ◌^
 ghost use Rattle.amqp_value_core.specs.Grammar.{short_field};
 ghost use Rattle.amqp_c.specs.Containers.{IsPlace, named, end_of, entry_of, end_with, up_to};
 ghost use Rattle.amqp_c.specs.Growth.{IsAppended};
-ghost use Rattle.amqp_c.specs.Buffers.{with_bytes, LacksRoom};
+ghost use Rattle.amqp_c.specs.CallResults.{with_bytes, LacksRoom};
 
 use crate::Fault;
 use crate::container::Container;

@@ -1,9 +1,9 @@
 //! Containers that are put together in a buffer.
 
 ghost use Rattle.std.specs.Prelude.{◌≡◌, ◌≤◌, ◌<◌, ◌^◌, ℕ, List, length, MatchBool, MatchResult};
-ghost use Rattle.amqp_c.specs.Heads.{IsContainerTag};
+ghost use Rattle.amqp_c.specs.Entries.{IsContainerTag};
 ghost use Rattle.amqp_c.specs.Containers.{IsKeyOf, HasNoneOpen, IsPlace, named, end_of, up_to, empty_at};
-ghost use Rattle.amqp_c.specs.Faults.{RefusesPlace};
+ghost use Rattle.amqp_c.specs.BuildCalls.{RefusesPlace};
 
 use crate::key::is_key;
 use crate::{Fault, Span};

@@ -5,8 +5,7 @@ ghost use Rattle.amqp_value_core.specs.Values.{Tree, Trees, Entries};
 ghost use Rattle.amqp_value_core.specs.Grammar.{short_field, ArrayBody, TableBody};
 ghost use Rattle.amqp_value_core.specs.Outcomes.{Outcome, found};
 ghost use Rattle.amq_protocol_types.specs.parsing.Headers.{extent};
-ghost use Rattle.amqp_c.specs.Spans.{part, SpanIsIn};
-ghost use Rattle.amqp_c.specs.Entries.{IsTagged, IsTrueTo, EntryIsIn};
+ghost use Rattle.amqp_c.specs.Entries.{part, SpanIsIn, IsTagged, IsTrueTo, EntryIsIn};
 ghost use Rattle.amqp_c.specs.Steps.{contents, IsOfContainer, IsHeaded, HasNoPair, StepsIn, RefusesStep, GivesNextValue, GivesNextPair, IsFirstEntryIn, IsValueIn, IsPairIn, EndsIn, StandsAlone, StandsKeyed};
 
 use crate::entry::{Entry, first};

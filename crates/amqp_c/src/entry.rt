@@ -8,9 +8,7 @@ ghost use Rattle.amq_protocol_types.specs.parsing.PayloadResults.{IsType, OnlyLa
 ghost use Rattle.amqp_value_core.specs.Outcomes.{RawOutcome, Outcome, found};
 ghost use Rattle.amqp_c.specs.Scalars.{IsNumberPayload, IsFixed};
 ghost use Rattle.amqp_value_core.specs.Values.{Tree};
-ghost use Rattle.amqp_c.specs.Entries.{IsEntryAtStart, EntryIsIn};
-ghost use Rattle.amqp_c.specs.CallResults.{GivesFirst, HeaderFaults, IsRefusalOf};
-ghost use Rattle.amqp_c.specs.Heads.{has_content};
+ghost use Rattle.amqp_c.specs.Entries.{IsEntryAtStart, EntryIsIn, GivesFirst, HeaderFaults, IsRefusalOf, has_content};
 
 use crate::{Fault, Span};
 use amq_protocol_types::parsing::{

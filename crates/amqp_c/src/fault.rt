@@ -1,8 +1,8 @@
-//! Why a call fails. The numbers are also in specs/ReturnCodes.antt, which `code` is proved to return, and in
+//! Why a call fails. The numbers are also in specs/CallResults.antt, which `code` is proved to return, and in
 //! include/amqp_values.h, whose values tests/c/stable.c holds.
 
 ghost use Rattle.std.specs.Prelude.{◌≡◌};
-ghost use Rattle.amqp_c.specs.ReturnCodes.{header_fault, code_of};
+ghost use Rattle.amqp_c.specs.CallResults.{header_fault, code_of};
 
 use amq_protocol_types::parsing::{Err, ErrorKind, Needed, ParserError};
 

@@ -1,7 +1,7 @@
 //! The integer of an entry.
 
 ghost use Rattle.std.specs.Prelude.{pos, MatchBool, MatchResult};
-ghost use Rattle.amqp_c.specs.Getters.{IsSignedTag, IsUnsignedTag, IsInteger, RefusesInt, RefusesUint};
+ghost use Rattle.amqp_c.specs.Scalars.{IsSignedTag, IsUnsignedTag, IsInteger, RefusesInt, RefusesUint};
 
 use crate::Fault;
 use crate::entry::Entry;

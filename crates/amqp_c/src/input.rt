@@ -5,8 +5,7 @@ ghost use Rattle.amqp_value_core.specs.Bytes.{IsBytes};
 ghost use Rattle.amq_protocol_types.specs.parsing.Limits.{IsHeader};
 ghost use Rattle.amqp_in_place.specs.declared.problems.Rules.TheVariants.{Reading};
 ghost use Rattle.amqp_in_place.specs.ProblemResults.{FindsValue, FailsAt};
-ghost use Rattle.amqp_c.specs.Inputs.{limits, is_untagged, is_first_key, is_for_streams, has_unknown_flag, rules, has_known_flags, encoding};
-ghost use Rattle.amqp_c.specs.ReadErrors.{first_problem, read_error};
+ghost use Rattle.amqp_c.specs.Inputs.{limits, is_untagged, is_first_key, is_for_streams, has_unknown_flag, rules, has_known_flags, encoding, first_problem, read_error};
 
 use crate::problem::ReadError;
 use amq_protocol_types::parsing::Limits;

@@ -8,10 +8,8 @@ ghost use Rattle.std.specs.Prelude.{◌↔◌, ℕ, List, Option, Result, true, 
 ghost use Rattle.amqp_c.specs.declared.cursor.Cursor.{Cursor};
 ghost use Rattle.amqp_c.specs.declared.entry.Entry.{Entry};
 ghost use Rattle.amqp_c.specs.declared.fault.Fault.{Fault};
-ghost use Rattle.amqp_c.specs.Heads.{array_tag, table_tag};
-ghost use Rattle.amqp_c.specs.Spans.{part};
-ghost use Rattle.amqp_c.specs.LookUps.{HasPair, IsOf, GivesBytes, LooksUp, LooksUpNth};
-ghost use Rattle.amqp_c.specs.PairLists.{ArePairEncodings, last_of_pairs, first_of_pairs, HasLast, HasFirst, AreEncodings};
+ghost use Rattle.amqp_c.specs.Entries.{array_tag, table_tag, part};
+ghost use Rattle.amqp_c.specs.LookUps.{HasPair, IsOf, GivesBytes, LooksUp, LooksUpNth, ArePairEncodings, last_of_pairs, first_of_pairs, HasLast, HasFirst, AreEncodings};
 
 /// What is meant by the last of equal keys: all of the bytes are pairs, by their lengths and type tags, and no pair
 /// after the one that is found has the key. So a look-up finds the last pair with it.

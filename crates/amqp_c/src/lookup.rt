@@ -4,7 +4,7 @@ ghost use Rattle.std.specs.Prelude.{◌≡◌, ◌<◌, ◌++◌, ℕ, List, [],
 ghost use Rattle.amqp_value_core.specs.Grammar.{short_field};
 ghost use Rattle.amq_protocol_types.specs.parsing.Headers.{extent};
 ghost use Rattle.amqp_c.specs.declared.fault.Fault.TheVariants.{Cut};
-ghost use Rattle.amqp_c.specs.Spans.{part};
+ghost use Rattle.amqp_c.specs.Entries.{part};
 ghost use Rattle.amqp_c.specs.Steps.{IsHeaded};
 ghost use Rattle.amqp_c.specs.LookUps.{IsOf, HasPair, HasNth, IsPlaceOf, HasNoKey, LooksUp, LooksUpNth};
 ghost use Rattle.amqp_c.specs.Paths.{IsInside, StepLeads, LooksUpOn};

@@ -3,8 +3,7 @@
 ghost use Rattle.std.specs.Prelude.{◌≡◌, None, Some, MatchOption, MatchResult};
 ghost use Rattle.amqp_in_place.specs.declared.problems.Rules.TheVariants.{Reading};
 ghost use Rattle.amqp_in_place.specs.ProblemResults.{FindsValue};
-ghost use Rattle.amqp_c.specs.Inputs.{limits, encoding};
-ghost use Rattle.amqp_c.specs.ReadErrors.{read_error};
+ghost use Rattle.amqp_c.specs.Inputs.{limits, encoding, read_error};
 ghost use Rattle.amqp_c.specs.Reads.{same_measure, IsMeasured};
 
 use crate::Input;

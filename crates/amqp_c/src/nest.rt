@@ -2,7 +2,7 @@
 
 ghost use Rattle.std.specs.Prelude.{◌≡◌, ℕ, List, OnErr, MatchResult, MatchBool, MatchOption};
 ghost use Rattle.amqp_value_core.specs.Grammar.{short_field};
-ghost use Rattle.amqp_c.specs.Faults.{RefusesToOpen, RefusesToClose};
+ghost use Rattle.amqp_c.specs.BuildCalls.{RefusesToOpen, RefusesToClose};
 ghost use Rattle.amqp_c.specs.Growth.{IsOpened, IsOpen, IsClosed};
 
 use crate::Fault;

@@ -4,8 +4,8 @@ ghost use Rattle.std.specs.Prelude.{◌≡◌, ◌≤◌, ◌∷◌, length, tak
 ghost use Rattle.amqp_value_core.specs.declared.types.amqp_type.AMQPType.TheVariants as amqp;
 ghost use Rattle.amqp_value_core.specs.Values.{Scalar, scalar};
 ghost use Rattle.amqp_value_core.specs.Texts.{text};
-ghost use Rattle.amqp_c.specs.BuiltEntries.{IsScalarOf, IsScalarOfType, IsScalarTag};
-ghost use Rattle.amqp_c.specs.Faults.{RefusesNumber};
+ghost use Rattle.amqp_c.specs.Items.{IsScalarOf, IsScalarOfType, IsScalarTag};
+ghost use Rattle.amqp_c.specs.BuildCalls.{RefusesNumber};
 
 use crate::Fault;
 use crate::entry::has_content;

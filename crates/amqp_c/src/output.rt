@@ -1,8 +1,7 @@
 //! What a call writes to a buffer, and returns.
 
 ghost use Rattle.std.specs.Prelude.{◌≡◌, length, OnErr, MatchResult};
-ghost use Rattle.amqp_c.specs.Buffers.{IsPutAtStart, LacksRoom};
-ghost use Rattle.amqp_c.specs.ReturnCodes.{return_code_of, length_of};
+ghost use Rattle.amqp_c.specs.CallResults.{IsPutAtStart, LacksRoom, return_code_of, length_of};
 
 use crate::fault::Fault;
 

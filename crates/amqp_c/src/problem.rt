@@ -1,7 +1,7 @@
 //! Why and where reading failed.
 
 ghost use Rattle.std.specs.Prelude.{◌≡◌};
-ghost use Rattle.amqp_c.specs.ReadErrors.{fault_of, missing_of, unknown_tag, header_lack, error_of};
+ghost use Rattle.amqp_c.specs.Inputs.{fault_of, missing_of, unknown_tag, header_lack, error_of};
 
 use crate::fault::Fault;
 use amq_protocol_types::parsing::header::Header;

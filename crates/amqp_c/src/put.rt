@@ -3,9 +3,8 @@
 ghost use Rattle.std.specs.Prelude.{◌≡◌, ◌≤◌, ◌∷◌, OnErr, MatchResult, MatchBool};
 ghost use Rattle.amq_protocol_types.specs.parsing.Headers.{extent};
 ghost use Rattle.amqp_c.specs.Inputs.{encoding};
-ghost use Rattle.amqp_c.specs.BuiltEntries.{IsStringTag};
-ghost use Rattle.amqp_c.specs.Items.{fixed_width, byte_string, encoded, missing_tag};
-ghost use Rattle.amqp_c.specs.Faults.{IsPutFault};
+ghost use Rattle.amqp_c.specs.Items.{IsStringTag, fixed_width, byte_string, encoded, missing_tag};
+ghost use Rattle.amqp_c.specs.BuildCalls.{IsPutFault};
 ghost use Rattle.amqp_c.specs.Growth.{IsEntryPut};
 
 use crate::buffer::append;

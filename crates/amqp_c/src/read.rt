@@ -4,9 +4,8 @@ ghost use Rattle.std.specs.Prelude.{◌≡◌, None, Some, IfOk, MatchResult};
 ghost use Rattle.amqp_value_core.specs.Outcomes.{Outcome};
 ghost use Rattle.amq_protocol_types.specs.parsing.Untagged.{tagged};
 ghost use Rattle.amqp_in_place.specs.declared.problems.Rules.TheVariants.{Reading};
-ghost use Rattle.amqp_c.specs.Inputs.{encoding};
-ghost use Rattle.amqp_c.specs.ReadErrors.{read_error};
-ghost use Rattle.amqp_c.specs.CallResults.{HeaderFaults};
+ghost use Rattle.amqp_c.specs.Inputs.{encoding, read_error};
+ghost use Rattle.amqp_c.specs.Entries.{HeaderFaults};
 ghost use Rattle.amqp_c.specs.Reads.{IsPrefixedTable, IsEntryOf, IsReadEntry, FailsByGrammar, HasProblemInside};
 
 use crate::entry::{Entry, first};

@@ -1,7 +1,7 @@
 //! Bytes by position.
 
 ghost use Rattle.std.specs.Prelude.{◌≡◌, ◌+◌, ◌<◌, ◌≤◌, ◌^◌, length, MatchOption};
-ghost use Rattle.amqp_c.specs.Spans.{part, SpanIsIn, span_after, rest_after, last};
+ghost use Rattle.amqp_c.specs.Entries.{part, SpanIsIn, span_after, rest_after, last};
 
 /// Bytes, by how many are before them and how many there are.
 #[repr(C)]

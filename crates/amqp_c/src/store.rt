@@ -1,9 +1,8 @@
 //! What a call returns and leaves at its pointers.
 
 ghost use Rattle.std.specs.Prelude.{◌≡◌, pos, IfOk, IfErr};
-ghost use Rattle.amqp_c.specs.ReturnCodes.{return_code_of, code_of};
+ghost use Rattle.amqp_c.specs.CallResults.{return_code_of, code_of, return_code_if_any, ok_or_old, found_or_old, entry_or_old, cursor_or_old};
 ghost use Rattle.amqp_c.specs.BuildCalls.{needing, grown_or_needing, opened_or_needing, closed_or_old};
-ghost use Rattle.amqp_c.specs.CallResults.{return_code_if_any, ok_or_old, found_or_old, entry_or_old, cursor_or_old};
 ghost use Rattle.amqp_c.specs.Reads.{code_if_told};
 
 use crate::container::Container;

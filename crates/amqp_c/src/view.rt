@@ -4,8 +4,7 @@ ghost use Rattle.std.specs.Prelude.{◌≡◌, ℕ, false, Err, List, MatchOptio
 ghost use Rattle.amq_protocol_types.specs.parsing.Untagged.{tagged};
 ghost use Rattle.amqp_in_place.specs.ProblemResults.{FindsValue};
 ghost use Rattle.amqp_c.specs.declared.fault.Fault.TheVariants.{Invalid};
-ghost use Rattle.amqp_c.specs.Inputs.{limits, has_known_flags, encoding};
-ghost use Rattle.amqp_c.specs.ReadErrors.{IsInputFault};
+ghost use Rattle.amqp_c.specs.Inputs.{limits, has_known_flags, encoding, IsInputFault};
 ghost use Rattle.amqp_c.specs.Reads.{IsViewOf};
 
 use crate::fault::Fault;

@@ -20,7 +20,7 @@ use Rattle.amqp_in_place.specs.Refs.{Denotes}
 use Rattle.amqp_in_place.proofs.Reading.{one_value}
 use Rattle.amqp_c.specs.declared.fault.Fault.{Fault}
 use Rattle.amqp_c.specs.declared.input.Input.{Input}
-use Rattle.amqp_c.specs.Buffers.{IsPutAtStart, LacksRoom}
+use Rattle.amqp_c.specs.CallResults.{IsPutAtStart, LacksRoom}
 use Rattle.amqp_c.specs.Inputs.{limits, is_untagged, encoding}
 use Rattle.amqp_c.specs.Reads.{IsViewOf}
 use Rattle.amqp_c_alloc.specs.CanonicalCalls.{IsValueReadWithin, IsCanonicalText, IsCanonicalOf, IsNotCanonical, IsCanonicalWritten, IsCanonicalFault}

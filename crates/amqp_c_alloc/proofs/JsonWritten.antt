@@ -17,7 +17,7 @@ use Rattle.amqp_json.proofs.InOrder.{not_both}
 use Rattle.amqp_c.specs.declared.fault.Fault.{Fault}
 use Rattle.amqp_c.specs.declared.fault.Fault.TheVariants.{NoRoom}
 use Rattle.amqp_c.specs.declared.input.Input.{Input}
-use Rattle.amqp_c.specs.Buffers.{IsPutAtStart, LacksRoom}
+use Rattle.amqp_c.specs.CallResults.{IsPutAtStart, LacksRoom}
 use Rattle.amqp_c.specs.Inputs.{limits, encoding}
 use Rattle.amqp_c_alloc.specs.JsonCalls.{IsTextOf, IsReadAs, IsEncodingFault, IsPutOrRejected, IsJsonPut, IsJsonFault, json_fault, json_offset}
 

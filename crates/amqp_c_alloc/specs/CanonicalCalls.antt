@@ -12,10 +12,8 @@ use Rattle.amqp_in_place.specs.ProblemResults.{FindsValue}
 use Rattle.amqp_c.specs.declared.fault.Fault.{Fault}
 use Rattle.amqp_c.specs.declared.fault.Fault.TheVariants.{Invalid, NoMemory}
 use Rattle.amqp_c.specs.declared.input.Input.{Input}
-use Rattle.amqp_c.specs.Buffers.{IsPutAtStart, LacksRoom}
-use Rattle.amqp_c.specs.Inputs.{limits, is_untagged, has_known_flags, encoding}
-use Rattle.amqp_c.specs.ReadErrors.{IsInputFault}
-use Rattle.amqp_c.specs.ReturnCodes.{return_code_of, length_of}
+use Rattle.amqp_c.specs.CallResults.{IsPutAtStart, LacksRoom, return_code_of, length_of}
+use Rattle.amqp_c.specs.Inputs.{limits, is_untagged, has_known_flags, encoding, IsInputFault}
 
 -- bytes after the type tag that the input lacks
 abbrev pub after_tag : Input → List ℕ → List ℕ

@@ -13,11 +13,9 @@ use Rattle.amqp_c.specs.declared.fault.Fault.{Fault}
 use Rattle.amqp_c.specs.declared.fault.Fault.TheVariants.{TooDeep, NotUtf8, NotJson, NotAValue, NoEncoding, Invalid, NoRoom, NoMemory}
 use Rattle.amqp_c.specs.declared.input.Input.{Input}
 use Rattle.amqp_c.specs.declared.problem.Problem.{Problem}
-use Rattle.amqp_c.specs.Buffers.{IsPutAtStart, LacksRoom}
+use Rattle.amqp_c.specs.CallResults.{IsPutAtStart, LacksRoom, return_code_of, length_of}
 use Rattle.amqp_c.specs.JsonTexts.{HasUnorderedKeys}
-use Rattle.amqp_c.specs.Inputs.{limits, has_known_flags, encoding}
-use Rattle.amqp_c.specs.ReadErrors.{IsInputFault}
-use Rattle.amqp_c.specs.ReturnCodes.{return_code_of, length_of}
+use Rattle.amqp_c.specs.Inputs.{limits, has_known_flags, encoding, IsInputFault}
 
 -- ---- from an encoding to JSON text
 

@@ -6,7 +6,7 @@ use Rattle.amqp_c.specs.declared.fault.Fault.{Fault}
 use Rattle.amqp_c.specs.declared.fault.Fault.TheVariants.{Invalid, NoMemory}
 use Rattle.amqp_c.specs.declared.input.Input.{Input}
 use Rattle.amqp_c.specs.Inputs.{is_untagged, is_for_streams, has_unknown_flag, encoding}
-use Rattle.amqp_c.specs.ReturnCodes.{return_code_of}
+use Rattle.amqp_c.specs.CallResults.{return_code_of}
 use Rattle.amqp_c_alloc.specs.declared.warnings.Warnings.{Warnings}
 
 -- no offset

@@ -1,7 +1,7 @@
 //! What RabbitMQ accepts in a value, and a client or a stream queue may not.
 
 ghost use Rattle.std.specs.Prelude.{◌≡◌, ◌≤◌, MatchResult};
-ghost use Rattle.amqp_c.specs.ReturnCodes.{return_code_of};
+ghost use Rattle.amqp_c.specs.CallResults.{return_code_of};
 ghost use Rattle.amqp_c_alloc.specs.WarningCalls.{offset_of, one_if, count_of, numbered, asked_for, warnings_or_old, IsFoundBy, AreFirst, CanRunOut};
 
 use amqp_c::{Fault, Input};

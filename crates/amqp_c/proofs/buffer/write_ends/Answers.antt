@@ -1,5 +1,5 @@
 use Rattle.std.proofs.Common.{◌+◌, ◌-◌, List, ℕ, length, refl, ap, ap₂, ◌∙◌}
-use Rattle.amqp_c.specs.Buffers.{with_bytes}
+use Rattle.amqp_c.specs.CallResults.{with_bytes}
 use Rattle.amqp_c.proofs.Buffers.{with_bytes-ends}
 use Rattle.amqp_c.proofs.buffer.write_ends.Goals as goal
 

@@ -1,5 +1,5 @@
 use Rattle.std.proofs.Common.{◌+◌, ℕ, List, [], ◌∷◌, length, refl, ap, ◌∙◌, arith}
-use Rattle.amqp_c.specs.Buffers.{with_bytes}
+use Rattle.amqp_c.specs.CallResults.{with_bytes}
 use Rattle.amqp_c.proofs.Buffers.{with_bytes-join}
 use Rattle.amqp_c.proofs.buffer.write_name.Goals as goal
 

@@ -1,8 +1,6 @@
 use Rattle.std.proofs.Common.{List, ℕ, length, Ok, subst, sym}
 use Rattle.amqp_value_core.specs.Outcomes.{Outcome, found}
-use Rattle.amqp_c.specs.CallResults.{GivesFirst, HeaderFaults}
-use Rattle.amqp_c.specs.Spans.{part}
-use Rattle.amqp_c.specs.Entries.{IsEntryAtStart, EntryIsIn}
+use Rattle.amqp_c.specs.Entries.{GivesFirst, HeaderFaults, part, IsEntryAtStart, EntryIsIn}
 use Rattle.amqp_c.proofs.Prefixes.{cut_header}
 use Rattle.amqp_c.proofs.Stepping.{first_given, tagged_placed, faithful_placed}
 use Rattle.amqp_c.proofs.cursor.first_of.Goals as goal

@@ -1,7 +1,7 @@
 use Rattle.std.proofs.Common.{◌≡◌, ◌+◌, ◌<◌, ◌∷◌, drop, get_or, length, length-drop, ap, refl, arith}
 use Rattle.std.proofs.lemmas.Grind.{common_steps}
 use Rattle.amqp_c.specs.declared.span.Span.{Span}
-use Rattle.amqp_c.specs.Spans.{part}
+use Rattle.amqp_c.specs.Entries.{part}
 use Rattle.amqp_c.proofs.Parts.{part_length}
 use Rattle.amqp_c.proofs.Stepping.{pair_given, pair_cut, key_is_in, stands_keyed}
 use Rattle.amqp_c.proofs.cursor.first_pair.Goals as goal

@@ -2,8 +2,7 @@ use Rattle.std.proofs.Common.{refl, sym, ◌∙◌, subst}
 use Rattle.std.specs.Option.{IfSome}
 use Rattle.amqp_in_place.specs.declared.problems.Rules.{Rules}
 use Rattle.amqp_in_place.specs.ProblemResults.{FailsAt}
-use Rattle.amqp_c.specs.Inputs.{limits, encoding}
-use Rattle.amqp_c.specs.ReadErrors.{first_problem}
+use Rattle.amqp_c.specs.Inputs.{limits, encoding, first_problem}
 use Rattle.amqp_c.proofs.Reading.{has_entry, value_read}
 use Rattle.amqp_c.proofs.read.read.Goals as goal
 
