@@ -20,7 +20,7 @@ use Rattle.amqp_c.specs.Entries.{array_tag, table_tag, part, rest_after, last, S
 use Rattle.amqp_c.specs.Steps.{IsHeaded, HasNoPair, StandsAlone, StandsKeyed, EndsIn}
 use Rattle.amqp_c.specs.LookUps.{HasPair, none_left, first_here, one_more, HasNth, too_few, here, later, HasEntriesBy, IsOf, GivesFound, GivesBytes, StandsAtKey, IsFoundIn, FindsIn, LooksUp, LooksUpNth, IsPlaceOf, HasNoKey}
 use Rattle.amqp_c.proofs.Parts.{part_after, part_length, part_last}
-use Rattle.amqp_c.proofs.Stepping.{one_key}
+use Rattle.amqp_c.proofs.Steps.{one_key}
 
 -- ---- pairs
 

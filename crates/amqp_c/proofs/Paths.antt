@@ -17,7 +17,7 @@ use Rattle.amqp_c.specs.declared.span.Span.{Span}
 use Rattle.amqp_c.specs.Steps.{contents}
 use Rattle.amqp_c.specs.LookUps.{GivesFound, IsFoundIn, LooksUp, LooksUpNth}
 use Rattle.amqp_c.specs.Paths.{Fits, IsInside, StepLeads, StepsLead, arrives, finds_none, fails, goes_on, value_by, value_on, LooksUpOn}
-use Rattle.amqp_c.proofs.Prefixes.{fixed_tag}
+use Rattle.amqp_c.proofs.FirstEntry.{fixed_tag}
 
 -- ---- the type tags of values that are no containers
 

@@ -9,7 +9,7 @@ use crate::entry::Entry;
 impl Entry {
     // This tactic and the next name lemmas on integers by their sign, which no callee's clause states.
     /// Its integer, if that fits an `i64`.
-    #[tactic(auto, using(crate::proofs::EntryIntegers::no_integer, crate::proofs::EntryIntegers::signed_is, crate::proofs::EntryIntegers::unsigned_is, crate::proofs::EntryIntegers::too_great))]
+    #[tactic(auto, using(crate::proofs::Scalars::no_integer, crate::proofs::Scalars::signed_is, crate::proofs::Scalars::unsigned_is, crate::proofs::Scalars::too_great))]
     pub fn as_int(&self) -> Result<i64, Fault>
         ensures { MatchResult result (IsInteger self.now) (RefusesInt self.now) }
     {
@@ -26,7 +26,7 @@ impl Entry {
     }
 
     /// Its integer, if that isn't below 0.
-    #[tactic(auto, using(crate::proofs::EntryIntegers::no_integer, crate::proofs::EntryIntegers::unsigned_is, crate::proofs::EntryIntegers::uint_is, crate::proofs::EntryIntegers::below_0))]
+    #[tactic(auto, using(crate::proofs::Scalars::no_integer, crate::proofs::Scalars::unsigned_is, crate::proofs::Scalars::uint_is, crate::proofs::Scalars::below_0))]
     pub fn as_uint(&self) -> Result<u64, Fault>
         ensures { MatchResult result (λ n. IsInteger self.now (pos n)) (RefusesUint self.now) }
     {

@@ -81,7 +81,7 @@ pub fn encoding_of(tag: u8, bits: u64, scale: u8) -> Result<Encoding, Fault>
 /// Whether it is the type tag that is written for a type of fixed width.
 #[cold]
 // The tactic names why the type tag isn't of fixed width: of no type, of one with content, of another.
-#[tactic(auto, using(crate::proofs::Tags::no_kind, crate::proofs::Tags::with_content, crate::proofs::Tags::other_id, crate::proofs::Tags::same_id))]
+#[tactic(auto, using(crate::proofs::Scalars::no_kind, crate::proofs::Scalars::with_content, crate::proofs::Scalars::other_id, crate::proofs::Scalars::same_id))]
 fn is_scalar_tag(tag: u8) -> bool
     ensures { MatchBool result (IsScalarTag tag) (IsScalarTag tag → ⊥) }
 {

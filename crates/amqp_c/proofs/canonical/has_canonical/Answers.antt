@@ -1,5 +1,5 @@
 use Rattle.std.proofs.Common.{◌+◌, true, false, sym, ◌∙◌}
-use Rattle.amqp_c.proofs.CanonicalChecks.{told}
+use Rattle.amqp_c.proofs.Reading.{told}
 use Rattle.amqp_c.proofs.canonical.has_canonical.Goals as goal
 
 pub returns-then-is_untagged : goal.returns-then-is_untagged

@@ -1,8 +1,8 @@
 use Rattle.std.proofs.Common.{List, ℕ, length, Ok, subst, sym}
 use Rattle.amqp_value_core.specs.Outcomes.{Outcome, found}
 use Rattle.amqp_c.specs.Entries.{GivesFirst, HeaderFaults, part, IsEntryAtStart, EntryIsIn}
-use Rattle.amqp_c.proofs.Prefixes.{cut_header}
-use Rattle.amqp_c.proofs.Stepping.{first_given, tagged_placed, faithful_placed}
+use Rattle.amqp_c.proofs.FirstEntry.{cut_header}
+use Rattle.amqp_c.proofs.Steps.{first_given, tagged_placed, faithful_placed}
 use Rattle.amqp_c.proofs.cursor.first_of.Goals as goal
 
 pub returns-clause-entry : goal.returns-clause-entry

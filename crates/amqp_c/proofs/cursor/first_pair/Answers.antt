@@ -3,7 +3,7 @@ use Rattle.std.proofs.lemmas.Grind.{common_steps}
 use Rattle.amqp_c.specs.declared.span.Span.{Span}
 use Rattle.amqp_c.specs.Entries.{part}
 use Rattle.amqp_c.proofs.Parts.{part_length}
-use Rattle.amqp_c.proofs.Stepping.{pair_given, pair_cut, key_is_in, stands_keyed}
+use Rattle.amqp_c.proofs.Steps.{pair_given, pair_cut, key_is_in, stands_keyed}
 use Rattle.amqp_c.proofs.cursor.first_pair.Goals as goal
 
 pub returns-then-left-length-clause-pair : goal.returns-then-left-length-clause-pair

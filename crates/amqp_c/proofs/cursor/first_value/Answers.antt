@@ -1,5 +1,5 @@
 use Rattle.std.proofs.Common.{refl}
-use Rattle.amqp_c.proofs.Stepping.{value_given}
+use Rattle.amqp_c.proofs.Steps.{value_given}
 use Rattle.amqp_c.proofs.cursor.first_value.Goals as goal
 
 pub returns-clause-value : goal.returns-clause-value

@@ -7,7 +7,7 @@ use Rattle.amqp_value_core.specs.Grammar.{long_field}
 use Rattle.amqp_c.specs.CallResults.{header_fault}
 use Rattle.amqp_c.specs.declared.entry.Entry.{Entry}
 use Rattle.amqp_c.specs.Entries.{has_content}
-use Rattle.amqp_c.proofs.Prefixes.{is_tagged, never_faulty, no_type_fault, cut_fault, scalar_fault, frame_extent, frame_length, found_extent, content_entry, scalar_entry, found_shorter}
+use Rattle.amqp_c.proofs.FirstEntry.{is_tagged, never_faulty, no_type_fault, cut_fault, scalar_fault, frame_extent, frame_length, found_extent, content_entry, scalar_entry, found_shorter}
 use Rattle.amqp_c.proofs.entry.first.Goals as goal
 
 pub returns-in_err-rest-clause-refused : goal.returns-in_err-rest-clause-refused

@@ -4,7 +4,7 @@ use Rattle.amqp_value_core.specs.Values.{scalar}
 use Rattle.amqp_value_core.specs.Outcomes.{Outcome, found}
 use Rattle.amqp_value_core.proofs.GrammarLaws.{raw_to_value}
 use Rattle.amqp_value_core.specs.Bytes.{slice_bytes}
-use Rattle.amqp_c.proofs.Prefixes.{found_shorter, lacks_only}
+use Rattle.amqp_c.proofs.FirstEntry.{found_shorter, lacks_only}
 use Rattle.amqp_c.proofs.entry.read_fixed.Goals as goal
 
 pub returns : goal.returns

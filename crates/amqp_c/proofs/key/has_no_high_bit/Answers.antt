@@ -1,7 +1,7 @@
 use Rattle.std.proofs.Common.{ℕ, sym, ap, ◌∙◌}
 use Rattle.std.specs.Int.Bits.{bit_and}
 use Rattle.std.proofs.lemmas.Bool.{eqb-true}
-use Rattle.amqp_c.proofs.Keys.{high_bits, eight_are_ascii}
+use Rattle.amqp_c.proofs.Ascii.{high_bits, eight_are_ascii}
 use Rattle.amqp_c.proofs.key.has_no_high_bit.Goals as goal
 
 pub returns : goal.returns

@@ -1,5 +1,5 @@
 use Rattle.std.proofs.Common.{arith}
-use Rattle.amqp_c.proofs.Keys.{ends_are_ascii}
+use Rattle.amqp_c.proofs.Ascii.{ends_are_ascii}
 use Rattle.amqp_c.proofs.key.is_short_ascii.Goals as goal
 
 pub returns-then-has_no_high_bit-clause-ascii : goal.returns-then-has_no_high_bit-clause-ascii

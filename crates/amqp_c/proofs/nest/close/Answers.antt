@@ -1,7 +1,7 @@
 use Rattle.std.proofs.Common.{◌≡◌, ◌<◌, ◌-◌, ◌^◌, List, ℕ, ap, ◌∙◌, arith, rules}
 use Rattle.std.specs.Int.{w32, to_be_bytes}
 use Rattle.amqp_c.specs.CallResults.{with_bytes}
-use Rattle.amqp_c.proofs.Growing.{closed}
+use Rattle.amqp_c.proofs.Growth.{closed}
 use Rattle.amqp_c.proofs.nest.close.Goals as goal
 
 pub returns-clause-closed : goal.returns-clause-closed

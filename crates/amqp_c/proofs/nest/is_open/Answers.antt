@@ -1,5 +1,5 @@
 use Rattle.std.proofs.Common.{◌-◌, arith}
-use Rattle.amqp_c.proofs.Opened.{is_open}
+use Rattle.amqp_c.proofs.Growth.{is_open}
 use Rattle.amqp_c.proofs.nest.is_open.Goals as goal
 
 pub returns : goal.returns

@@ -1,7 +1,7 @@
 use Rattle.std.proofs.Common.{refl, ap, ◌∙◌}
 use Rattle.std.specs.Int.{w32, to_be_bytes}
 use Rattle.amqp_value_core.specs.Values.{decimal}
-use Rattle.amqp_c.proofs.BuiltNumbers.{converted, decimal_written}
+use Rattle.amqp_c.proofs.Scalars.{converted, decimal_written}
 use Rattle.amqp_c.proofs.number.decimal.Goals as goal
 
 pub returns : goal.returns

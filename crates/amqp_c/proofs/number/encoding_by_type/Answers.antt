@@ -2,7 +2,7 @@ use Rattle.std.proofs.Common.{ℕ, [], ◌∷◌, refl, ap, ◌∙◌, rules}
 use Rattle.std.specs.Int.{w8, w16, w32, cast_unsigned, to_be_bytes}
 use Rattle.std.proofs.lemmas.Int.{of_z-to_z}
 use Rattle.amqp_value_core.specs.declared.types.amqp_type.AMQPType.TheVariants as amqp
-use Rattle.amqp_c.proofs.BuiltNumbers.{converted, small_signed, number_determined, one_byte}
+use Rattle.amqp_c.proofs.Scalars.{converted, small_signed, number_determined, one_byte}
 use Rattle.amqp_c.proofs.number.encoding_by_type.Goals as goal
 
 pub returns-in_ok-n-in-ShortShortInt : goal.returns-in_ok-n-in-ShortShortInt

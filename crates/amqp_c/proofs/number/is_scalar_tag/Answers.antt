@@ -1,5 +1,5 @@
 use Rattle.std.proofs.Common.{◌∙◌, sym}
-use Rattle.amqp_c.proofs.Tags.{same_id}
+use Rattle.amqp_c.proofs.Scalars.{same_id}
 use Rattle.amqp_c.proofs.number.is_scalar_tag.Goals as goal
 
 pub returns : goal.returns

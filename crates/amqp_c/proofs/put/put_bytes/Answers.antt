@@ -1,8 +1,8 @@
 use Rattle.std.proofs.Common.{◌≡◌, ◌<◌, ◌^◌, ℕ, List, ◌∷◌, ◌++◌, length, refl, ap, ◌∙◌, arith, rules}
 use Rattle.std.specs.Int.{w32, to_be_bytes}
 use Rattle.amqp_c.specs.Items.{byte_string}
-use Rattle.amqp_c.proofs.AnyKeys.{plain_reads}
-use Rattle.amqp_c.proofs.Putting.{put_of, strings}
+use Rattle.amqp_c.proofs.EncodingsByRules.{plain_reads}
+use Rattle.amqp_c.proofs.PutEntries.{put_of, strings}
 use Rattle.amqp_c.proofs.put.put_bytes.Goals as goal
 
 pub returns-clause-put : goal.returns-clause-put

@@ -1,8 +1,8 @@
 use Rattle.std.proofs.Common.{◌∷◌, take, ◌∙◌}
 use Rattle.amqp_value_core.specs.Values.{scalar}
 use Rattle.amqp_c.specs.Items.{fixed_width}
-use Rattle.amqp_c.proofs.AnyKeys.{plain_reads}
-use Rattle.amqp_c.proofs.Putting.{put_of, scalar_wire}
+use Rattle.amqp_c.proofs.EncodingsByRules.{plain_reads}
+use Rattle.amqp_c.proofs.PutEntries.{put_of, scalar_wire}
 use Rattle.amqp_c.proofs.put.put_scalar.Goals as goal
 
 pub returns-clause-put : goal.returns-clause-put

@@ -2,7 +2,7 @@ use Rattle.std.proofs.Common.{◌≡◌, ◌-◌, ◌++◌, None, length, take, 
 use Rattle.std.proofs.lemmas.List.{length-take-le}
 use Rattle.amqp_c.specs.Inputs.{read_error}
 use Rattle.amqp_c.specs.Items.{IsEncodingBy, encoded}
-use Rattle.amqp_c.proofs.Putting.{put_of, read_by, read_encoding, bytes_there, copied}
+use Rattle.amqp_c.proofs.PutEntries.{put_of, read_by, read_encoding, bytes_there, copied}
 use Rattle.amqp_c.proofs.put.put_value.Goals as goal
 
 pub slice_bounds-bytes-length : goal.slice_bounds-bytes-length

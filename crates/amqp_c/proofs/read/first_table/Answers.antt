@@ -4,7 +4,7 @@ use Rattle.amqp_value_core.specs.declared.types.amqp_type.AMQPType.TheVariants.{
 use Rattle.amq_protocol_types.specs.parsing.Bodies.{IsCutLengthPrefixed}
 use Rattle.amq_protocol_types.specs.parsing.ParseResults.{IsRefusal}
 use Rattle.amq_protocol_types.specs.parsing.Untagged.{tagged}
-use Rattle.amqp_c.proofs.Prefixes.{cut_fault}
+use Rattle.amqp_c.proofs.FirstEntry.{cut_fault}
 use Rattle.amqp_c.proofs.read.first_table.Goals as goal
 
 pub returns-in_err-rest : goal.returns-in_err-rest

@@ -2,7 +2,7 @@ use Rattle.amqp_value_core.specs.declared.types.amqp_type.AMQPType.TheVariants.{
 use Rattle.amq_protocol_types.specs.parsing.Untagged.{tagged}
 use Rattle.amqp_in_place.proofs.Canonicals.{bytes_all}
 use Rattle.amqp_in_place.proofs.Refusals.{not_read}
-use Rattle.amqp_c.proofs.Views.{table_view}
+use Rattle.amqp_c.proofs.Reading.{table_view}
 use Rattle.amqp_c.proofs.view.view_of_table.Goals as goal
 
 pub returns-in-Ok : goal.returns-in-Ok

@@ -1,4 +1,4 @@
--- Bytes that are ASCII, by their high bits.
+-- Lemmas on bytes that are ASCII, by their high bits.
 use Rattle.std.proofs.Common.{◌≡◌, ◌+◌, ◌-◌, ◌<◌, ◌≤◌, min, ℕ, zero, suc, List, get_or, length, take, drop, refl, sym, ap, ◌∙◌, subst, arith}
 use Rattle.std.specs.Int.{w64, from_le_bytes, bit_at}
 use Rattle.std.specs.Int.Bits.{bit_and}

@@ -1,4 +1,4 @@
--- Entries that are put.
+-- Lemmas on entries that are put.
 use Rattle.std.proofs.Common.{◌≡◌, ◌+◌, ◌-◌, ◌<◌, ◌≤◌, ◌^◌, ℕ, suc, Bool, true, false, Option, Some, None, List, [], ◌∷◌, ◌++◌, length, take, Result, Ok, Err, MatchResult, refl, sym, ap, ap₂, ◌∙◌, subst, arith, inl, inr, if◌then◌else◌}
 use Rattle.std.specs.Prelude.{option_map}
 use Rattle.std.specs.Int.{w32, to_be_bytes}
@@ -22,15 +22,15 @@ use Rattle.amqp_in_place.specs.Problems.{problem_of, problem_in_table_of, withou
 use Rattle.amqp_in_place.proofs.AnyKeys.{none_of_any_keys, within_limits}
 use Rattle.amqp_c.specs.declared.fault.Fault.{Fault}
 use Rattle.amqp_c.specs.declared.input.Input.{Input}
-use Rattle.amqp_c.specs.Inputs.{limits, is_untagged, encoding, first_problem, error_of, read_error}
 use Rattle.amqp_c.specs.declared.container.Container.{Container}
+use Rattle.amqp_c.specs.Inputs.{limits, is_untagged, encoding, first_problem, error_of, read_error}
 use Rattle.amqp_c.specs.CallResults.{LacksRoom}
 use Rattle.amqp_c.specs.Containers.{IsPlace, end_with, entry_of, up_to}
 use Rattle.amqp_c.specs.Items.{IsScalarOf, IsStringTag, IsStringValue, IsEncodingBy, Item, encoded, IsPutEncoding, IsReadEncoding, IsEncodedBy, item_depth, missing_tag}
 use Rattle.amqp_c.specs.BuildCalls.{IsPutFault}
 use Rattle.amqp_c.specs.Growth.{IsAppended, IsEntryPut}
-use Rattle.amqp_c.proofs.AnyKeys.{IsPlain, start_reads, value_whole}
-use Rattle.amqp_c.proofs.Growing.{part_grown, grows_by}
+use Rattle.amqp_c.proofs.EncodingsByRules.{IsPlain, start_reads, value_whole}
+use Rattle.amqp_c.proofs.Growth.{part_grown, grows_by}
 
 -- what is appended is put
 pub put_of : (item : Item) (old new k w : List ℕ) (into : Container) (r : Result Container Fault)

@@ -1,19 +1,20 @@
--- Containers that grow by an entry.
-use Rattle.std.proofs.Common.{◌≡◌, ◌+◌, ◌-◌, ◌<◌, ◌≤◌, ◌^◌, ℕ, List, [], ◌∷◌, ◌++◌, length, take, drop, refl, sym, ap, ap₂, ◌∙◌, subst, arith, append_assoc, append-nil, length-append, take-append-drop, length-drop}
+-- Lemmas on containers that grow by an entry, and on entries that are opened and closed in them.
+use Rattle.std.proofs.Common.{◌≡◌, ◌+◌, ◌-◌, ◌<◌, ◌≤◌, ◌^◌, ℕ, List, [], ◌∷◌, ◌++◌, length, take, drop, refl, sym, ap, ap₂, ◌∙◌, subst, arith, append_assoc, append-nil, length-append, take-append-drop, length-drop, Bool, true, false}
 use Rattle.std.specs.Int.{w32, to_be_bytes}
 use Rattle.std.proofs.lemmas.List.{take_at, drop_at, drop-drop, drop-take, drop-append-le, length-take-le}
+use Rattle.std.specs.Bool.{MatchBool}
 use Rattle.amqp_value_core.specs.declared.types.amqp_type.AMQPType.TheVariants as amqp
 use Rattle.amqp_value_core.specs.Bytes.{IsShort}
 use Rattle.amqp_value_core.specs.Grammar.{short_field, long_field, Wire, wire, raw_array, raw_table, ArrayBody, no_values, value, TableBody, no_pairs, pair}
 use Rattle.amqp_value_core.specs.Values.{Tree, scalar, short, long, octets, array, table, Trees, no_trees, tree, Entries, no_entries, entry}
-use Rattle.amqp_c.specs.Entries.{part, SpanIsIn, array_tag, table_tag}
 use Rattle.amqp_c.specs.declared.container.Container.{Container}
-use Rattle.amqp_c.specs.Containers.{named, end_of, entry_of, up_to}
+use Rattle.amqp_c.specs.Entries.{part, SpanIsIn, array_tag, table_tag, IsContainerTag}
+use Rattle.amqp_c.specs.Containers.{named, end_of, entry_of, up_to, HasNoneOpen, HasOneOpen, IsKeyOf}
 use Rattle.amqp_c.specs.Items.{IsOfBody, AreValuesBy, ArePairsBy}
 use Rattle.amqp_c.specs.Growth.{and_value, and_pair, GrowsContainer, IsOpen, IsClosed}
 use Rattle.amqp_c.specs.CallResults.{with_bytes, StandsAt}
 use Rattle.amqp_c.proofs.Buffers.{with_bytes-join}
-use Rattle.amqp_c.proofs.ByRules.{values_join, one_value, pairs_join, one_pair, closed_by}
+use Rattle.amqp_c.proofs.EncodingsByRules.{values_join, one_value, pairs_join, one_pair, closed_by}
 
 -- values, and an encoding after them
 body_and : (b w : List ℕ) (vs : Trees) (v : Tree) → ArrayBody b vs → Wire w v → ArrayBody (b ++ w) (and_value vs v)
@@ -141,3 +142,38 @@ closed old new k into body grown is fits filled reaches =
       reads = λ rules depth of. closed_by rules depth body.tag b (omega (arith, size, fits)) of;
       grows = grows_by old new k (body.tag ∷ long_field b) into grown (more ∙ ap (λ (t : List ℕ). part old into.written ++ t) bytes);
     }
+
+-- ---- whether a body is one of an entry that was opened
+
+-- lists that are the same with one element after each are the same
+same_before : (a b : List ℕ) (x y : ℕ) → a ++ x ∷ [] ≡ b ++ y ∷ [] → a ≡ b
+same_before a b x y e =
+    let count : length a ≡ length b = omega (arith, ap length e, length-append a (x ∷ []), length-append b (y ∷ [])) in
+    sym (take_at a (x ∷ []) (length a) refl) ∙ (ap (take (length a)) e ∙ take_at b (y ∷ []) (length a) (sym count))
+
+-- between what `into` has and the four bytes before the body are a name and the body's type tag
+pub is_open : (buffer name : List ℕ) (into body : Container) (at end tag : ℕ) (yes : Bool) → HasOneOpen into → HasNoneOpen body → at ≡ end_of into → SpanIsIn end into.written
+    → SpanIsIn (length buffer) body.written → IsContainerTag body.tag → end + 4 ≡ body.written.offset → take (end - at) (drop at buffer) ≡ name ++ tag ∷ [] → tag ≡ body.tag
+    → MatchBool yes ((k : List ℕ) × IsKeyOf into k × (name ≡ named into.tag k)) ((k : List ℕ) → IsKeyOf into k → name ≡ named into.tag k → ⊥)
+    → MatchBool yes ((k : List ℕ) × IsOpen buffer into body k) ((k : List ℕ) → IsOpen buffer into body k → ⊥)
+is_open buffer name into body at end tag true one nothing here inside in_buffer container before between same (k, key, is) =
+    let n = end - at in
+    let head = entry_of into k (body.tag ∷ []) in
+    let whole : take n (drop at buffer) ≡ head = between ∙ ap₂ (λ (p : List ℕ) (t : ℕ). p ++ t ∷ []) is same in
+    let count : length head ≡ n = sym (ap length whole) ∙ length-take-le n (drop at buffer) (omega (arith, inside, in_buffer, here, before, length-drop at buffer)) in (
+      k,
+      record {
+        one = one;
+        none = nothing;
+        place = (omega (arith, inside, in_buffer, before), key);
+        container = container;
+        inside = in_buffer;
+        named = ap₂ (λ (m o : ℕ). take m (drop o buffer)) count (sym here) ∙ whole;
+        after = omega (arith, count, here, before, inside);
+      },
+    )
+is_open buffer name into body at end tag false one nothing here inside in_buffer container before between same none = λ k o.
+    let head = entry_of into k (body.tag ∷ []) in
+    let count : end - at ≡ length head = omega (arith, o.after, here, before) in
+    none k o.place.1 (same_before name (named into.tag k) tag body.tag
+    (sym between ∙ (ap₂ (λ (m p : ℕ). take m (drop p buffer)) count here ∙ o.named)))
