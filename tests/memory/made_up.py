@@ -26,7 +26,7 @@ LISTED = {
     ("amqp_json/src/encode.rt", "Err(_) => Err(JsonError::OutOfMemory),"),
     # these calls fail only for want of memory: their error is an AllocError
     ("amqp_c_alloc/src/canonical.rt", "return Err(Fault::NoMemory);"),
-    ("amqp_c_alloc/src/decode.rt", "return Err(Fault::NoMemory);"),
+    ("amqp_c_alloc/src/json.rt", "return Err(Fault::NoMemory);"),
 }
 # The lines that ask for memory by a number, and what bounds that.
 BY_NUMBER = {

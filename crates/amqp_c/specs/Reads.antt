@@ -23,7 +23,7 @@ use Rattle.amqp_in_place.specs.Refs.{Denotes}
 use Rattle.amqp_c.specs.declared.entry.Entry.{Entry}
 use Rattle.amqp_c.specs.declared.fault.Fault.{Fault}
 use Rattle.amqp_c.specs.declared.input.Input.{Input}
-use Rattle.amqp_c.specs.declared.measure.Size.{Size}
+use Rattle.amqp_c.specs.declared.read.Size.{Size}
 use Rattle.amqp_c.specs.declared.problem.Problem.{Problem}
 use Rattle.amqp_c.specs.declared.problem.ReadError.{ReadError}
 use Rattle.amqp_c.specs.CallResults.{code_of}

@@ -1,10 +1,10 @@
-//! Writing to a buffer.
+//! Writing to a buffer: bytes at its start, and an entry after what a container has.
 
 ghost use Rattle.std.specs.Prelude.{◌≡◌, ◌+◌, ◌≤◌, ◌<◌, ◌^◌, ◌++◌, length, OnErr, MatchResult};
 ghost use Rattle.amqp_value_core.specs.Grammar.{short_field};
 ghost use Rattle.amqp_c.specs.Containers.{IsPlace, named, end_of, entry_of, end_with, up_to};
 ghost use Rattle.amqp_c.specs.Growth.{IsAppended};
-ghost use Rattle.amqp_c.specs.CallResults.{with_bytes, LacksRoom};
+ghost use Rattle.amqp_c.specs.CallResults.{with_bytes, IsPutAtStart, LacksRoom};
 
 use crate::Fault;
 use crate::container::Container;
@@ -15,6 +15,21 @@ pub fn write(buffer: &mut [u8], at: usize, bytes: &[u8])
     ensures { buffer.new ≡ with_bytes at bytes.now buffer.old }
 {
     buffer[at..at + bytes.len()].copy_from_slice(bytes);
+}
+
+/// Puts the bytes at the start of the buffer, if they fit it, and returns how many they are.
+pub fn put_at_start(bytes: &[u8], buffer: &mut [u8]) -> Result<usize, Fault>
+    ensures put { MatchResult result
+        (IsPutAtStart bytes.now buffer.old buffer.new)
+        (LacksRoom (length bytes.now) (length buffer.old)) }
+    ensures kept { OnErr result (buffer.new ≡ buffer.old) }
+{
+    let count = bytes.len();
+    if buffer.len() < count {
+        return Err(Fault::NoRoom(count));
+    }
+    buffer[..count].copy_from_slice(bytes);
+    Ok(count)
 }
 
 /// Puts an entry after what the container has, at its place: its key, and an encoding in two parts.

@@ -1,17 +1,25 @@
-//! Bytes to read, and how.
+//! Bytes to read, and how: a view of the value at their start, or why it isn't read.
 
-ghost use Rattle.std.specs.Prelude.{◌≡◌, ◌≤◌, ◌↔◌, IsNone, IfSome, length};
+ghost use Rattle.std.specs.Prelude.{◌≡◌, ◌≤◌, ◌↔◌, ℕ, List, false, Err, IsNone, IfSome, length, MatchOption, MatchResult};
 ghost use Rattle.amqp_value_core.specs.Bytes.{IsBytes};
 ghost use Rattle.amq_protocol_types.specs.parsing.Limits.{IsHeader};
+ghost use Rattle.amq_protocol_types.specs.parsing.Untagged.{tagged};
 ghost use Rattle.amqp_in_place.specs.declared.problems.Rules.TheVariants.{Reading};
 ghost use Rattle.amqp_in_place.specs.ProblemResults.{FindsValue, FailsAt};
-ghost use Rattle.amqp_c.specs.Inputs.{limits, is_untagged, is_first_key, is_for_streams, has_unknown_flag, rules, has_known_flags, encoding, first_problem, read_error};
+ghost use Rattle.amqp_c.specs.declared.fault.Fault.TheVariants.{Invalid};
+ghost use Rattle.amqp_c.specs.Inputs.{limits, is_untagged, is_first_key, is_for_streams, has_unknown_flag, rules, has_known_flags, encoding, first_problem, read_error, IsInputFault};
+ghost use Rattle.amqp_c.specs.Reads.{IsViewOf};
 
+use crate::fault::Fault;
 use crate::problem::ReadError;
 use amq_protocol_types::parsing::Limits;
 use amq_protocol_types::parsing::header::{Header, header_of};
-use amqp_in_place::{Problem, Rules, first_problem, first_problem_in_table};
+use amqp_in_place::{
+    Problem, Rules, ValueRef, first_problem, first_problem_in_table, read_in_place,
+    read_table_in_place,
+};
 use amqp_value_core::input::{SliceInput, SplitInput};
+use amqp_value_core::types::AMQPType;
 
 /// Bytes to read, and how: `amqpv_input`.
 #[repr(C)]
@@ -98,6 +106,38 @@ impl<'a> Input<'a> {
         !self.has_unknown_flag()
     }
 
+    /// The value at the start, by the rules of reading, whatever other rules the flags name.
+    pub fn view(&self) -> Result<ValueRef<'a>, Fault>
+        ensures read { MatchResult result
+            (λ value. (rest : List ℕ) × IsViewOf (limits self.now) (encoding self.now) value rest)
+            (IsInputFault self.now) }
+        ensures flags { has_known_flags self.now ≡ false → result ≡ Err Invalid }
+    {
+        if !self.has_known_flags() {
+            return Err(Fault::Invalid);
+        }
+        if let Some(value) = self.read_view() {
+            return Ok(value);
+        }
+        match self.read_error(Rules::Reading) {
+            Some(error) => Err(error.fault),
+            None => unreachable!(),
+        }
+    }
+
+    /// The value at the start, if it is read.
+    fn read_view(&self) -> Option<ValueRef<'a>>
+        ensures { MatchOption result
+            (FindsValue (limits self.now) (encoding self.now) → ⊥)
+            (λ value. (rest : List ℕ) × IsViewOf (limits self.now) (encoding self.now) value rest) }
+    {
+        if self.is_untagged() {
+            view_of_table(self.bytes, self.limits())
+        } else {
+            view_of_value(self.bytes, self.limits())
+        }
+    }
+
     /// Why the value at the start isn't read by the rules, or `None` if it is.
     #[tactic(auto, using(crate::proofs::ReadErrors::reported))]
     pub(crate) fn read_error(&self, rules: Rules) -> Option<ReadError>
@@ -139,6 +179,30 @@ impl<'a> Input<'a> {
         } else {
             first_problem(self.bytes, rules, self.limits())
         }
+    }
+}
+
+/// The value at the start, if it is read.
+fn view_of_value(bytes: &[u8], limits: Limits) -> Option<ValueRef<'_>>
+    ensures { MatchOption result
+        (FindsValue limits bytes.now → ⊥)
+        (λ value. (rest : List ℕ) × IsViewOf limits bytes.now value rest) }
+{
+    match read_in_place(bytes, limits) {
+        Ok((value, _)) => Some(value),
+        Err(_) => None,
+    }
+}
+
+/// The table without its type tag at the start, if it is read.
+fn view_of_table(bytes: &[u8], limits: Limits) -> Option<ValueRef<'_>>
+    ensures { MatchOption result
+        (FindsValue limits (tagged AMQPType.FieldTable bytes.now) → ⊥)
+        (λ value. (rest : List ℕ) × IsViewOf limits (tagged AMQPType.FieldTable bytes.now) value rest) }
+{
+    match read_table_in_place(bytes, limits) {
+        Ok((table, _)) => Some(ValueRef::FieldTable(table)),
+        Err(_) => None,
     }
 }
 

@@ -5,6 +5,17 @@
 //! an entry or a container, no byte outside the input is read, none outside the buffer is written, and each offset
 //! that is returned is inside the input. After an error nothing is changed, except where a call's comment says so.
 //! `include/amqp_values.h` declares the calls, and docs/PROMISES.md has their stack use.
+//!
+//! What comes in, through which modules, and what comes out. `store` leaves it at the caller's pointers, and
+//! `fault` has the codes.
+//!
+//! ```text
+//! input                    read, by input (flags, first problem) and entry   entry, size, problem
+//! entry, cursor, path      cursor (next), lookup; getter (its integer)       entry, cursor, number
+//! container, key, value    put, by container (the place), key, number,       buffer, container
+//! container, key, body     and nest, by container, both to buffer            buffer, containers
+//! input                    json, by a view of input                          JSON text in a buffer
+//! ```
 #![tactic(auto)]
 
 ghost use Rattle.std.specs.Prelude.{◌≡◌, Some, None, true, false, pos};
@@ -23,7 +34,6 @@ ghost use Rattle.amqp_c.specs.JsonTexts.{WritesOrderedJson};
 ghost use Rattle.amqp_c.specs.Reads.{IsEntryOf, IsReadEntry, FailsByGrammar, HasProblemInside, ReadsAs, IsMeasured, TellsCanonical};
 
 mod buffer;
-mod canonical;
 mod container;
 mod cursor;
 mod entry;
@@ -34,36 +44,32 @@ mod json;
 mod key;
 pub mod laws;
 mod lookup;
-mod measure;
 mod nest;
 mod number;
-mod output;
 mod problem;
 mod put;
 mod read;
 mod span;
 mod store;
-mod view;
 
 // What `amqp_c_alloc` uses too.
+pub use buffer::put_at_start;
 pub use fault::Fault;
 pub use input::Input;
-pub use output::{put_at_start, return_length};
 pub use problem::Problem;
 pub use span::Span;
+pub use store::return_length;
 
 // What is used here.
 use amqp_in_place::Rules;
-use canonical::is_canonical;
 use container::Container;
 use cursor::Cursor;
 use entry::Entry;
 use json::put_json;
 use lookup::{Step, find};
-use measure::{Size, measure};
 use nest::{close, open};
 use put::{put_bytes, put_scalar, put_value};
-use read::{peek, read};
+use read::{Size, is_canonical, measure, peek, read};
 use store::{
     store, store_closed, store_found, store_grown, store_opened, store_read, store_step, told,
 };

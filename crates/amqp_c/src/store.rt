@@ -1,7 +1,7 @@
 //! What a call returns and leaves at its pointers.
 
 ghost use Rattle.std.specs.Prelude.{◌≡◌, pos, IfOk, IfErr};
-ghost use Rattle.amqp_c.specs.CallResults.{return_code_of, code_of, return_code_if_any, ok_or_old, found_or_old, entry_or_old, cursor_or_old};
+ghost use Rattle.amqp_c.specs.CallResults.{return_code_of, code_of, return_code_if_any, ok_or_old, found_or_old, entry_or_old, cursor_or_old, length_of};
 ghost use Rattle.amqp_c.specs.BuildCalls.{needing, grown_or_needing, opened_or_needing, closed_or_old};
 ghost use Rattle.amqp_c.specs.Reads.{code_if_told};
 
@@ -108,6 +108,26 @@ pub fn store_read<T: Copy>(done: Result<T, ReadError>, place: &mut T, problem: &
         Err(error) => {
             *problem = error.problem;
             error.fault.code()
+        }
+    }
+}
+
+/// Stores how many bytes were written, or which capacity is needed, or else 0, and returns the result.
+pub fn return_length(done: Result<usize, Fault>, length: &mut usize) -> i32
+    ensures returned { result ≡ return_code_of done }
+    ensures length { length.new ≡ length_of done }
+{
+    match done {
+        Ok(written) => {
+            *length = written;
+            OK
+        }
+        Err(fault) => {
+            *length = match fault {
+                Fault::NoRoom(capacity) => capacity,
+                _ => 0,
+            };
+            fault.code()
         }
     }
 }

@@ -11,14 +11,12 @@ ghost use Rattle.amqp_c_alloc.specs.JsonCalls.{WritesJson, WritesEncoding};
 ghost use Rattle.amqp_c_alloc.specs.WarningCalls.{GivesWarnings};
 
 mod canonical;
-mod decode;
-mod encode;
+mod json;
 mod warnings;
 
 use amqp_c::{Input, Problem, return_length};
 use canonical::canonical;
-use decode::put_json;
-use encode::{put_encoding, store_offset};
+use json::{put_encoding, put_json, store_offset};
 use std::alloc::Global;
 use warnings::{Warnings, find_warnings, store_warnings};
 

@@ -1,6 +1,6 @@
 use Rattle.std.proofs.Common.{◌+◌, true, false, sym, ◌∙◌}
 use Rattle.amqp_c.proofs.Reading.{told}
-use Rattle.amqp_c.proofs.canonical.has_canonical.Goals as goal
+use Rattle.amqp_c.proofs.read.has_canonical.Goals as goal
 
 pub returns-then-is_untagged : goal.returns-then-is_untagged
 returns-then-is_untagged c =

@@ -1,6 +1,6 @@
 use Rattle.amqp_in_place.proofs.Canonicals.{bytes_all}
 use Rattle.amqp_in_place.proofs.Refusals.{not_read}
-use Rattle.amqp_c.proofs.view.view_of_value.Goals as goal
+use Rattle.amqp_c.proofs.input.view_of_value.Goals as goal
 
 pub returns-in-Ok : goal.returns-in-Ok
 returns-in-Ok c = (c.in-Ok.field-0-1.now, (bytes_all c.args.bytes.now c.type_inv.bytes, c.in-Ok.ensures.inside, c.in-Ok.ensures.within))

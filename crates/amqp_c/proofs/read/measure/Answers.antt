@@ -1,5 +1,5 @@
 use Rattle.std.proofs.Common.{refl}
-use Rattle.amqp_c.proofs.measure.measure.Goals as goal
+use Rattle.amqp_c.proofs.read.measure.Goals as goal
 
 pub unreachable-requires : goal.unreachable-requires
 unreachable-requires c = c.in_default.ensures ((c.in-None.ensures.read refl).0 refl)

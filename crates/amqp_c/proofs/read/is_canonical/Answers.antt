@@ -1,5 +1,5 @@
 use Rattle.std.proofs.Common.{refl, sym, ◌∙◌}
-use Rattle.amqp_c.proofs.canonical.is_canonical.Goals as goal
+use Rattle.amqp_c.proofs.read.is_canonical.Goals as goal
 
 pub returns-then-has_canonical : goal.returns-then-has_canonical
 returns-then-has_canonical c = c.if-has_canonical.ensures

@@ -4,7 +4,7 @@ use Rattle.amqp_in_place.specs.ProblemResults.{FindsValue}
 use Rattle.amqp_c.proofs.ReadErrors.{of_parts, read_without_error}
 use Rattle.amqp_in_place.proofs.Refusals.{not_read}
 use Rattle.amqp_c.specs.Reads.{same_measure, HasSize}
-use Rattle.amqp_c.proofs.measure.measured.Goals as goal
+use Rattle.amqp_c.proofs.read.measured.Goals as goal
 
 pub returns-in-Ok : goal.returns-in-Ok
 returns-in-Ok c =

@@ -3,7 +3,7 @@ use Rattle.amq_protocol_types.specs.parsing.Untagged.{tagged}
 use Rattle.amqp_in_place.proofs.Canonicals.{bytes_all}
 use Rattle.amqp_in_place.proofs.Refusals.{not_read}
 use Rattle.amqp_c.proofs.Reading.{table_view}
-use Rattle.amqp_c.proofs.view.view_of_table.Goals as goal
+use Rattle.amqp_c.proofs.input.view_of_table.Goals as goal
 
 pub returns-in-Ok : goal.returns-in-Ok
 returns-in-Ok c =

@@ -2,7 +2,7 @@ use Rattle.std.proofs.Common.{◌≡◌, string_bytes, refl, ap, inl, inr, arith
 use Rattle.amqp_c.specs.declared.fault.Fault.TheVariants.{NoRoom}
 use Rattle.amqp_c.specs.Inputs.{limits, encoding}
 use Rattle.amqp_c_alloc.proofs.JsonWritten.{text_put, measured_put, never_unordered}
-use Rattle.amqp_c_alloc.proofs.decode.put_json.Goals as goal
+use Rattle.amqp_c_alloc.proofs.json.put_json.Goals as goal
 
 pub json_of_view-requires : goal.json_of_view-requires
 json_of_view-requires c =

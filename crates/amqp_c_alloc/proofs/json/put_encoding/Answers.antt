@@ -2,7 +2,7 @@ use Rattle.std.proofs.Common.{List, ℕ, length, min, ◌≡◌, Some, subst}
 use Rattle.amqp_json.specs.Conversions.{IsRefusedWithin, IsWithin}
 use Rattle.amqp_json.specs.Meaning.{most_levels, meant_within}
 use Rattle.amqp_c_alloc.proofs.JsonWritten.{put_meant, rejected_text, inside_of_text}
-use Rattle.amqp_c_alloc.proofs.encode.put_encoding.Goals as goal
+use Rattle.amqp_c_alloc.proofs.json.put_encoding.Goals as goal
 
 pub returns-in-Ok-encoding_of_json_within-clause-written : goal.returns-in-Ok-encoding_of_json_within-clause-written
 returns-in-Ok-encoding_of_json_within-clause-written c =
