@@ -14,10 +14,12 @@ use Rattle.amqp_value_core.specs.Values.{Scalar, boolean, number, decimal, void,
 use Rattle.amqp_value_core.specs.InMemory.{IsScalar, IsNumber}
 use Rattle.amqp_value_core.specs.Layouts.{spelled}
 use Rattle.amqp_value_core.specs.Texts.{text}
+use Rattle.amq_protocol_types.proofs.ParsingLaws.{void_found}
 use Rattle.amqp_c.specs.declared.entry.Entry.{Entry}
+use Rattle.amqp_c.specs.declared.entry.Number.{Number}
 use Rattle.amqp_c.specs.Items.{IsScalarTag, IsScalarOfType}
 use Rattle.amqp_c.specs.Entries.{has_content}
-use Rattle.amqp_c.specs.Scalars.{bits_of_number, IsSignedTag, IsUnsignedTag, IsInteger, IsIntegerTag}
+use Rattle.amqp_c.specs.Scalars.{IsNumberPayload, bits_of_number, IsSignedTag, IsUnsignedTag, IsInteger, IsIntegerTag}
 
 -- ---- type tags
 
@@ -128,6 +130,17 @@ decimal_written scale n t e small is written =
     written
     ∙ (ap (λ (u : List ℕ). 68 ∷ scale ∷ get_or u 0 0 ∷ get_or u 1 0 ∷ get_or u 2 0 ∷ get_or u 3 0 ∷ []) is
     ∙ ap (λ (s : ℕ). 68 ∷ s ∷ bytes_high_first 4 n) (omega arith))
+
+-- a boolean is its bit in a byte
+pub false_written : (n : ℕ) (e : List ℕ) → n ≡ 0 → e ≡ 116 ∷ 0 ∷ [] → (x : Scalar) × IsScalarOfType amqp.Boolean n 0 x × (e ≡ text (scalar x))
+false_written n e is written = (boolean false, record { in_range = tt; same_type = refl; same_bits = is; same_scale = refl }, written)
+
+pub true_written : (n : ℕ) (e : List ℕ) → n ≡ 1 → e ≡ 116 ∷ 1 ∷ [] → (x : Scalar) × IsScalarOfType amqp.Boolean n 0 x × (e ≡ text (scalar x))
+true_written n e is written = (boolean true, record { in_range = tt; same_type = refl; same_bits = is; same_scale = refl }, written)
+
+-- nothing is read, and has no bits
+pub void_read : (type : AMQPType) (s rest : List ℕ) (x : Number) → type ≡ amqp.Void → rest ≡ s → x.bits ≡ 0 → x.scale ≡ 0 → IsNumberPayload type s x rest
+void_read type s rest x is same bits scale = rw (is, same) (void, void_found s, bits, scale)
 
 -- ---- integers of entries
 

@@ -138,7 +138,7 @@ struct Number {
 /// Reads what is after the type tag of a value of fixed width.
 #[inline(always)]
 // The tactic names what a value without a payload is read as, and that the bits of a signed number denote it.
-#[tactic(auto, using(amq_protocol_types::proofs::ParsingLaws::void_found, crate::proofs::Scalars::signed))]
+#[tactic(auto, using(crate::proofs::Scalars::void_read, crate::proofs::Scalars::signed))]
 fn read_number<'a>(
     amqp_type: AMQPType,
     payload: SliceInput<'a>,

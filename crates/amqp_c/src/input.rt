@@ -206,7 +206,9 @@ fn view_of_table(bytes: &[u8], limits: Limits) -> Option<ValueRef<'_>>
     }
 }
 
+// The tactic names why what is in a slice of bytes is bytes.
 /// The same bytes.
+#[tactic(auto, using(amqp_in_place::proofs::Canonicals::bytes_all))]
 fn as_bytes(bytes: &[u8]) -> &[u8]
     ensures same { result.now ≡ bytes.now }
     ensures bytes { IsBytes bytes.now }

@@ -33,7 +33,9 @@ impl Model for Encoding {
 }
 
 impl Encoding {
+    // The tactic names what the bytes of a number are that was made of bytes.
     /// The encoding of this type tag and this payload.
+    #[tactic(auto, using(std::proofs::lemmas::Nat::le_bytes_8))]
     fn new(tag: u8, payload: &[u8]) -> Encoding
         requires { length payload.now ≤ 8 }
         ensures { result ≡ tag ∷ payload.now }
@@ -181,7 +183,9 @@ fn decimal(bits: u64, scale: u8) -> Option<Encoding>
     Some(Encoding::new(b'D', &[scale, a, b, c, d]))
 }
 
+// The tactic names what each boolean is written as.
 /// The encoding of a boolean, whose bits are 0 or 1.
+#[tactic(auto, using(crate::proofs::Scalars::false_written, crate::proofs::Scalars::true_written))]
 fn boolean(bits: u64) -> Option<Encoding>
     ensures { MatchOption result
         ((x : Scalar) → IsScalarOfType amqp.Boolean bits 0 x → ⊥)
