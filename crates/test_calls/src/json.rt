@@ -1,6 +1,6 @@
-//! JSON: `json TEXT`, or `json_bytes BYTES` for a text of any bytes; `json_message BYTES` for the
-//! message of an error; `to_json VALUE`; and `json_of_encoding BYTES`, which is called with each small
-//! limit as the calls of `in_place` are.
+//! JSON: `json TEXT`, or `json_bytes BYTES` for a text of any bytes; `to_json VALUE`; `json_message BYTES`
+//! and `to_json_message VALUE` for the message of their error; and `json_of_encoding BYTES`, which is
+//! called with each small limit as the calls of `in_place` are.
 //!
 //! If two calls don't agree, or a text that was written isn't read back, that is shown after the answer.
 
@@ -26,6 +26,10 @@ pub fn answer(rt: &HostRuntime, alloc: Global, call: &str, words: &[&str]) -> An
         ("json_bytes", [word]) => read(rt, alloc, text_of(alloc, *word)?.as_str()),
         ("json", words) => read(rt, alloc, words.join(alloc, " ")?.as_str()),
         ("json_message", [word]) => match from_json(alloc, text_of(alloc, *word)?.as_str()) {
+            Ok(_) => Err(Trouble::Unknown),
+            Err(error) => shown(alloc, error),
+        },
+        ("to_json_message", [word]) => match to_json(alloc, &value_of(alloc, *word)?) {
             Ok(_) => Err(Trouble::Unknown),
             Err(error) => shown(alloc, error),
         },
