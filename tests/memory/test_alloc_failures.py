@@ -6,7 +6,7 @@ answered as the row says. A call that calls.py has no error for allocates nothin
 says for the bytes of their request, and those of JSON as docs/JSON.md says.
 
 amqp_wire runs so over its stored input, examples over a short stream, amqp_show on some cases; and all, amqp_show in each
-of its forms, have too little address space for a long string. The reads and writes of a run of amqp_wire and of amqp_show fail
+of its forms, have too little address space for a long string. The reads and writes of a run of each program fail
 in turn, the first of each with each of the system's errors, and the first write by taking nothing; and once they are of one byte
 each. At last the programs get a length of 4 GiB and little of what it claims: they must allocate little then.
 """
@@ -218,7 +218,15 @@ def of_show(call: Call, error: int) -> tuple[int, bytes] | None:
     return 2, f'amqp_show: "-": can\'t be read: {why}\n'.encode()
 
 
-ON_DEVICES = {"amqp_wire": of_wire, "amqp_show repeated_keys": of_show}
+def of_stream(call: Call, error: int) -> tuple[int, bytes] | None:
+    """So for examples, which prints the error."""
+    if error == errno.EINTR:
+        return None
+    why = f"{os.strerror(error)} (os error {error})" if error else "failed to write whole buffer"
+    return 1, f"Error: {'read failed' if call == READ else why}\n".encode()
+
+
+ON_DEVICES = {"amqp_wire": of_wire, "examples stream": of_stream, "amqp_show repeated_keys": of_show}
 on_devices = pytest.mark.parametrize("name", ON_DEVICES)
 
 
