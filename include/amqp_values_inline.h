@@ -256,6 +256,27 @@ static inline void amqpv_add_value(amqpv_writer *w, const char *key, const amqpv
     }
 }
 
+static inline void amqpv_add_entry(amqpv_writer *w, const amqpv_input *in, const amqpv_entry *entry) {
+    amqpv_container *into = &w->open[w->level];
+    amqpv_input value = amqpv_of(in, entry);
+    const char *key = amqpv_key(in, entry);
+    /* (before the key of a pair is its length; an entry without a key has it at 0) */
+    int is_pair = entry->key.offset > 0;
+    uint8_t any_keys = into->any_keys;
+    if (!amqpv_may_add_(w, "")) {
+        return;
+    }
+    if (key == NULL || value.bytes == NULL) {
+        w->result = AMQPV_INVALID;
+    } else if (is_pair != (into->tag == AMQPV_TABLE)) {
+        w->result = AMQPV_BAD_KEY;
+    } else {
+        into->any_keys = any_keys != 0 || (in->flags & (AMQPV_ANY_KEYS | AMQPV_RABBITMQ)) != 0;
+        amqpv_added_(w, amqpv_put_value(w->buffer, w->capacity, into, key, entry->key.length, &value));
+        into->any_keys = any_keys;
+    }
+}
+
 static inline void amqpv_add_container_(amqpv_writer *w, const char *key, uint8_t tag) {
     if (w->level + 1 == AMQPV_MAX_DEPTH && (w->result == AMQPV_OK || w->result == AMQPV_NO_ROOM)) {
         w->result = AMQPV_TOO_DEEP;

@@ -161,6 +161,73 @@ static void grow(void) {
     CHECK(count == 8);
 }
 
+/* The old table, and one more header: keys with a NUL, and that aren't UTF-8, are copied too. */
+static amqpv_result write_again(const amqpv_input *in, uint8_t *to, size_t capacity, size_t *count) {
+    amqpv_writer w;
+    amqpv_entry table, entry;
+    amqpv_cursor cursor;
+    TRY(AMQPV_OK, amqpv_read(in, &table, NULL));
+    TRY(AMQPV_OK, amqpv_enter(&table, &cursor));
+    amqpv_begin(&w, to, capacity);
+    while (amqpv_next(in, &cursor, &entry) == AMQPV_OK) {
+        calls++;
+        amqpv_add_entry(&w, in, &entry);
+    }
+    amqpv_add_int(&w, "n", AMQPV_SHORT_INT, 7);
+    return amqpv_finish(&w, count);
+}
+
+static void copy_entries(void) {
+    static const uint8_t old[] = {0, 0,   0, 19,   3,   'a', 0, 'b', 'A', 0,   0,  0,
+                                  1, 'V', 1, 0xff, 't', 1,   0, 'V', 1,   'a', 'V'};
+    static const uint8_t more[] = {1, 'n', 's', 0, 7};
+    uint8_t copied[sizeof old + sizeof more];
+    amqpv_input in = amqpv_table(old, sizeof old), other = amqpv_value(old + 8, 6);
+    amqpv_entry table, entries[4], array, value;
+    amqpv_writer w;
+    size_t count;
+    in.flags |= AMQPV_ANY_KEYS;
+    for (size_t capacity = 0; capacity < sizeof copied; capacity++) {
+        TRY(AMQPV_NO_ROOM, write_again(&in, copied, capacity, &count));
+        CHECK(count == sizeof copied);
+    }
+    TRY(AMQPV_OK, write_again(&in, copied, sizeof copied, &count));
+    CHECK(count == sizeof copied && copied[3] == old[3] + sizeof more);
+    CHECK(memcmp(copied + 4, old + 4, sizeof old - 4) == 0 && memcmp(copied + sizeof old, more, sizeof more) == 0);
+    TRY(AMQPV_OK, amqpv_read(&in, &table, NULL));
+    TRY(AMQPV_OK, amqpv_entries(&in, &table, entries, 4, &count));
+    TRY(AMQPV_OK, amqpv_read(&other, &array, NULL));
+    TRY(AMQPV_OK, amqpv_entries(&other, &array, &value, 1, &count));
+    /* the flags hold for the entry alone: what is added next needs UTF-8 again */
+    amqpv_begin(&w, copied, sizeof copied);
+    amqpv_add_entry(&w, &in, &entries[1]);
+    TRY(AMQPV_OK, amqpv_finish(&w, &count));
+    amqpv_add_void(&w, "\xff");
+    TRY(AMQPV_BAD_KEY, amqpv_finish(&w, &count));
+    in.flags = AMQPV_UNTAGGED;
+    amqpv_begin(&w, copied, sizeof copied);
+    amqpv_add_entry(&w, &in, &entries[1]);
+    TRY(AMQPV_BAD_KEY, amqpv_finish(&w, &count));
+    /* a value of an array has no key, and a pair of a table has one, though it may be empty */
+    amqpv_begin(&w, copied, sizeof copied);
+    amqpv_add_array(&w, "a");
+    amqpv_add_entry(&w, &other, &value);
+    amqpv_end(&w);
+    amqpv_add_entry(&w, &in, &entries[2]);
+    TRY(AMQPV_OK, amqpv_finish(&w, &count));
+    CHECK(count == 14 && memcmp(copied + 6, old + 8, 6) == 0 && copied[12] == 0 && copied[13] == 'V');
+    amqpv_add_entry(&w, &other, &value);
+    TRY(AMQPV_BAD_KEY, amqpv_finish(&w, &count));
+    amqpv_begin(&w, copied, sizeof copied);
+    amqpv_add_array(&w, "a");
+    amqpv_add_entry(&w, &in, &entries[2]);
+    TRY(AMQPV_BAD_KEY, amqpv_finish(&w, &count));
+    /* an entry of other bytes */
+    amqpv_begin(&w, copied, sizeof copied);
+    amqpv_add_entry(&w, &other, &entries[3]);
+    TRY(AMQPV_INVALID, amqpv_finish(&w, &count));
+}
+
 /* What is wrong with a table is known without a buffer too. */
 static void errors_of_writer(void) {
     for (size_t capacity = 0; capacity <= sizeof buffer; capacity += sizeof buffer) {
@@ -277,6 +344,7 @@ int main(void) {
     as_string();
     measure();
     grow();
+    copy_entries();
     errors_of_writer();
     print_json();
     warn();

@@ -37,7 +37,8 @@ static int convert(const amqpv_input *in, const amqpv_entry *entry, double *numb
            || amqpv_as_string(&inside, entry, &text, &length) == AMQPV_OK;
 }
 
-static amqpv_result write(uint8_t *buffer, size_t capacity, const amqpv_input *in, size_t *length) {
+static amqpv_result write(uint8_t *buffer, size_t capacity, const amqpv_input *in, const amqpv_entry *entry,
+                          size_t *length) {
     amqpv_writer w;
     amqpv_begin(&w, buffer, capacity);
     amqpv_add_int(&w, "I", AMQPV_LONG_INT, -1);
@@ -53,6 +54,7 @@ static amqpv_result write(uint8_t *buffer, size_t capacity, const amqpv_input *i
     amqpv_add_table(&w, "F");
     amqpv_add_array(&w, "A");
     amqpv_add_value(&w, NULL, in);
+    amqpv_add_entry(&w, in, entry);
     amqpv_end(&w);
     amqpv_end(&w);
     return amqpv_finish(&w, length);
@@ -61,7 +63,7 @@ static amqpv_result write(uint8_t *buffer, size_t capacity, const amqpv_input *i
 const char *use(const char *given, size_t length, uint8_t *buffer, amqpv_entry *entry, double *number);
 const char *use(const char *given, size_t length, uint8_t *buffer, amqpv_entry *entry, double *number) {
     amqpv_input in = amqpv_value(given, length), other = amqpv_table(buffer, length);
-    amqpv_result result = write(buffer, length, &in, &length);
+    amqpv_result result = write(buffer, length, &in, entry, &length);
     in.flags |= AMQPV_ANY_KEYS | AMQPV_FIRST_KEY;
     if (amqpv_from_json(AMQPV_STR("{}"), 1, buffer, length, &length, NULL) == AMQPV_OK) {
         return amqpv_strerror(amqpv_to_json(&in, NULL, 0, &length));

@@ -79,6 +79,23 @@ static void add(amqpv_writer *w, const char *what) {
     free(key);
 }
 
+/* Adds an entry of the bytes, whose key and value are at these places; any numbers are given. */
+static void add_entry(amqpv_writer *w) {
+    size_t length;
+    uint8_t *given = bytes(&length, 0);
+    amqpv_input in = amqpv_value(given, length);
+    amqpv_entry entry = {{0, 0}, {0, 0}, {0, 0}, 0, 0, 0};
+    in.flags = (uint32_t)number();
+    entry.key.offset = number();
+    entry.key.length = number();
+    entry.value.offset = number();
+    entry.value.length = number();
+    entry.tag = (uint8_t)number();
+    entry.content.offset = entry.value.offset + number();
+    amqpv_add_entry(w, &in, &entry);
+    free(given);
+}
+
 /* Ends the table, and prints the result, the length, what was counted, and the bytes. */
 static void finish(amqpv_writer *w) {
     size_t length = 77;
@@ -165,6 +182,8 @@ int main(void) {
             w.open[0].any_keys |= (uint8_t)number();
         } else if (strcmp(what, "end") == 0) {
             amqpv_end(&w);
+        } else if (strcmp(what, "entry") == 0) {
+            add_entry(&w);
         } else if (strcmp(what, "finish") == 0) {
             finish(&w);
         } else if (strcmp(what, "convert") == 0) {

@@ -63,10 +63,14 @@ int main(void) {
     static uint8_t buffer[256];
     printf("%d deaths\\n", (int)deaths(bytes, 42));
     printf("%zu, then %zu bytes\\n", write_arguments(buffer, 256, 7, "quorum"), write_arguments(buffer, 20, 7, "quorum"));
+    size_t length = set_retries(bytes, 42, 7, buffer, 128);
+    size_t again = set_retries(buffer, length, 8, buffer + 128, 128);
+    printf("%zu, then %zu bytes, of which the last is %d\\n", length, again, buffer[127 + again]);
 """
 PRINTED = """\
 3 deaths
 63, then 0 bytes
+57, then 57 bytes, of which the last is 8
 x-death: FieldArray
 key: Void
 42 bytes from 26

@@ -58,6 +58,22 @@ class Writer:
         self.bytes += named + it if self.result == OK else b""
         return self.result == OK
 
+    def copy(self, data: bytes, flags: int, key: tuple[int, int], value: tuple[int, int], is_untagged: bool) -> None:
+        """Adds an entry of the bytes with the key and the value at these places."""
+        if self.result != OK:
+            return
+        if not is_inside(key, len(data)) or not is_inside(value, len(data)):
+            self.result = INVALID
+        elif (key[0] > 0) != (self.open[-1][0] == "F"):
+            self.result = calls.BAD_KEY
+        else:
+            it, before = data[value[0] : sum(value)], self.any_keys
+            by_reading = wanted_problem(it, flags & ~1 | is_untagged, MAX_BYTES, MAX_DEPTH)[0]
+            whole = b"F" * is_untagged + it
+            self.any_keys |= flags & 6
+            self.append(data[key[0] : sum(key)], whole[: extent(whole)], INVALID if flags > 31 else by_reading)
+            self.any_keys = before
+
     def begin(self, key: bytes | None, tag: str) -> None:
         if self.result == OK and len(self.open) == MAX_DEPTH:
             self.result = calls.TOO_DEEP
@@ -84,11 +100,39 @@ class Writer:
         return f"0 {len(self.bytes)} 0 {self.bytes.hex()}"
 
 
+# Offsets and lengths that are in no bytes, or in few.
+PLACES = [0, 1, 2, 7, 8, 9, 2**32, 2**63 - 1, 2**63, 2**64 - 8, 2**64 - 1]
+READING = [0, 0, 1, 2, 4, 16, 32]
+
+
+def some_entry(make: Random, writer: Writer) -> str:
+    """A call by which a writer adds an entry of a container, or that container, or any bytes at wrong places."""
+    data = make.choice([odd_table(make), value_of(make, 2), b"F\0\0\0\x0b\2\0\xffV\0t\1\2a\0V"])
+    flags, step = make.choice(READING), 5
+    key, value = (0, 0), (0, len(data))
+    if chr(data[0]) in "AF" and make.random() < 0.9:
+        result, found, left = stepped(data, (5, len(data) - 5), data[0])
+        while result == OK:
+            key, value = found[:2]
+            result, found, left = stepped(data, left, data[0]) if make.random() < 0.5 else (calls.NONE, None, left)
+    elif data[:1] == b"F" and make.random() < 0.5:
+        data, value, step = data[1:], (0, len(data) - 1), 4
+    if make.random() < 0.1:
+        changed = [*key, *value]
+        changed[make.randrange(4)] = make.choice(PLACES)
+        key, value = (changed[0], changed[1]), (changed[2], changed[3])
+    tag = ord("F") if step == 4 or is_inside(value, len(data)) and data[value[0] : value[0] + 1] == b"F" else ord("V")
+    writer.copy(data, flags, key, value, step == 4)
+    return " ".join(map(str, ("entry", word(data), flags, *key, *value, tag, step)))
+
+
 def some_line(make: Random, writer: Writer) -> str:
     """A call of a writer at random, which the model makes too."""
     in_array = writer.open[-1][0] == "A"
     key = None if make.random() < (0.9 if in_array else 0.02) else make.choice(KEYS)
-    what = make.choice(["int", "int", "uint", "value", "end", *ADDED])
+    what = make.choice(["int", "int", "uint", "value", "entry", "entry", "end", *ADDED])
+    if what == "entry":
+        return some_entry(make, writer)
     if what == "end":
         writer.end()
         return what
@@ -106,7 +150,7 @@ def some_line(make: Random, writer: Writer) -> str:
         writer.append(key, field(ADDED[what].encode(), data or b""))
         return f"{line} {word(data)}"
     if what == "value":
-        data, flags = make.choice(VALUES), make.choice([0, 0, 1, 2, 4, 16, 32])
+        data, flags = make.choice(VALUES), make.choice(READING)
         by_reading = wanted_problem(data, flags, MAX_BYTES, MAX_DEPTH)[0]
         whole, wrong = b"F" * (flags & 1) + data, INVALID if flags > 31 else by_reading
         writer.append(key, whole[: extent(whole)], wrong)
@@ -174,9 +218,8 @@ def test_conversions(inline: Program) -> None:
 
 def test_places(inline: Program) -> None:
     """The bytes of corrupted spans."""
-    numbers = [0, 1, 2, 7, 8, 9, 2**32, 2**63 - 1, 2**63, 2**64 - 8, 2**64 - 1]
     tags = [(ord(tag), flags) for tag in "SxFAV" for flags in (0, 1, 9)]
-    asked = [(length, one, other, *it) for length in (0, 1, 8) for one in numbers for other in numbers for it in tags]
+    asked = [(length, one, other, *it) for length in (0, 1, 8) for one in PLACES for other in PLACES for it in tags]
 
     def placed(length: int, one: int, other: int, tag: int, flags: int) -> str:
         key, content = is_inside((one, other), length), is_inside((other, one), length)
