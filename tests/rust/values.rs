@@ -171,7 +171,7 @@ fn put_pairs(table: &mut TableBuilder<'_>, pairs: &FieldTable) -> Result<(), Wri
 }
 
 fn built<'b>(buffer: &'b mut [u8], pairs: &FieldTable) -> Result<&'b [u8], WriteError> {
-    let mut table = TableBuilder::new(buffer)?;
+    let mut table = TableBuilder::new(buffer);
     put_pairs(&mut table, pairs)?;
     table.finish()
 }
@@ -183,11 +183,12 @@ fn check_built(value: ValueRef<'_>, bytes: usize, theirs: &AMQPValue) -> Checked
     let wanted = cookie_factory::r#gen(gen_field_table(&pairs), Vec::new()).expect("a vector takes all").0;
     let mut buffer = vec![0xaa; wanted.len()];
     ensure(built(&mut buffer, &pairs) == Ok(&wanted[..]), "another table is built")?;
+    let needed = wanted.len();
     let short = built(&mut buffer[1..], &pairs);
-    ensure(matches!(short, Err(WriteError::BufferTooSmall { .. })), "a table is built in too small a buffer")?;
+    ensure(short == Err(WriteError::BufferTooSmall { needed }), "a table is measured otherwise")?;
 
     let mut buffer = vec![0; 16 + bytes];
-    let mut table = TableBuilder::new(&mut buffer).expect("the buffer has room");
+    let mut table = TableBuilder::new(&mut buffer);
     let copied = table.put("key", value).and_then(|()| table.finish()).map_err(|it| it.to_string())?;
     let (copy, rest) = read_table(copied, LIMITS).map_err(|it| it.to_string())?;
     ensure(rest.is_empty() && is_theirs(copy.get("key"), theirs), "another value is copied")

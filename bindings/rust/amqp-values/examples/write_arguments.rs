@@ -5,7 +5,7 @@ use amqp_values::{TableBuilder, ValueRef, WriteError};
 
 /// Writes the arguments, and returns their bytes.
 fn write_arguments(buffer: &mut [u8]) -> Result<&[u8], WriteError> {
-    let mut arguments = TableBuilder::new(buffer)?;
+    let mut arguments = TableBuilder::new(buffer);
     arguments.put("x-max-length", 10_000)?;
     arguments.put("x-queue-type", "quorum")?;
     arguments.put_table("limits", |limits| {

@@ -1,10 +1,13 @@
-use crate::calls::{Body, LENGTH};
+use crate::calls::{Body, Built, LENGTH};
 use crate::{ValueRef, WriteError};
-use amqp_values_sys::{amqpv_container, amqpv_span, AMQPV_ARRAY, AMQPV_TABLE};
+use amqp_values_sys::{AMQPV_ARRAY, AMQPV_TABLE};
 
 /// Builds a table in a buffer, pair by pair.
 ///
 /// After an error nothing of the pair is in the table, and others may be put. Nothing is allocated.
+///
+/// If the buffer is too small, the builder goes on counting, and [`finish`](Self::finish) returns how many bytes the whole table
+/// needs. So the same function measures a table, by an empty buffer, and builds it.
 ///
 /// # Examples
 ///
@@ -12,7 +15,7 @@ use amqp_values_sys::{amqpv_container, amqpv_span, AMQPV_ARRAY, AMQPV_TABLE};
 /// use amqp_values::{TableBuilder, WriteError};
 ///
 /// let mut buffer = [0; 64];
-/// let mut arguments = TableBuilder::new(&mut buffer)?;
+/// let mut arguments = TableBuilder::new(&mut buffer);
 /// arguments.put("x-max-length", 10_000)?;
 /// arguments.put("x-queue-type", "quorum")?;
 /// let table = arguments.finish()?;
@@ -28,16 +31,9 @@ pub struct ArrayBuilder<'b>(Body<'b>);
 
 impl<'b> TableBuilder<'b> {
     /// Makes an empty table at the start of a buffer.
-    ///
-    /// # Errors
-    ///
-    /// [`WriteError::BufferTooSmall`], of less than four bytes.
-    pub fn new(buffer: &'b mut [u8]) -> Result<Self, WriteError> {
-        if buffer.len() < LENGTH {
-            return Err(WriteError::BufferTooSmall { needed: LENGTH });
-        }
-        let written = amqpv_span { offset: LENGTH, length: 0 };
-        Ok(Self(Body { buffer, into: amqpv_container { written, tag: AMQPV_TABLE, ..amqpv_container::default() } }))
+    pub fn new(buffer: &'b mut [u8]) -> Self {
+        let (offset, needed) = if buffer.len() < LENGTH { (0, Some(LENGTH)) } else { (LENGTH, None) };
+        Self(Body { buffer, built: Built::empty(AMQPV_TABLE, offset, needed) })
     }
 
     /// Appends a pair. A key may come again, but don't send such a table: RabbitMQ and clients take different pairs. A container
@@ -45,7 +41,7 @@ impl<'b> TableBuilder<'b> {
     ///
     /// # Errors
     ///
-    /// Each [`WriteError`].
+    /// [`WriteError::KeyTooLong`] or [`WriteError::TooLarge`].
     ///
     /// # Examples
     ///
@@ -55,8 +51,8 @@ impl<'b> TableBuilder<'b> {
     /// use amqp_values::{TableBuilder, WriteError};
     ///
     /// let mut buffer = [0; 16];
-    /// let mut table = TableBuilder::new(&mut buffer)?;
-    /// assert_eq!(table.put("x-max-length", 10_000), Err(WriteError::BufferTooSmall { needed: 22 }));
+    /// let mut table = TableBuilder::new(&mut buffer);
+    /// assert_eq!(table.put(&"k".repeat(256), 10_000), Err(WriteError::KeyTooLong));
     /// table.put("a", true)?;
     /// assert_eq!(table.finish()?, b"\0\0\0\x04\x01at\x01");
     /// # Ok::<(), WriteError>(())
@@ -69,7 +65,7 @@ impl<'b> TableBuilder<'b> {
     ///
     /// # Errors
     ///
-    /// Each [`WriteError`], and that of the function.
+    /// Those of [`put`](Self::put), and that of the function.
     pub fn put_table(
         &mut self,
         key: &str,
@@ -82,7 +78,7 @@ impl<'b> TableBuilder<'b> {
     ///
     /// # Errors
     ///
-    /// Each [`WriteError`], and that of the function.
+    /// Those of [`put`](Self::put), and that of the function.
     ///
     /// # Examples
     ///
@@ -90,7 +86,7 @@ impl<'b> TableBuilder<'b> {
     /// use amqp_values::{TableBuilder, ValueRef, WriteError};
     ///
     /// let mut buffer = [0; 64];
-    /// let mut table = TableBuilder::new(&mut buffer)?;
+    /// let mut table = TableBuilder::new(&mut buffer);
     /// table.put_array("hosts", |hosts| {
     ///     hosts.push("a")?;
     ///     hosts.push(ValueRef::Void)
@@ -110,12 +106,38 @@ impl<'b> TableBuilder<'b> {
     ///
     /// # Errors
     ///
-    /// [`WriteError::TooLarge`] if the pairs have 2^32 bytes or more.
+    /// [`WriteError::TooLarge`] if the pairs have 2^32 bytes or more, and else [`WriteError::BufferTooSmall`] if they don't fit.
+    ///
+    /// # Examples
+    ///
+    /// A vector that is as large as it has to be:
+    ///
+    /// ```
+    /// use amqp_values::{TableBuilder, WriteError};
+    ///
+    /// fn arguments(buffer: &mut [u8]) -> Result<&[u8], WriteError> {
+    ///     let mut arguments = TableBuilder::new(buffer);
+    ///     arguments.put("x-max-length", 10_000)?;
+    ///     arguments.put("x-queue-type", "quorum")?;
+    ///     arguments.finish()
+    /// }
+    ///
+    /// let mut buffer = Vec::new();
+    /// if let Err(WriteError::BufferTooSmall { needed }) = arguments(&mut buffer) {
+    ///     buffer.resize(needed, 0);
+    /// }
+    /// assert_eq!(arguments(&mut buffer)?.len(), buffer.len());
+    /// # Ok::<(), WriteError>(())
+    /// ```
     pub fn finish(self) -> Result<&'b [u8], WriteError> {
-        let Body { buffer, into } = self.0;
-        let length = u32::try_from(into.written.length).map_err(|_| WriteError::TooLarge)?;
+        let Body { buffer, built } = self.0;
+        let whole = built.needed.unwrap_or(LENGTH + built.into.written.length);
+        let length = u32::try_from(whole - LENGTH).map_err(|_| WriteError::TooLarge)?;
+        if built.needed.is_some() {
+            return Err(WriteError::BufferTooSmall { needed: whole });
+        }
         buffer[..LENGTH].copy_from_slice(&length.to_be_bytes());
-        Ok(&buffer[..LENGTH + into.written.length])
+        Ok(&buffer[..whole])
     }
 }
 
@@ -124,7 +146,7 @@ impl ArrayBuilder<'_> {
     ///
     /// # Errors
     ///
-    /// [`WriteError::BufferTooSmall`] or [`WriteError::TooLarge`].
+    /// [`WriteError::TooLarge`].
     pub fn push<'v>(&mut self, value: impl Into<ValueRef<'v>>) -> Result<(), WriteError> {
         self.0.put("", value.into())
     }
@@ -162,7 +184,7 @@ impl Body<'_> {
     ) -> Result<(), WriteError> {
         self.put_filled(key, AMQPV_TABLE, |body| {
             let mut table = TableBuilder(body);
-            fill(&mut table).map(|()| table.0.into)
+            fill(&mut table).map(|()| table.0.built)
         })
     }
 
@@ -173,7 +195,7 @@ impl Body<'_> {
     ) -> Result<(), WriteError> {
         self.put_filled(key, AMQPV_ARRAY, |body| {
             let mut array = ArrayBuilder(body);
-            fill(&mut array).map(|()| array.0.into)
+            fill(&mut array).map(|()| array.0.built)
         })
     }
 }

@@ -226,12 +226,36 @@ pub(crate) fn find(body: &[u8], tag: u8, step: PathStep<'_>, of_equal: EqualKeys
 #[derive(Debug)]
 pub(crate) struct Body<'b> {
     pub(crate) buffer: &'b mut [u8],
+    pub(crate) built: Built,
+}
+
+/// How far a container is built.
+#[derive(Clone, Copy, Debug)]
+pub(crate) struct Built {
+    /// What is written. Once the buffer is too small the container counts as empty, in a buffer of no bytes, so that each entry
+    /// needs as many as it has.
     pub(crate) into: amqpv_container,
+    /// If the buffer is too small, how many bytes the outermost table needs up to here.
+    pub(crate) needed: Option<usize>,
+}
+
+impl Built {
+    /// Of an empty container, whose bytes begin at an offset.
+    pub(crate) fn empty(tag: u8, offset: usize, needed: Option<usize>) -> Self {
+        let written = amqpv_span { offset, length: 0 };
+        Self { into: amqpv_container { written, tag, ..amqpv_container::default() }, needed }
+    }
 }
 
 impl Body<'_> {
+    /// The buffer as calls take it.
+    fn parts(&mut self) -> (*mut u8, usize, &mut amqpv_container) {
+        let capacity = if self.built.needed.is_some() { 0 } else { self.buffer.len() };
+        (self.buffer.as_mut_ptr(), capacity, &mut self.built.into)
+    }
+
     pub(crate) fn put(&mut self, key: &str, value: ValueRef<'_>) -> Result<(), WriteError> {
-        let (buffer, capacity, into) = (self.buffer.as_mut_ptr(), self.buffer.len(), &mut self.into);
+        let (buffer, capacity, into) = self.parts();
         let (key, key_length) = (key.as_ptr(), key.len());
         // a value that was read is within the most that limits can be
         let most = Limits { max_bytes: u32::MAX, depth: Limits::MOST_DEPTH, values: u32::MAX };
@@ -253,37 +277,56 @@ impl Body<'_> {
         self.done(result)
     }
 
-    /// Appends an array or a table, which a function fills; it returns what is then written. After an error nothing of it is there.
+    /// Appends an array or a table, which a function fills; it returns how far that is built. After an error nothing of it is
+    /// there.
     pub(crate) fn put_filled(
         &mut self,
         key: &str,
         tag: u8,
-        fill: impl FnOnce(Body<'_>) -> Result<amqpv_container, WriteError>,
+        fill: impl FnOnce(Body<'_>) -> Result<Built, WriteError>,
     ) -> Result<(), WriteError> {
-        let outer = self.into;
-        let (buffer, capacity, mut into) = (self.buffer.as_mut_ptr(), self.buffer.len(), amqpv_container::default());
+        let (before, mut inner) = (self.built, amqpv_container::default());
+        let (buffer, capacity, into) = self.parts();
         // SAFETY: the buffer can be written, `key` can be read, and both containers are borrowed alone
-        let result = unsafe { amqpv_open(buffer, capacity, &mut self.into, key.as_ptr(), key.len(), tag, &mut into) };
+        let result = unsafe { amqpv_open(buffer, capacity, into, key.as_ptr(), key.len(), tag, &mut inner) };
         self.done(result)?;
-        let closed = fill(Body { buffer: self.buffer, into }).and_then(|body| {
+        let opened = match self.built.needed {
+            None => Built { into: inner, needed: None },
+            needed => Built::empty(tag, 0, needed),
+        };
+        let closed = fill(Body { buffer: self.buffer, built: opened }).and_then(|filled| {
+            if let Some(needed) = filled.needed {
+                self.count(needed);
+                return Ok(());
+            }
+            let (buffer, capacity, into) = self.parts();
             // SAFETY: the buffer can be written, and `into` is borrowed alone
-            let result = unsafe { amqpv_close(self.buffer.as_mut_ptr(), capacity, &mut self.into, &body) };
+            let result = unsafe { amqpv_close(buffer, capacity, into, &filled.into) };
             self.done(result)
         });
         if closed.is_err() {
-            self.into = outer;
+            self.built = before;
         }
         closed
     }
 
     /// What a call returned that puts something.
-    fn done(&self, result: amqpv_result) -> Result<(), WriteError> {
+    fn done(&mut self, result: amqpv_result) -> Result<(), WriteError> {
         match result {
             AMQPV_OK => Ok(()),
+            AMQPV_NO_ROOM => {
+                let before = self.built.needed.unwrap_or(0);
+                self.count(before.saturating_add(self.built.into.needed));
+                Ok(())
+            }
             AMQPV_BAD_KEY => Err(WriteError::KeyTooLong),
-            AMQPV_NO_ROOM => Err(WriteError::BufferTooSmall { needed: self.into.needed }),
             // AMQPV_TOO_LARGE: the structs are right, and so are tags, bits and scales
             _ => Err(WriteError::TooLarge),
         }
+    }
+
+    /// From here on only counts what is put, after so many bytes.
+    fn count(&mut self, needed: usize) {
+        self.built = Built::empty(self.built.into.tag, 0, Some(needed));
     }
 }

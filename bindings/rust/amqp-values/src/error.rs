@@ -53,13 +53,13 @@ pub enum ProblemKind {
     NotATable,
 }
 
-/// Why an entry isn't put into a buffer, which then stays unchanged.
+/// Why an entry isn't put into a table, which then stays as it was, or why the table isn't finished.
 #[derive(Clone, Copy, Debug, PartialEq, Eq)]
 #[non_exhaustive]
 pub enum WriteError {
-    /// The buffer is too small.
+    /// The buffer is too small, which only [`TableBuilder::finish`](crate::TableBuilder::finish) returns.
     BufferTooSmall {
-        /// How many bytes it needs for all entries up to this one.
+        /// How many bytes the whole table needs.
         needed: usize,
     },
     /// The key has more than 255 bytes.

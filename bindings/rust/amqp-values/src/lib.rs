@@ -15,7 +15,7 @@
 //! }
 //!
 //! fn headers(buffer: &mut [u8]) -> Result<&[u8], WriteError> {
-//!     let mut headers = TableBuilder::new(buffer)?;
+//!     let mut headers = TableBuilder::new(buffer);
 //!     headers.put_array("x-death", |deaths| deaths.push_table(|death| death.put("count", 3_i64)))?;
 //!     headers.finish()
 //! }

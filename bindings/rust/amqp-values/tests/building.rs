@@ -31,7 +31,7 @@ fn values() -> [(&'static str, ValueRef<'static>); 15] {
 
 /// A table with these values, and with those of another table.
 fn build<'b>(buffer: &'b mut [u8], other: TableRef<'_>) -> Result<&'b [u8], WriteError> {
-    let mut table = TableBuilder::new(buffer)?;
+    let mut table = TableBuilder::new(buffer);
     values().into_iter().try_for_each(|(key, value)| table.put(key, value))?;
     table.put_array("A", |array| {
         array.push(7)?;
@@ -46,7 +46,7 @@ fn build<'b>(buffer: &'b mut [u8], other: TableRef<'_>) -> Result<&'b [u8], Writ
 #[test]
 fn what_is_built_is_read_again() {
     let mut buffer = [0; 64];
-    let mut first = TableBuilder::new(&mut buffer).unwrap();
+    let mut first = TableBuilder::new(&mut buffer);
     first.put_array("a", |array| array.push("b")).unwrap();
     first.put_table("t", |table| table.put("k", 1)).unwrap();
     let other = first.finish().unwrap();
@@ -66,37 +66,66 @@ fn what_is_built_is_read_again() {
 }
 
 #[test]
-fn each_buffer_but_one_that_is_large_enough_is_too_small() {
+fn a_buffer_that_is_too_small_has_the_length_that_is_needed() {
     let other = [0, 0, 0, 4, 1, b'k', b't', 1];
     let mut large = [0; 512];
     let length = build(&mut large, table(&other)).unwrap().len();
     for capacity in 0..length {
         let mut buffer = vec![0; capacity];
-        match build(&mut buffer, table(&other)) {
-            Err(WriteError::BufferTooSmall { needed }) => assert!(capacity < needed && needed <= length),
-            other => panic!("{other:?} of {capacity} bytes"),
-        }
+        let built = build(&mut buffer, table(&other));
+        assert_eq!(built, Err(WriteError::BufferTooSmall { needed: length }), "of {capacity} bytes");
     }
     assert!(build(&mut vec![0; length], table(&other)).is_ok());
 }
 
-#[test]
-fn an_entry_that_fails_leaves_nothing() {
-    let mut buffer = [0; 16];
-    let mut built = TableBuilder::new(&mut buffer).unwrap();
+/// A table in whose parts some keys are too long, which leave nothing.
+fn build_with_errors(buffer: &mut [u8]) -> Result<&[u8], WriteError> {
+    let mut built = TableBuilder::new(buffer);
     let key = "k".repeat(256);
     assert_eq!(built.put(&key, 1), Err(WriteError::KeyTooLong));
     assert_eq!(built.put_table(&key, |_| Ok(())), Err(WriteError::KeyTooLong));
-    assert_eq!(built.put("k", "0123456789"), Err(WriteError::BufferTooSmall { needed: 21 }));
-    assert_eq!(
-        built.put_array("k", |array| {
-            array.push(ValueRef::Void)?;
-            array.push(1_i64)
-        }),
-        Err(WriteError::BufferTooSmall { needed: 21 })
-    );
-    built.put("k", 2).unwrap();
-    assert_eq!(built.finish().unwrap(), b"\0\0\0\x07\x01kI\0\0\0\x02");
+    built.put("k", 2)?;
+    built.put_array("a", |array| {
+        array.push_array(|array| array.push(1_i64))?;
+        let failed = array.push_table(|table| {
+            table.put("k", "0123456789")?;
+            table.put_array("k", |array| array.push(ValueRef::Void))?;
+            table.put(&key, 1)
+        });
+        assert_eq!(failed, Err(WriteError::KeyTooLong));
+        array.push(true)
+    })?;
+    let failed = built.put_array("a", |array| array.push_table(|table| table.put(&key, 1)));
+    assert_eq!(failed, Err(WriteError::KeyTooLong));
+    built.put("l", 3)?;
+    built.finish()
+}
+
+#[test]
+fn an_entry_that_fails_leaves_nothing() {
+    let wanted = b"\0\0\0\x25\x01kI\0\0\0\x02\x01aA\0\0\0\x10A\0\0\0\x09l\0\0\0\0\0\0\0\x01t\x01\x01lI\0\0\0\x03";
+    for capacity in 0..100 {
+        let mut buffer = vec![0; capacity];
+        let too_small = Err(WriteError::BufferTooSmall { needed: wanted.len() });
+        let expected = if capacity < wanted.len() { too_small } else { Ok(&wanted[..]) };
+        assert_eq!(build_with_errors(&mut buffer), expected, "of {capacity} bytes");
+    }
+}
+
+#[test]
+fn a_table_of_4_gib_is_too_large() {
+    // a pair with this text has 1 MiB
+    let text = "0".repeat((1 << 20) - 7);
+    let needed = (1 << 32) + 3;
+    for (shorter, error) in [(0, WriteError::TooLarge), (1, WriteError::BufferTooSmall { needed })] {
+        for capacity in [0, 64] {
+            let mut buffer = vec![0; capacity];
+            let mut built = TableBuilder::new(&mut buffer);
+            (1..4096).try_for_each(|_| built.put("k", &*text)).unwrap();
+            built.put("k", &text[shorter..]).unwrap();
+            assert_eq!(built.finish(), Err(error));
+        }
+    }
 }
 
 #[test]
@@ -107,7 +136,7 @@ fn what_was_read_within_larger_limits_is_put() {
     }
     let (value, _) = read(&bytes, Limits { max_bytes: u32::MAX, depth: 100, values: u32::MAX }).unwrap();
     let mut buffer = vec![0; bytes.len() + 6];
-    let mut built = TableBuilder::new(&mut buffer).unwrap();
+    let mut built = TableBuilder::new(&mut buffer);
     built.put("k", value).unwrap();
     assert_eq!(built.finish().unwrap()[6..], bytes);
 }
@@ -115,7 +144,7 @@ fn what_was_read_within_larger_limits_is_put() {
 #[test]
 fn a_key_may_have_255_bytes() {
     let (mut buffer, key) = ([0; 512], "k".repeat(255));
-    let mut built = TableBuilder::new(&mut buffer).unwrap();
+    let mut built = TableBuilder::new(&mut buffer);
     built.put(&key, ValueRef::Void).unwrap();
     assert_eq!(table(built.finish().unwrap()).get(&key), Some(ValueRef::Void));
 }
