@@ -192,7 +192,7 @@ impl<'a> ValueRef<'a> {
     }
 }
 
-/// Values that are made of Rust's own types.
+/// Values that are made of Rust's own types, and of decimals.
 macro_rules! made_of {
     ($($of:ty => $variant:ident),* $(,)?) => {
         $(impl From<$of> for ValueRef<'_> {
@@ -214,6 +214,7 @@ made_of! {
     i64 => LongLongInt,
     f32 => Float,
     f64 => Double,
+    DecimalValue => DecimalValue,
 }
 
 impl<'a> From<&'a str> for ValueRef<'a> {

@@ -21,7 +21,7 @@ fn values() -> [(&'static str, ValueRef<'static>); 15] {
         ("l", i64::MIN.into()),
         ("f", 1.5_f32.into()),
         ("d", f64::NEG_INFINITY.into()),
-        ("D", ValueRef::DecimalValue(DecimalValue { scale: 255, value: u32::MAX })),
+        ("D", DecimalValue { scale: 255, value: u32::MAX }.into()),
         ("S", "text".into()),
         ("x", ValueRef::ByteArray(b"\xff\0")),
         ("T", ValueRef::Timestamp(u64::MAX)),
