@@ -228,6 +228,10 @@ def test_keys_and_text_that_are_not_utf8() -> None:
         assert own.find(LATIN, key, table=True, keys=keys) is True
         assert own.find(b"F" + LATIN, key, keys=keys) is True
         assert own.decode_table(b".." + LATIN + b"..", 2, keys=keys, text="bytes")[1] == 2 + len(LATIN)
+    inside = own.Encoded(b"F" + LATIN)
+    assert own_error(lambda: own.dumps([inside])) == ("key not UTF-8", 10, 0)
+    for keys in HOW[1:]:
+        assert own.dumps([inside], keys=keys) == field(b"A", inside)
     cut = LATIN[:-1]
     for keys in HOW:
         assert own_error(lambda: own.loads_table(cut, keys=keys)) == ("cut", 0, 1)

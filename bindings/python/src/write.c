@@ -356,6 +356,7 @@ static int put_encoded(Writer *writer, const Place *place, const char *bytes, si
     amqpv_entry entry;
     in.max_bytes = UINT32_MAX;
     in.max_depth = place->levels;
+    in.flags = writer->how->keys != STRICT ? AMQPV_ANY_KEYS : 0;
     amqpv_result result = amqpv_read(&in, &entry, &problem);
     if (result != AMQPV_OK) {
         raise_problem(writer->state, &in, offset_in(writer, place), result, &problem, "Encoded(b'F' + table)");
