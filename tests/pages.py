@@ -473,7 +473,7 @@ def circular() -> Iterator[str]:
 # Where the calls are listed, each by its name; and the file whose test_much_memory makes them.
 BOUND = (
     ("include/*.h", r"AMQPV_NO_MEMORY(?:(?!\*/)[^{])*\*/\namqpv_result amqpv_(\w+)", "tests/c/test_by_model.py"),
-    ("bindings/python/src/module.c", r"(?m)^    CALL\((\w+),", "tests/python/test_package.py"),
+    ("bindings/python/src/module.c", r"(?m)^    CALL\(\s*(\w+),", "tests/python/test_package.py"),
     ("bindings/python/src/codec.c", r"\{\"(\w+)\", (?:\(PyCFunction|\w+, METH_)", "tests/python/test_package.py"),
     (
         "bindings/rust/*/src/*.rs",
