@@ -286,6 +286,21 @@ def test_equal_keys(seed: int) -> None:
         assert len(own.loads(field(b"F", latin[5:14]), keys=keys, equal_keys="refuse")) == 2
 
 
+def test_encoded_values(seed: int) -> None:
+    """They are written as they were, so that a pair of a table can be changed, and no other byte."""
+    data = field(b"", b"\1aU\0\5\0F\0\0\0\6\1at\7\0V\1bL" + bytes(8))
+    found = own.loads_table(data, encoded=True)
+    assert {*map(type, found.values())} == {own.Encoded} and own.dumps_table(found) == data
+    assert found.pop("b") == b"L" + bytes(8) and own.dumps_table(found) == field(b"", data[4:-11])
+    assert own.decode_table(b".\0\0\0\2\0V.", 1, encoded=True) == ({"": b"V"}, 7)
+    make, how = Random(seed), dict[str, Any](keys="bytes", equal_keys="refuse")
+    for _ in range(2000):
+        data = make.choice([odd_table(make), table_of(make, [value_of(make, 2) for _ in range(3)])])[1:]
+        wanted = own_error(lambda: own.loads_table(data, text="bytes", **how))
+        assert own_error(lambda: own.loads_table(data, encoded=True, **how)) == wanted
+        assert wanted or own.dumps_table(own.loads_table(data, encoded=True, **how), keys="bytes") == data
+
+
 def test_paths() -> None:
     data = own.dumps({"a": [1, {"b": "c"}], "": None})
     assert own.find(data) == {"a": [1, {"b": "c"}], "": None}
@@ -396,7 +411,7 @@ MISTAKES: list[Callable[[], Any]] = [
     lambda: own.loads(), lambda: own.loads(b"V", b"V"), lambda: own.decode_table(b"", 0, 0),  # type: ignore
     lambda: own.dumps(), lambda: own.dumps_table([]), lambda: own.dumps_table(None), lambda: own.find(),  # type: ignore
     lambda: own.dumps(object()), lambda: own.dumps({1: 2}), lambda: own.decode_table(b"", 0, offset=0),  # type: ignore
-    lambda: own.dumps(5, plain=True), lambda: own.decode_table(b"", "0"), lambda: own.dumps({None}),  # type: ignore
+    lambda: own.loads(b"V", encoded=True), lambda: own.dumps(5, plain=True), lambda: own.decode_table(b"", "0"), lambda: own.dumps({None}),  # type: ignore
 ]  # fmt: skip
 
 

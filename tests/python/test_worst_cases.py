@@ -221,6 +221,7 @@ text = av.to_json(data).encode()
 call = {
     "loads": lambda: av.loads(data),
     "plain": lambda: av.loads(bytearray(data), plain=True),
+    "encoded": lambda: av.loads_table(data[1:], encoded=True),
     "refuse": lambda: av.decode_table(data, 1, equal_keys="refuse"),
     "find": lambda: av.find(data, "a", 2),
     "to_json": lambda: av.to_json(bytearray(data)),

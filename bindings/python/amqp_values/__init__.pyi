@@ -148,6 +148,7 @@ def loads_table(
     data: _Data,
     /,
     *,
+    encoded: bool = False,
     keys: Literal["strict", "surrogateescape"] = "strict",
     text: _NotUtf8 = "strict",
     plain: bool = False,
@@ -158,7 +159,9 @@ def loads_table(
     max_bytes: int = 1048576,
 ) -> dict[str, Any]:
     r"""Returns the dict that the bytes encode as a table without its type tag: its length, then its pairs. No byte may
-    follow it. Errors and options are those of loads.
+    follow it. Errors and options are those of loads, and
+
+        encoded=False          True makes each value of the dict an Encoded, to be written as it is
 
     >>> loads_table(b'\0\0\0\4\1at\1')
     {'a': True}
@@ -171,6 +174,7 @@ def loads_table(
     data: _Data,
     /,
     *,
+    encoded: bool = False,
     keys: Literal["bytes"],
     text: _NotUtf8 = "strict",
     plain: bool = False,
@@ -186,6 +190,7 @@ def decode_table(
     /,
     offset: int = 0,
     *,
+    encoded: bool = False,
     keys: Literal["strict", "surrogateescape"] = "strict",
     text: _NotUtf8 = "strict",
     plain: bool = False,
@@ -196,7 +201,7 @@ def decode_table(
     max_bytes: int = 1048576,
 ) -> tuple[dict[str, Any], int]:
     r"""Returns the table without its type tag that begins at an offset, and the offset of its end. Other bytes may
-    follow. Errors and options are those of loads; the offset of an Error counts from the start of the data.
+    follow. Errors and options are those of loads_table; the offset of an Error counts from the start of the data.
 
     >>> decode_table(b'..\0\0\0\4\1at\1..', 2)
     ({'a': True}, 10)
@@ -208,6 +213,7 @@ def decode_table(
     /,
     offset: int = 0,
     *,
+    encoded: bool = False,
     keys: Literal["bytes"],
     text: _NotUtf8 = "strict",
     plain: bool = False,

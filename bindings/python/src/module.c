@@ -19,6 +19,7 @@ static const struct {
     {"keys", FOR_BOTH, offsetof(Options, keys), NOT_UTF8, 0, 0},
     {"text", FOR_BOTH, offsetof(Options, text), NOT_UTF8, 0, 0},
     {"plain", READ, offsetof(Options, is_plain), NULL, 0, 0},
+    {"encoded", TABLE, offsetof(Options, is_encoded), NULL, 0, 0},
     {"equal_keys", READ, offsetof(Options, equal_keys), EQUAL_KEYS, 0, 0},
     {"signed_decimals", FOR_BOTH, offsetof(Options, has_signed_decimals), NULL, 0, 0},
     {"finite", FOR_BOTH, offsetof(Options, is_finite), NULL, 0, 0},
@@ -204,7 +205,8 @@ static PyObject *loads_by(PyObject *module, PyObject *const *arguments, Py_ssize
     Reader reader;
     PyObject *content = NULL, *made = NULL;
     amqpv_entry entry;
-    if (take(state, is_table ? "loads_table" : "loads", 1, READING, arguments, count, names, &how)) {
+    int of = is_table ? READING | TABLE : READING;
+    if (take(state, is_table ? "loads_table" : "loads", 1, of, arguments, count, names, &how)) {
         content = begin_reading(&reader, state, &how, arguments[0]);
     }
     if (content != NULL && read_whole(&reader, &entry)) {
@@ -228,7 +230,7 @@ static PyObject *decode_table(PyObject *module, PyObject *const *arguments, Py_s
     Reader reader;
     PyObject *content = NULL, *made = NULL;
     amqpv_entry entry;
-    if (take(state, "decode_table", 2, READING | DECODE, arguments, count, names, &how)) {
+    if (take(state, "decode_table", 2, READING | TABLE | DECODE, arguments, count, names, &how)) {
         content = begin_reading(&reader, state, &how, arguments[0]);
     }
     if (content != NULL && move_to(&reader, how.offset) && read_entry(&reader, &entry)) {
@@ -395,18 +397,20 @@ static PyMethodDef FUNCTIONS[] = {
         ">>> loads(b'A\\0\\0\\0\\x0cI\\0\\0\\0\\5t\\1S\\0\\0\\0\\0')\n"
         "[LongInt(5), True, '']\n"),
     CALL(
-        loads_table, "($module, data, /, *, " READ_OPTIONS ")",
+        loads_table, "($module, data, /, *, encoded=False, " READ_OPTIONS ")",
         "Returns the dict that the bytes encode as a table without its type tag: its length, then its pairs. No byte may\n"
-        "follow it. Errors and options are those of loads.\n\n"
+        "follow it. Errors and options are those of loads, and\n\n"
+        "    encoded=False          True makes each value of the dict an Encoded, to be written as it is\n\n"
         ">>> loads_table(b'\\0\\0\\0\\4\\1at\\1')\n"
         "{'a': True}\n"
         ">>> loads_table(b'\\0\\0\\0\\4\\1\\xfft\\1', keys='bytes')\n"
         "{b'\\xff': True}\n"),
-    CALL(decode_table, "($module, data, /, offset=0, *, " READ_OPTIONS ")",
-         "Returns the table without its type tag that begins at an offset, and the offset of its end. Other bytes may\n"
-         "follow. Errors and options are those of loads; the offset of an Error counts from the start of the data.\n\n"
-         ">>> decode_table(b'..\\0\\0\\0\\4\\1at\\1..', 2)\n"
-         "({'a': True}, 10)\n"),
+    CALL(
+        decode_table, "($module, data, /, offset=0, *, encoded=False, " READ_OPTIONS ")",
+        "Returns the table without its type tag that begins at an offset, and the offset of its end. Other bytes may\n"
+        "follow. Errors and options are those of loads_table; the offset of an Error counts from the start of the data.\n\n"
+        ">>> decode_table(b'..\\0\\0\\0\\4\\1at\\1..', 2)\n"
+        "({'a': True}, 10)\n"),
     CALL(
         find, "($module, data, /, *path, table=False, default=None, " READ_OPTIONS ")",
         "Returns the value at a path: keys into tables, and indexes from 0 into arrays. Returns the default if the path\n"

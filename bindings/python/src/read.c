@@ -175,10 +175,18 @@ static PyObject *build_array(const Reader *reader, const amqpv_entry *entry) {
     return whole(reader, list, result);
 }
 
+/* The object for the value of a pair; or an Encoded, if the option asks for it, which only the outermost table has. */
+static PyObject *build_value(const Reader *reader, const amqpv_entry *entry) {
+    amqpv_input it = amqpv_of(&reader->in, entry);
+    return !reader->how->is_encoded
+               ? build(reader, entry)
+               : PyObject_CallFunction(reader->state->encoded, "y#", it.bytes, (Py_ssize_t)it.length);
+}
+
 static int build_pair(const Reader *reader, const amqpv_entry *entry, PyObject *table) {
     const Options *how = reader->how;
     PyObject *key = build_text(reader, entry->key, how->keys, NULL, "key not UTF-8", entry->value.offset);
-    PyObject *value = key != NULL ? build(reader, entry) : NULL;
+    PyObject *value = key != NULL ? build_value(reader, entry) : NULL;
     int is_put = value != NULL;
     if (is_put && how->equal_keys == FIRST_OF_EQUAL_KEYS) {
         int has_it = PyDict_Contains(table, key);
@@ -201,7 +209,7 @@ static int is_of_empty_key(const Reader *reader, const amqpv_entry *entry, amqpv
 
 /* A table whose only key is empty: in itself it has a level in six bytes, of which a dict with keys of its own has 184. */
 static PyObject *build_of_empty_key(const Reader *reader, const amqpv_entry *it) {
-    PyObject *value = build(reader, it);
+    PyObject *value = build_value(reader, it);
     PyObject *table = value != NULL ? PyDict_Copy(reader->state->of_empty_key) : NULL;
     if (table != NULL && PyDict_SetItem(table, reader->state->no_text, value) < 0) {
         Py_CLEAR(table);
