@@ -192,6 +192,7 @@ fn split_key(pairs: &[u8]) -> Option<(&[u8], &[u8])>
 }
 
 /// What is after the value at the start, by its header only.
+#[inline(always)]
 fn after_value(value: &[u8]) -> Option<&[u8]>
     ensures { MatchOption result
         (IsHeaded value.now → ⊥)

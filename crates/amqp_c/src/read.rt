@@ -41,6 +41,7 @@ pub fn read(input: &Input<'_>, rules: Rules) -> Result<Entry, ReadError>
 
 // The tactic names what is given of a table without its type tag, and of any other value.
 /// The entry of the value, by its type tag and its length only. What is inside a container isn't looked at.
+#[inline(always)]
 #[tactic(auto, using(crate::proofs::Reading::table_peeked, crate::proofs::Reading::value_peeked))]
 pub fn peek(input: &Input<'_>) -> Result<Entry, Fault>
     ensures { MatchResult result
