@@ -12,8 +12,8 @@ const SPACE: [char; 4] = [' ', '\t', '\n', '\r'];
 /// A type that plain JSON doesn't have is an object with one key, as in `{"$LongInt":5}`. A table's keys ascend, and of equal
 /// keys the last counts. Different values have different JSON, and [`from_json`] gives the value back.
 ///
-/// Values may nest [`Limits::depth`] deep, up to 1024. JSON takes more stack than reading: 24 KiB, and for each level 992 bytes
-/// on x86-64, 1040 on aarch64. A byte of the value takes at most 157 bytes of memory.
+/// Values may nest [`Limits::depth`] deep, up to 1024. JSON takes more stack than reading: 28 KiB, and for each level 736 bytes
+/// on x86-64, 832 on aarch64. A byte of the value takes at most 157 bytes of memory.
 ///
 /// # Errors
 ///
