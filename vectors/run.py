@@ -10,7 +10,7 @@ from resource import RLIMIT_AS, RLIMIT_CPU, setrlimit
 from sys import argv, setrecursionlimit
 from typing import Any
 
-from plain import bytes_of, meant, plain
+from comparing import bytes_of, meant, plain
 
 
 def outcome(decode: Any, case: Any) -> str:

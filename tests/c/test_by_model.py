@@ -1,5 +1,6 @@
 """Every call for C next to the model, on random bytes, structs, texts and orders of calls, and on what is at the limits."""
 
+import re
 from collections import Counter
 from ctypes import c_size_t
 from random import Random
@@ -12,6 +13,7 @@ from tests.c_api import ANY_KEYS, FIRST_KEY, INVALID, NONE, NOWHERE, OK, RABBITM
 from tests.model.json_format import LEVELS, Rejected, json_of, some_value, text_for, texts, value_of_json
 from tests.model.encoding import COUNTED, SIGNED, TYPES, extent, field, is_utf8, lack, read, write
 from tests.model.inputs import inputs, nested, untagged, value_of
+from tests.model.nesting import HEADER
 from tests.model.rules import doubtful, exceeds, unfit_for_streams
 from tests.model.tables import first_problem, odd_table, parts, random_table, raw
 
@@ -578,5 +580,6 @@ def test_much_memory() -> None:
 
 
 def test_version() -> None:
-    assert calls.version() == 100
+    stated = re.search(r"(?m)^#define AMQPV_VERSION_NUMBER (\d+)", HEADER.read_text())
+    assert stated and calls.version() == int(stated[1])
     assert c_size_t(-1).value == NOWHERE

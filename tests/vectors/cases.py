@@ -5,7 +5,7 @@ from pathlib import Path
 from typing import Any, NamedTuple
 
 from crates import TOP
-from plain import bytes_of
+from comparing import bytes_of
 
 VECTORS = TOP / "vectors"
 SCHEMA, IMPLEMENTATIONS = VECTORS / "schema.json", VECTORS / "implementations.json"

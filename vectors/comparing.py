@@ -1,4 +1,4 @@
-"""The bytes of a case, and a codec's value and that of a case made alike, so that they can be compared.
+"""What run.py compares: the bytes of a case, and its value and a codec's in one form. It needs only the standard library.
 
 Numbers are compared by value (5, 5.0 and Decimal(5) are equal; -0.0 isn't 0, and each NaN is equal to each), strings and keys
 by their bytes, times by seconds since 1970. A Boolean is no number.
