@@ -21,7 +21,7 @@ setup: ## install what `make check` needs, as root (WITHOUT=broker leaves Rabbit
 
 include .ci/steps.mk
 
-all: $(OUT)/build/built ## prove and build the C library and amqp_show (40 minutes; plain `make` does this)
+all: $(OUT)/build/built ## prove and build the C library and amqp_show (16 minutes on four cores; plain `make` does this)
 
 lib: $(OUT)/lib/built ## prove and build the C library without amqp_show
 
