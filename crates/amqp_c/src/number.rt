@@ -33,9 +33,7 @@ impl Model for Encoding {
 }
 
 impl Encoding {
-    // The tactic names what the bytes of a number are that was made of bytes.
     /// The encoding of this type tag and this payload.
-    #[tactic(auto, using(std::proofs::lemmas::Nat::le_bytes_8))]
     fn new(tag: u8, payload: &[u8]) -> Encoding
         requires { length payload.now ≤ 8 }
         ensures { result ≡ tag ∷ payload.now }
