@@ -1,4 +1,5 @@
-//! Arrays and tables are checked within the limits of the process before they are parsed.
+//! A module that drop_in.py adds to amq-protocol-types (`crate` is that crate): it checks arrays and tables within the limits
+//! of the process before its parser sees them.
 
 use crate::{
     FieldArray, FieldTable, ShortShortUInt,

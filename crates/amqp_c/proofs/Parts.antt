@@ -1,4 +1,4 @@
--- The bytes of spans.
+-- Lemmas on part (*Entries*): the bytes of a span, and of a span inside a span.
 use Rattle.std.proofs.Common.{◌≡◌, ◌+◌, ◌-◌, ◌≤◌, ℕ, List, ◌∷◌, ◌++◌, length, take, drop, sym, ap, ◌∙◌, arith, length-drop}
 use Rattle.std.proofs.lemmas.List.{take_at, take-take, drop-drop, drop-take, length-take-le}
 use Rattle.amqp_value_core.specs.Grammar.{long_field}

@@ -16,6 +16,8 @@
 //! container, key, body     and nest, by container, both to buffer            buffer, containers
 //! input                    json, by a view of input                          JSON text in a buffer
 //! ```
+//!
+//! Tests are in tests/c, above all test_by_model.py and test_inline.py.
 #![tactic(auto)]
 
 ghost use Rattle.std.specs.Prelude.{◌≡◌, Some, None, true, false, pos};
