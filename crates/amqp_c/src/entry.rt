@@ -1,5 +1,5 @@
-//! An entry (`amqpv_entry`): the type tag of a value, its bits, and where its bytes are. `first` reads that of the value
-//! at the start of some bytes.
+//! An entry (`amqpv_entry`): the type tag of a value, its bits, and where its bytes are. `first`
+//! reads that of the value at the start of some bytes.
 
 ghost use Rattle.std.specs.Prelude.{◌≡◌, ◌+◌, ◌<◌, ℕ, List, length, Some, false, IfErr, IfOk, MatchResult};
 ghost use Rattle.amqp_value_core.specs.Ids.{id_of};

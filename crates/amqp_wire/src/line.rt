@@ -1,5 +1,5 @@
-//! What is printed for a line of hexadecimal: `value HEX rest N`, `more N`, `refused KIND` or `not hex`. The only error is
-//! that memory runs out.
+//! What is printed for a line of hexadecimal: `value HEX rest N`, `more N`, `refused KIND` or
+//! `not hex`. The only error is that memory runs out.
 
 ghost use Rattle.std.specs.Prelude.{◌≡◌, ◌-◌, ◌≤◌, ◌++◌, ◌∷◌, [], length, IfOk, string_bytes};
 ghost use Rattle.amqp_value_core.specs.Decode.{compute_outcome};
