@@ -1,4 +1,4 @@
-//! A reader that yields bytes in pieces.
+//! `Pieces`: a reader that yields at most so many bytes in a read, for `amqp_bench_stream`.
 
 ghost use Rattle.std.specs.Prelude.{◌<◌};
 

@@ -1,5 +1,5 @@
--- Reading as a function and as a relation are the same, so payloads of fixed width, long strings and
--- byte arrays are never malformed.
+-- `Outcome` and `compute_outcome`, reading as a relation and as a function, agree. So payloads of
+-- fixed width, long strings and byte arrays are never malformed.
 use Rattle.std.proofs.Common.{ℕ, ◌≡◌, ◌↔◌, sym, subst, Option, Some, None, List, [], ◌∷◌, ◌++◌, length, arith, length-append, suc, zero, ◌≢◌, refl}
 use Rattle.std.specs.Prelude.{MatchOption}
 use Rattle.amqp_value_core.specs.declared.types.amqp_type.AMQPType.{AMQPType}

@@ -1,5 +1,5 @@
--- Bounds: an encoding has at least as many bytes as its value's canonical one, one for each value,
--- and five for each container.
+-- `bounds`: an encoding has at least as many bytes as its value's canonical one, one for each value
+-- in it, and five for each level of containers.
 use Rattle.std.proofs.Common.{◌≡◌, ◌≤◌, ◌+◌, ◌*◌, ℕ, suc, max, List, ◌++◌, length, Option, Some, refl, subst, arith, length-append}
 use Rattle.std.specs.Option.{IfSome}
 use Rattle.std.specs.Ordering.{nat_cmp, match_ordering}

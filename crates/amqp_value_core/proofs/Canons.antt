@@ -1,4 +1,5 @@
--- Canonical encodings: each is an encoding, and if it is bytes it is `text` of its value.
+-- A canonical encoding (`Canon`) is an encoding (`Wire`) and, if it is bytes, `text` of its value.
+-- *TextCanon* has the converse.
 use Rattle.std.proofs.Common.{◌≡◌, ◌≢◌, ℕ, zero, suc, Bool, true, false, cond, nat_eq, List, [], ◌∷◌, ◌++◌, length, take, drop, Option, Some, IsTrue, refl, sym, ap, ap₂, ◌∙◌, subst, arith}
 use Rattle.std.specs.Map.{lookup}
 use Rattle.std.specs.List.{AllByRecursion}

@@ -1,4 +1,4 @@
--- Copies: an iteration over sorted entries puts each after the ones before it.
+-- For `clone` of arrays and tables: an entry whose key is after all others is put at the end.
 use Rattle.std.proofs.Common.{◌≡◌, ℕ, List, [], ◌∷◌, ◌++◌, Less, Greater, refl, ap, subst, ◌∙◌, rules}
 use Rattle.std.proofs.lemmas.Cmp.{nat_list_cmp_total}
 use Rattle.std.specs.Cmp.Lexicographic.{slice_cmp}

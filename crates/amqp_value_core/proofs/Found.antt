@@ -1,5 +1,4 @@
--- What has an encoding is found: reading as a function finds each value of the grammar, whatever
--- follows its encoding.
+-- `outcome_by` finds each encoding (`WireWithin`), whatever follows it. *Sound* has the converse.
 use Rattle.std.proofs.Common.{ℕ, suc, zero, ◌+◌, ◌≤◌, ◌≡◌, ◌≢◌, ◌∙◌, ap, sym, refl, subst, Bool, true, ◌&&◌, Option, Some, None, option_map, List, [], ◌∷◌, ◌++◌, length, take, drop, arith, append_assoc, length-append}
 use Rattle.std.proofs.Math.Seq.{take-append_seam, drop-append_seam}
 use Rattle.std.proofs.lemmas.Bool.{le-leb}

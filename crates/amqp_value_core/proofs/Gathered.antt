@@ -1,5 +1,5 @@
--- Pairs that are gathered: the map made of them at once is the one that inserting them, one after
--- another, results in.
+-- For `FieldTable::from_pairs`: a map that is collected from pairs has the entries that inserting
+-- them one after another results in (`insert_all`).
 use Rattle.std.proofs.Common.{◌≡◌, ℕ, List, [], ◌∷◌, Bool, true, false, cond, Option, Some, None, if◌then◌else◌, Ordering, refl, sym, ap, ◌∙◌}
 use Rattle.std.specs.Option.{option_or, option_map}
 use Rattle.std.specs.Ordering.{nat_cmp, eq_by_cmp}

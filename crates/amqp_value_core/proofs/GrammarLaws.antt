@@ -1,4 +1,5 @@
--- The laws of the grammar, for proofs of other crates to cite. `src/laws.rt` states most of them.
+-- Exports the laws of the grammar, which the modules beside it prove, for proofs of other crates to
+-- cite. `src/laws.rt` states most of them.
 
 -- one reading for each list, and bytes after their length
 pub use Rattle.amqp_value_core.proofs.Unique.{no_empty_wire, same_large, one_key, one_reading, one_raw_reading, one_body_meaning, one_pairs_meaning}

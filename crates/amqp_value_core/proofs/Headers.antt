@@ -1,4 +1,5 @@
--- Headers: how many bytes a payload has is known from its type or its length field only.
+-- `extent`, how many bytes a payload has, and `lack`, how many are missing, are known from its type
+-- or its length field only.
 use Rattle.std.proofs.Common.{◌≡◌, ℕ, ◌+◌, ◌-◌, ◌^◌, ◌<◌, ◌≤◌, List, ◌++◌, length, Option, Some, None, refl, sym, ap, ◌∙◌, arith, inl, inr, length-append}
 use Rattle.std.specs.Int.{Width, w8, w32, byte_len}
 use Rattle.std.specs.Option.{IfSome}

@@ -1,5 +1,5 @@
--- Headlines: what was read keeps to its encoding's length, and what is written is a shortest
--- encoding that determines its value.
+-- What was read can be written in no more bytes (`IsWritableIn`), and `text` of a value is a
+-- shortest encoding (`IsShortest`) and no other value's (`TellsApart`).
 use Rattle.std.proofs.Common.{◌≡◌, ◌-◌, ℕ, List, ◌++◌, length, ap, subst, arith, length-append}
 use Rattle.amqp_value_core.specs.Values.{Tree}
 use Rattle.amqp_value_core.specs.Grammar.{Wire}

@@ -1,4 +1,4 @@
--- Ids: a type that a letter denotes is read as itself.
+-- `kind_read`: a type that a type tag denotes is read as itself (`read_as`).
 use Rattle.std.proofs.Common.{◌≡◌, ℕ, Bool, true, false, cond, nat_eq, List, [], ◌∷◌, Option, Some, refl, subst}
 use Rattle.std.specs.Map.{lookup}
 use Rattle.std.specs.List.{AllByRecursion}

@@ -1,4 +1,5 @@
--- Reading if containers nest at most that deep: the laws of reading, with that limit.
+-- `OutcomeWithin`, reading if containers nest at most that deep, has the laws of `Outcome`, and is
+-- the same if the bytes can't nest deeper.
 use Rattle.std.proofs.Common.{◌≡◌, ◌↔◌, ◌≤◌, ◌*◌, ◌+◌, ◌/◌, ℕ, List, ◌∷◌, ◌++◌, length, Some, refl, ap, ◌∙◌, subst, arith, length-append}
 use Rattle.amqp_value_core.specs.declared.types.amqp_type.AMQPType.{AMQPType}
 use Rattle.amqp_value_core.specs.Values.{Tree}

@@ -1,5 +1,5 @@
--- How deep an encoding nests: each container that holds another takes five bytes, and an encoding is
--- one within each depth that it doesn't pass.
+-- `nesting`, how deep an encoding nests, is at most a fifth of its length, and `WireWithin` holds
+-- with a depth exactly if `nesting` is at most that.
 use Rattle.std.proofs.Common.{ℕ, zero, suc, max, ◌*◌, ◌≤◌, ◌≡◌, ◌≢◌, ◌↔◌, ◌∙◌, refl, List, ◌++◌, length, Some, None, sym, ap, arith, length-append}
 use Rattle.amqp_value_core.specs.declared.types.amqp_type.AMQPType.TheVariants as amqp
 use Rattle.amqp_value_core.specs.Layouts.{Layout, fixed}

@@ -1,4 +1,4 @@
--- Outcomes: a value's is that of its payload, and a list has at most one.
+-- `Outcome` by cases: a value's outcome is that of its payload, and a list has at most one.
 use Rattle.std.proofs.Common.{◌≡◌, ℕ, zero, suc, List, [], ◌∷◌, ◌++◌, Option, Some, None, MatchOption, refl, sym, ap, ap₂, ◌∙◌, subst, arith}
 use Rattle.amqp_value_core.specs.declared.types.amqp_type.AMQPType.{AMQPType}
 use Rattle.amqp_value_core.specs.Values.{Tree}

@@ -1,4 +1,4 @@
--- Reading back: the canonical encoding of a value is read as that value, if it is readable.
+-- `reading_back`: `text` of a value is read as that value if it is readable, and else rejected.
 use Rattle.std.proofs.Common.{◌≡◌, ◌<◌, ◌-◌, ◌^◌, ℕ, suc, subst, List, [], ◌∷◌, ◌++◌, length, drop, Some, None, Bool, true, false, refl, sym, ap, ◌∙◌, IsTrue, if◌then◌else◌, arith}
 use Rattle.std.specs.Int.{w32}
 use Rattle.std.proofs.lemmas.Bool.{and_from, both_ways}

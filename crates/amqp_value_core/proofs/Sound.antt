@@ -1,4 +1,4 @@
--- What is found has an encoding: reading as a function finds nothing but values of the grammar.
+-- `outcome_by` finds nothing but encodings (`WireWithin`). *Found* has the converse.
 use Rattle.std.proofs.Common.{ℕ, suc, zero, ◌<◌, ◌^◌, ◌≡◌, ◌∙◌, ap, sym, refl, subst, Bool, true, false, Option, Some, None, option_map, List, [], ◌∷◌, ◌++◌, length, take, drop, arith, append_assoc, length-take, length-drop}
 use Rattle.std.proofs.lemmas.Bool.{leb-true, and_parts}
 use Rattle.std.proofs.lemmas.List.{take-append-drop}

@@ -1,4 +1,5 @@
--- Spelling: the canonical encoding of a value has the value's size, and is an encoding of it.
+-- `size` of an array or a table grows by what each value takes, and `text` of a readable value is
+-- an encoding of it (`Wire`).
 use Rattle.std.proofs.Common.{◌≡◌, ◌<◌, ◌+◌, ◌^◌, ℕ, zero, suc, List, ◌++◌, length, true, false, Some, refl, ap, ap₂, subst, arith, length-append, IsTrue}
 use Rattle.std.specs.Int.{w8, from_be_bytes, bytes_high_first}
 use Rattle.std.proofs.lemmas.Bool.{and_parts}

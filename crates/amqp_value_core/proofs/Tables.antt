@@ -1,4 +1,5 @@
--- Tables: pairs that are put one after another, and what is found at a key.
+-- Tables are finite maps: what `insert` changes of `value_at`, and that pairs mean (`Mean`) what
+-- `insert_all` makes of them.
 use Rattle.std.proofs.Common.{◌≡◌, ◌≢◌, ℕ, List, Bool, true, false, ◌||◌, Option, Some, None, is_some, if◌then◌else◌, refl, sym, ap, ◌∙◌, subst}
 use Rattle.std.specs.Option.{option_or}
 use Rattle.std.specs.Ordering.{nat_cmp, match_ordering, ordering_reverse, is_eq}

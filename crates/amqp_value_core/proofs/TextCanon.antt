@@ -1,4 +1,4 @@
--- `text` of a value is its canonical encoding, and the only one that is bytes.
+-- `text` of a readable value is a canonical encoding (`Canon`), and the only one that is bytes.
 use Rattle.std.proofs.Common.{◌≢◌, ℕ, true, false, List, IsTrue, refl, sym, subst, arith}
 use Rattle.std.specs.Int.{bytes_high_first}
 use Rattle.std.proofs.lemmas.Bool.{and_parts}

@@ -1,6 +1,7 @@
--- Canonical encodings, by their bytes alone. The rules are those of *Grammar* without the alternate tags
--- `U` (85) and `L` (76) and without short strings. A boolean's byte is 0 or 1. Each key of a table is
--- above the one before it, so the pairs are the table's entries.
+-- `Canon`: which bytes are a canonical encoding of a value, by rules for the bytes alone (*Texts*
+-- has what is written). The rules are those of *Grammar* without the alternate tags `U` (85) and
+-- `L` (76) and without short strings. A boolean's byte is 0 or 1. Each key of a table is above the
+-- one before it, so the pairs are the table's entries.
 use Rattle.std.specs.Prelude.{ℕ, ◌^◌, ◌<◌, ◌≡◌, ◌≢◌, Some, List, [], ◌∷◌, ◌++◌, length}
 use Rattle.amqp_value_core.specs.declared.types.amqp_type.AMQPType.{AMQPType}
 use Rattle.amqp_value_core.specs.declared.types.amqp_type.AMQPType.TheVariants as amqp

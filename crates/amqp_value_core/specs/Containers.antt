@@ -1,4 +1,5 @@
--- What arrays and tables in memory are viewed as, and which values are stored without an allocation.
+-- `array_view` and `table_view`: the trees of an array's values and of a table's entries. And
+-- `NeedsNoAlloc`: which values are stored without an allocation.
 use Rattle.std.specs.Prelude.{ℕ, List, map, ◌≡◌, []}
 use Rattle.amqp_value_core.specs.declared.types.field_array.FieldArray.{FieldArray}
 use Rattle.amqp_value_core.specs.declared.types.field_table.FieldTable.{FieldTable}

@@ -1,4 +1,4 @@
--- The test of equality holds exactly of equal trees: the laws of `PartialEq`.
+-- `same_tree` (*Equality*) is true exactly of equal trees, so `==` has the laws of `PartialEq`.
 use Rattle.std.proofs.Common.{◌≡◌, ℕ, List, Bool, true, false, ◌==◌, ◌∷◌, [], get_or, refl, sym, ap, ◌∙◌, Decides}
 use Rattle.std.specs.Cmp.{IsPartialEquivalence, decided, on_per, partial_equiv_from_equiv, unsigned_Decides}
 use Rattle.std.specs.Cmp.Lexicographic.{bytes_decides}

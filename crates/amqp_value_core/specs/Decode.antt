@@ -1,5 +1,5 @@
--- The outcome as a function: what reading computes to, for any list of bytes. The worked examples of
--- other crates use it, and write bytes by `hex`.
+-- `compute_outcome`: what reading any list of bytes results in, as a function; `Outcome` is the
+-- relation. Contracts of amqp_wire use it, and worked examples, which write bytes by `hex`.
 use Prim.Native.String.{String}
 use Rattle.std.specs.Prelude.{ℕ, Bool, true, false, ◌+◌, ◌-◌, ◌*◌, List, [], ◌∷◌, codes, nat_eq, nat_lt, if◌then◌else◌, suc, zero, ◌&&◌, nat_le, Option, Some, None, option_map, length, take, drop}
 use Rattle.std.specs.Int.{Width, byte_len}

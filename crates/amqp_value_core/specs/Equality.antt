@@ -1,4 +1,5 @@
--- Equality of values as a test, which holds exactly of equal trees (clause `trees` of `==`).
+-- `same_tree`: equality of values as a boolean, which `==` returns. It is true exactly of equal
+-- trees (clause `trees` of `==`).
 use Rattle.std.specs.Prelude.{ℕ, Bool, true, false, ◌&&◌, ◌==◌}
 use Rattle.amqp_value_core.specs.declared.types.amqp_type.AMQPType.{AMQPType}
 use Rattle.amqp_value_core.specs.declared.types.amqp_type.AMQPType.TheVariants as amqp

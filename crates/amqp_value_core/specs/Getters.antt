@@ -1,4 +1,5 @@
--- What a value of a given type has inside, which a value of any other type doesn't have.
+-- What the getters return, as `number_in` for `as_long_int`: what a value of that type holds, or
+-- `None` for any other.
 use Rattle.std.specs.Prelude.{ℕ, Bool, true, false, Option, Some, None, List, ◌==◌, if◌then◌else◌}
 use Rattle.amqp_value_core.specs.declared.types.amqp_type.AMQPType.{AMQPType}
 use Rattle.amqp_value_core.specs.Values.{boolean, number, decimal, void, Tree, scalar, short, long, octets, array, table, Trees, Entries}

@@ -1,4 +1,5 @@
--- The words of the headline about sizes and about what is written.
+-- The words of the headline (docs/VERIFICATION.md) about sizes and about what is written:
+-- `IsWritableIn`, `IsShortest`, `TellsApart` and `IsCanonical`.
 use Rattle.std.specs.Prelude.{ℕ, ◌*◌, ◌≤◌, ◌≡◌, ◌↔◌, IsTrue, List, length}
 use Rattle.amqp_value_core.specs.Values.{Tree, readable, depth, count}
 use Rattle.amqp_value_core.specs.Grammar.{Wire}

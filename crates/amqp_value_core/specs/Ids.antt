@@ -1,4 +1,5 @@
--- Type tags: the byte that is before a value, as an ASCII character.
+-- Type tags: `kind` is the type that a tag denotes, and `id_of` the tag that is written for a type.
+-- A tag is the byte before a payload, the code of an ASCII character.
 -- AMQP 0-9-1, section 4.2.1 (`field-value`), with the type tags of RabbitMQ's errata, section 3.
 use Rattle.std.specs.Prelude.{ℕ, List, [], ◌∷◌, nat_eq, Option}
 use Rattle.std.specs.Map.{lookup}

@@ -1,4 +1,4 @@
--- JSON: which value a JSON value is, as one of a given type.
+-- `json`: which value a JSON value becomes for a given type; `AMQPValue::try_from` returns it.
 use Rattle.std.specs.Prelude.{◌≡◌, ℕ, ◌<◌, ◌^◌, ℤ, pos, negsuc, Bool, nat_lt, nat_le, Option, Some, None, option_map, option_and_then, List, length, if◌then◌else◌}
 use Rattle.std.specs.Int.{w8, w16, w32, w64, cast_unsigned}
 use Rattle.serde_json.specs.Data.{Data}

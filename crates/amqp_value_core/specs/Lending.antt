@@ -1,4 +1,5 @@
--- A table that is lent completely: what becomes of it if a call fails.
+-- `LentOrKept`: `FieldTable::insert` returns a borrow of its table, or an error, and then the table
+-- has the entries that it had.
 use Rattle.std.specs.Prelude.{◌≡◌, Result, Ok, Err}
 use Rattle.std.specs.Borrow.{Fml, MutBor, RestsIfErr}
 use Rattle.amqp_value_core.specs.declared.types.field_table.FieldTable.{FieldTable}

@@ -1,4 +1,4 @@
--- What a type is called, and which type is read if its type tag was written.
+-- `name_of`: what a type is called. `read_as`: which type is read if its type tag was written.
 use Rattle.std.specs.Prelude.{ℕ, List, codes, Option, Some, None}
 use Rattle.amqp_value_core.specs.declared.types.amqp_type.AMQPType.{AMQPType}
 use Rattle.amqp_value_core.specs.declared.types.amqp_type.AMQPType.TheVariants as amqp

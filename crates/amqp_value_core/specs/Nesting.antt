@@ -1,4 +1,5 @@
--- Encodings with a limit on how deep containers nest: the rules of *Grammar*, with a depth.
+-- `WireWithin`: encodings with a limit on how deep containers nest, the rules of *Grammar* with a
+-- depth.
 use Rattle.std.specs.Prelude.{ℕ, suc, max, ◌^◌, ◌<◌, ◌≡◌, ◌≢◌, Some, List, [], ◌∷◌, ◌++◌, length}
 use Rattle.amqp_value_core.specs.declared.types.amqp_type.AMQPType.{AMQPType}
 use Rattle.amqp_value_core.specs.declared.types.amqp_type.AMQPType.TheVariants as amqp

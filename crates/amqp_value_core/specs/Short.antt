@@ -1,4 +1,5 @@
--- Short strings: the errors of a string that is too long.
+-- When `ShortStringError` (`IsTooLong`) and `TryCopyError` (`IsCopyRefused`) are returned, and what
+-- the first prints.
 use Rattle.std.specs.Prelude.{ℕ, ◌<◌, ◌≤◌, ◌≡◌, Option, List, length, codes, ◌++◌, find, nat_lt, IsSomeAnd}
 use Rattle.std.specs.Fmt.{decimal}
 use Rattle.amqp_value_core.specs.declared.types.short_string.ShortStringError.{ShortStringError}

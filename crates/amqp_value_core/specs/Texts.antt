@@ -1,4 +1,5 @@
--- What is written for a value: its canonical encoding (*Canonical*), if it is readable and fits.
+-- `text`: what is written for a value. It is the canonical encoding (*Canonical*), if the value is
+-- readable and fits.
 use Rattle.std.specs.Prelude.{ℕ, ◌^◌, ◌<◌, List, [], ◌∷◌, ◌++◌, length}
 use Rattle.amqp_value_core.specs.Values.{Tree, scalar, short, long, octets, array, table, Trees, no_trees, tree, Entries, no_entries, entry, type_of}
 use Rattle.amqp_value_core.specs.Ids.{id_of}

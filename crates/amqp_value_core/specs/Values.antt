@@ -1,4 +1,4 @@
--- Values: what an `AMQPValue` is, without its place in memory.
+-- `Tree`: what an `AMQPValue` is, without its place in memory.
 -- AMQP 0-9-1, section 4.2.5.5 (field tables), in the reading of RabbitMQ's errata, section 3.
 use Rattle.std.specs.Prelude.{ℕ, ◌+◌, ◌≡◌, max, Bool, true, false, ◌&&◌, List, [], ◌∷◌}
 use Rattle.std.specs.Ordering.{nat_cmp}

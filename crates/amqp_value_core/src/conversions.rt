@@ -1,4 +1,5 @@
-//! Conversions between values and the types of their fields.
+//! Conversions of `AMQPValue`: `From` what each variant holds, getters of it, `clone`, and
+//! `try_from`, which takes a JSON value.
 
 mod copies;
 mod from;

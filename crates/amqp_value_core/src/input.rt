@@ -1,4 +1,4 @@
-//! The inputs of parsers.
+//! `ParsableInput`, the bytes that a parser reads, and `SliceInput`, the bytes of one slice.
 
 ghost use Rattle.std.specs.Prelude.{◌≡◌, ◌<◌, ◌≤◌, List, ℕ, length, slice_index, take, drop};
 ghost use Rattle.amqp_value_core.specs.Bytes.{IsPrefix, IsBytes};

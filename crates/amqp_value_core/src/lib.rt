@@ -9,6 +9,10 @@
 //! one or two slices    input                         what the parsers of other crates read
 //! the definitions      laws                          what holds of every list of bytes and every value
 //! ```
+//!
+//! Its tests are rows in `crates/test_calls/data`: `tags.calls`, `values.calls`, `strings.calls`,
+//! `conversions.calls`, `containers.calls` and `inputs.calls`. `crates/test_codec` has worked
+//! examples of the definitions, and tests of an input of its own and of serde.
 #![tactic(auto)]
 
 mod conversions;

@@ -1,4 +1,5 @@
-//! The types of AMQP values.
+//! Exports what the variants of `AMQPValue` hold, and `AMQPType`, the type of a value, each from
+//! its module.
 
 mod amqp_type;
 mod byte_array;

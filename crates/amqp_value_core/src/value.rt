@@ -1,4 +1,5 @@
-//! The values of field tables and arrays.
+//! `AMQPValue`: a value of a field table or array, with a variant for each type. Most of its
+//! methods are in `conversions`.
 
 use crate::types::{
     AMQPType, Boolean, ByteArray, DecimalValue, Double, FieldArray, FieldTable, Float, LongInt,

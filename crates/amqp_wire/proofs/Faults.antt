@@ -1,4 +1,5 @@
--- How faults end a run: the calls of its source and its sink, one after another.
+-- For `EndsRead`, `EndsResults` and `EndsRun`: a fault after further calls of a source or a sink is
+-- a fault of the whole run.
 use Rattle.std.proofs.Common.{◌≡◌, ℕ, Option, Result, Ok, Err, List, ◌++◌, inl, sym, subst, inr}
 use Rattle.std.specs.Prelude.{OnOk}
 use Rattle.std.specs.Io.KnownBytes.{Consumes}

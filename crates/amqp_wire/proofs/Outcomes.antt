@@ -1,4 +1,5 @@
--- What is printed of an outcome.
+-- What is printed of a parser's result is what is printed of `compute_outcome`, and within limits
+-- of `read_within`.
 use Rattle.std.proofs.Common.{◌≡◌, ◌<◌, ℕ, suc, Some, None, List, [], ◌∷◌, cond, slice_index, Fits, w8, inl, inr, ap, sym, ◌∙◌}
 use Rattle.std.proofs.lemmas.Bool.{cases_lt, le-ltb, lt-ltb}
 use Rattle.amqp_value_core.specs.Bytes.{IsBytes}

@@ -1,5 +1,5 @@
--- What is written: a value's encoding finds a buffer of the size that it asks for, and prefixes of an
--- output are written one after another.
+-- `IsOutputUpTo`: parts that are written one after another make a prefix of the output. And
+-- `has_capacity`: an encoding fits a buffer of its size.
 use Rattle.std.proofs.Common.{◌≡◌, ◌≤◌, ◌<◌, ◌^◌, ℕ, Option, Some, IfSome, List, [], length, Result, IsOk, true, subst, arith, ◌∷◌, ◌++◌, take, drop, ap, ◌∙◌, sym, append_assoc, take-append-drop}
 use Rattle.std.specs.Io.KnownBytes.{Appends}
 use Rattle.std.proofs.KnownBytes.{Appends-trans}

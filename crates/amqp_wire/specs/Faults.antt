@@ -1,4 +1,5 @@
--- What ends a run: which fault an error of its source or its sink is, and the status of the program then.
+-- `EndsLines` and `EndsRun`: how a run ends, and which `WireFault` an error of its source or its
+-- sink is. `status_of`: the exit status of the program then.
 use Rattle.std.specs.Prelude.{ℕ, ◌≡◌, ◌⊎◌, Result, Ok, Err}
 use Rattle.std.specs.declared.io.ErrorKind.{ErrorKind}
 use Rattle.std.specs.declared.io.ErrorKind.TheVariants as kind

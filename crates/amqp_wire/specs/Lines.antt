@@ -1,4 +1,5 @@
--- The lines that are written for the lines that are read, also for an error of a parser.
+-- `output`: the lines that `run` writes for the lines that it reads. `IsSaid`: what is printed of a
+-- parser's error.
 use Rattle.std.specs.Prelude.{◌≡◌, ℕ, Option, Some, None, IfSome, List, [], ◌∷◌, ◌++◌, length, map, codes, nat_lt, if◌then◌else◌, Result, Ok, Err}
 use Rattle.std.specs.Fmt.{decimal}
 use Rattle.std.specs.Io.KnownBytes.{Appends}

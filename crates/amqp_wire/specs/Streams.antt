@@ -1,4 +1,5 @@
--- What is written for a stream of values.
+-- `stream_text`: the lines that `run_stream` writes for a stream. `AreLines`: they are those of the
+-- values that the stream begins with.
 use Rattle.std.specs.Prelude.{◌≡◌, ◌≤◌, ◌<◌, ℕ, zero, suc, Bool, true, false, Option, Some, None, List, [], ◌∷◌, ◌++◌, length, take, codes}
 use Rattle.hex.specs.Hex.{encode_lower}
 use Rattle.amqp_value_core.specs.Values.{Tree}

@@ -1,4 +1,5 @@
-//! Lines and streams get their results once there is memory again.
+//! A test: lines and streams fail while all memory is taken, and get their results once there is
+//! memory again.
 //!
 //! This is no part of `tests`: the checks of `rt try` keep memory of their own, so it is run as it
 //! is built.

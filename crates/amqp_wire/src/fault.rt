@@ -1,4 +1,4 @@
-//! What ends a run before its last line.
+//! `WireFault`: what ends a run before its last line, and the exit status then.
 
 ghost use Rattle.std.specs.Prelude.{◌≡◌};
 ghost use Rattle.std.specs.IoError.{error_kind};

@@ -1,6 +1,9 @@
 //! Reads lines of hexadecimal from standard input, and prints for each a line that states what
 //! its bytes are read as: a value, how many more bytes are needed, or an error. Arguments are
 //! ignored.
+//!
+//! Its tests are in `src/tests` and `src/exhausted.rt`; `stdout` has what it prints for `stdin`.
+//! `tests/wire` runs it on devices that fail, and compares it with the reference implementation.
 #![tactic(auto)]
 
 #[cfg(test)]

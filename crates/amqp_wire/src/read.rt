@@ -1,4 +1,4 @@
-//! All that a source has.
+//! `read_all`: all the bytes that a `Source` has, for `run`.
 
 ghost use Rattle.std.specs.Prelude.{◌≡◌, ℕ, List, ◌++◌, length, IfErr, IfOk, IfSome, OnOk};
 ghost use Rattle.std.specs.Io.{ReadsAtMost};

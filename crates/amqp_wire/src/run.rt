@@ -1,4 +1,5 @@
-//! All lines, from a reader to a writer.
+//! `run`: reads lines of hexadecimal from a reader, and writes the result of each to a writer. Only
+//! tests run `run_split` and `run_within`.
 
 ghost use Rattle.std.specs.Prelude.{◌<◌, OnOk, OnErr, length};
 ghost use Rattle.std.specs.Io.KnownBytes.{Appends, IsAtEnd};

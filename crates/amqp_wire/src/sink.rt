@@ -1,4 +1,4 @@
-//! What lines are written to.
+//! `Sink`: a writer that lines are written to, with clauses about its errors.
 
 ghost use Rattle.std.specs.Prelude.{ℕ, List, Option, ⊤, IfOk, IfErr};
 ghost use Rattle.std.specs.Io.{WritesAtMost};

@@ -1,4 +1,5 @@
-//! A stream of values, from a reader to a writer.
+//! `run_stream`: reads encoded values from a reader, and writes a line for each to a writer. Only
+//! tests run it.
 
 ghost use Rattle.std.specs.Prelude.{◌≡◌, ◌<◌, ◌^◌, ◌∷◌, ◌++◌, [], true, false, codes, OnOk, OnErr, IfOk, IfSome, string_bytes};
 ghost use Rattle.std.specs.Io.KnownBytes.{Appends};

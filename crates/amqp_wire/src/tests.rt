@@ -1,4 +1,5 @@
-//! Lines and streams, from readers and to writers that fail, by the format's own numbers.
+//! `run_program`: runs lines or a stream, for `rows`, which tests what is written, and for
+//! `faults`, where readers and writers fail.
 
 mod faults;
 mod rows;

@@ -1,6 +1,7 @@
 //! What a client does with the codec: a queue's arguments, a message's headers, values from peers,
-//! and values as JSON. Prints each result. With the word `stream` it prints the values of standard
-//! input instead, of any size; tests run it so on devices that fail, and with too little memory.
+//! and values as JSON. Prints each result, as in `stdout`. With the word `stream` it prints the
+//! values of standard input instead, of any size; `tests/wire` runs it so on devices that fail, and
+//! `tests/memory` with too little memory.
 #![tactic(auto)]
 
 mod arguments;

@@ -1,4 +1,5 @@
-//! Values of a stream, one after another, within limits.
+//! `ValueReader`: reads the values of a stream one after another, within limits, and prints them as
+//! JSON.
 
 use amq_protocol_types::stream::{Limits, StreamError, ValueReader};
 use amqp_json::to_json;

@@ -1,4 +1,5 @@
-//! Values from an untrusted peer, within limits.
+//! `parse_value_within`: bytes from an untrusted peer, which may be cut short or too large, read
+//! within limits.
 
 use crate::headers::LIMITS;
 use amq_protocol_types::parsing::{Err, SliceInput};

@@ -1,4 +1,4 @@
-//! `clone`: deep copies.
+//! `clone` of `AMQPValue`, `FieldArray` and `FieldTable`: deep copies.
 //!
 //! If an allocation fails, what was copied so far is dropped. What has no bytes, no values and no
 //! entries doesn't allocate.

@@ -1,4 +1,4 @@
-//! Conversions from a field's type to a value: each type to its own variant, and a `u64` to
+//! `From` for `AMQPValue`: what a variant holds becomes that variant, and a `u64` becomes a
 //! `Timestamp`.
 
 ghost use Rattle.std.specs.Prelude.{◌≡◌};

@@ -1,4 +1,4 @@
-//! Getters: the field of a value of a given type.
+//! Getters of `AMQPValue`, such as `as_bool`: what a value of that type holds, or `None`.
 
 use crate::types::{
     Boolean, ByteArray, DecimalValue, Double, FieldArray, FieldTable, Float, LongInt, LongLongInt,

@@ -1,4 +1,5 @@
-//! Conversion from a JSON value to a value of a given type.
+//! `AMQPValue::try_from`: a JSON number, string, boolean or null as a value of a given type. The
+//! crate `amqp_json` has the JSON of every value.
 
 ghost use Rattle.std.specs.Prelude.{◌≡◌, option_map, IfOk, OnErr};
 ghost use Rattle.serde_json.specs.View.{view as document};

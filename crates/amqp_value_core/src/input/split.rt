@@ -1,4 +1,5 @@
-//! An input of two slices, as a ring buffer has them; the rows of `crates/test_calls/data/inputs.calls` test it.
+//! `SplitInput`: two slices as one input, as a ring buffer has them. The rows of
+//! `crates/test_calls/data/inputs.calls` test it.
 
 // The tactic at the function names the lemma that bytes after bytes are bytes.
 

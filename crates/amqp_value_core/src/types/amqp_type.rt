@@ -1,4 +1,4 @@
-//! The type of an AMQP value, and its type tag.
+//! `AMQPType`: the type of an AMQP value, its name, and its type tag.
 
 // The tactic at the function names the lemma that a type that a type tag denotes is read back as itself.
 

@@ -1,4 +1,4 @@
-//! Byte arrays, whose type tag is `x`.
+//! `ByteArray`: arbitrary bytes with the type tag `x`; those of a `LongString` have `S`.
 
 ghost use Rattle.std.specs.Prelude.{◌≡◌, [], length, nat_eq, IfOk, IsOk};
 ghost use Rattle.amqp_value_core.specs.View.{octets_of};

@@ -1,4 +1,4 @@
-//! Decimal numbers: a scale and digits.
+//! `DecimalValue`: a decimal number as its scale and its digits.
 
 use crate::types::{LongUInt, ShortShortUInt};
 use serde::{Deserialize, Serialize};

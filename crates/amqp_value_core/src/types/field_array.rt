@@ -1,4 +1,4 @@
-//! Arrays: values one after another.
+//! `FieldArray`: a list of `AMQPValue`s, which needn't have the same type.
 
 ghost use Rattle.std.specs.Prelude.{◌≡◌, [], ◌∷◌, ◌++◌, OnOk, OnErr};
 ghost use Rattle.amqp_value_core.specs.Containers.{array_items};

@@ -1,4 +1,4 @@
-//! Tables: maps from short strings to values.
+//! `FieldTable`: a map from `ShortString` keys to `AMQPValue`s.
 
 // The tactic at the function names the lemma that a map of pairs is the table that they result in.
 

@@ -1,4 +1,5 @@
-//! Floating-point numbers of 32 bits, as their bits; the rows of `crates/test_calls/data/values.calls` have them.
+//! `Float`: a floating-point number of 32 bits, as its bits; the rows of
+//! `crates/test_calls/data/values.calls` have such numbers.
 
 ghost use Rattle.std.specs.Prelude.{◌≡◌};
 ghost use Rattle.amqp_value_core.specs.View.{float_bits};

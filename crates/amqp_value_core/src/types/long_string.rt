@@ -1,4 +1,4 @@
-//! Long strings: arbitrary bytes, whatever their name says.
+//! `LongString`: arbitrary bytes with the type tag `S`, which most peers take for UTF-8.
 
 ghost use Rattle.std.specs.Prelude.{◌≡◌, [], length, nat_eq, IfOk, IsOk};
 ghost use Rattle.amqp_value_core.specs.View.{long_bytes};

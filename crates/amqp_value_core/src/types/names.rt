@@ -1,4 +1,4 @@
-//! AMQP's names for Rust's types.
+//! AMQP's names for Rust's types, as `ShortUInt` for `u16`, and `MAX_SHORT_STRING_LENGTH`.
 
 /// A boolean.
 pub type Boolean = bool;

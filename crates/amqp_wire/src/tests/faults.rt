@@ -1,4 +1,5 @@
-//! Readers and writers that fail.
+//! Each `Program` on readers and writers that fail: which `WireFault` it returns, and what it has
+//! written.
 
 use super::rows::{BYTES, LINES};
 use super::*;

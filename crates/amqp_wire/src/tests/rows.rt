@@ -1,4 +1,4 @@
-//! What is written for what is read.
+//! `ROWS`: what each `Program` writes for its input, and how many bytes stay in the reader.
 
 use super::*;
 use std::test::Fail;

@@ -1,4 +1,5 @@
--- Proofs of the goals of the functions of the cycle `same` that tactics don't close.
+-- Equality: each turn of a loop compares the first of what is left of both sides, and where one
+-- side has ended, what is left is equal exactly if both have.
 use Rattle.std.proofs.Common.{btree_map_len, ◌≡◌, ◌⊎◌, inl, inr, ℕ, ◌+◌, ◌-◌, min, nat_eq, Bool, true, false, not, ◌&&◌, List, [], ◌∷◌, length, drop, sym, ap, ◌∙◌, arith, length-drop, rules}
 use Rattle.std.proofs.lemmas.Bool.Decides.{nat_tests}
 use Rattle.std.proofs.lemmas.Slice.Zip.{zip_end}

@@ -1,4 +1,5 @@
--- The invariants of the loops of the functions of the cycle `same`.
+-- Of the loops in `same_items` and `same_pairs`: both sides are equal exactly if what is left of
+-- them is, and as many entries of one map have gone as of the other.
 use Rattle.std.proofs.Common.{◌≡◌, ◌+◌, length, drop}
 use Rattle.amqp_value_core.specs.Containers.{trees, entries}
 use Rattle.amqp_value_core.specs.Equality.{same_trees, same_entries}

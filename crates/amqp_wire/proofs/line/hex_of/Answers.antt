@@ -1,3 +1,4 @@
+-- `hex_of`: `gen_value` doesn't fail, since the buffer is large enough (`has_capacity`).
 use Rattle.std.proofs.Common.{◌≡◌, Some, rules}
 use Rattle.amqp_value_core.specs.View.{view}
 use Rattle.amq_protocol_types.specs.generation.OutputViews.{seen_slice}

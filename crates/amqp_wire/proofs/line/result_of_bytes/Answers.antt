@@ -1,4 +1,5 @@
--- Proofs of the goals of `result_of_bytes` that tactics don't close.
+-- `result_of_bytes` prints what `compute_outcome` computes: the parser returns that value
+-- (`said_of_outcome`) or that error (`said_of_refusal`).
 use Rattle.std.proofs.Common.{◌≡◌, length, string_bytes, rules}
 use Rattle.std.proofs.lemmas.Result.{IfOk-weaker}
 use Rattle.amqp_value_core.specs.Outcomes.{Outcome, Heavy, found}

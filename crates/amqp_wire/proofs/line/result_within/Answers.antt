@@ -1,4 +1,5 @@
--- Proofs of the goals of `result_within` that tactics don't close.
+-- `result_within` prints what `read_within` computes: the parser returns that value
+-- (`said_of_within`) or that error (`said_of_limited`).
 use Rattle.std.proofs.Common.{◌≡◌, length, string_bytes, rules}
 use Rattle.std.proofs.lemmas.Result.{IfOk-weaker}
 use Rattle.amqp_value_core.specs.Outcomes.{found}

@@ -1,4 +1,5 @@
--- Proofs of the goals of `read_again` that tactics don't close.
+-- `read_again`: a call that was interrupted takes no byte, and by `SourceContinues` another may
+-- follow it, as one may follow a call that returned no error.
 use Rattle.std.proofs.Common.{◌≡◌, inl, inr, rules, subst}
 use Rattle.std.proofs.KnownBytes.{Keeps-refl, Keeps-trans}
 use Rattle.std.specs.IoError.{error_kind}

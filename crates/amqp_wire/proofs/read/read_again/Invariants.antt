@@ -1,4 +1,4 @@
--- The invariant of the loop of `read_again`.
+-- Of the loop in `read_again`: no byte is gone, and each call was interrupted.
 use Rattle.std.specs.Io.KnownBytes.{Keeps}
 use Rattle.amq_protocol_types.specs.stream.Sources.{SourceReaches}
 use Rattle.amqp_wire.specs.Faults.{SourceContinues}

@@ -1,4 +1,5 @@
--- Proofs of the goals of `read_all` that tactics don't close.
+-- `read_all` has all bytes, since each block is appended to what came before. If a block fails, it
+-- ends with that fault (`ends_part`).
 use Rattle.std.proofs.Common.{rules, subst, sym}
 use Rattle.std.specs.Io.KnownBytes.{Consumes}
 use Rattle.std.proofs.KnownBytes.{Consumes-nil}

@@ -1,4 +1,5 @@
--- The invariant of the loop of `read_all`.
+-- Of the loop in `read_all`: the bytes are all that came, and no call failed but those that were
+-- interrupted.
 use Rattle.std.proofs.Common.{◌-◌, ◌^◌, vec_len}
 use Rattle.std.specs.Io.KnownBytes.{Consumes}
 use Rattle.amq_protocol_types.specs.stream.Sources.{SourceReaches}

@@ -1,4 +1,4 @@
--- Proofs of the goals of `write_out` that tactics don't close.
+-- `write_out`: each call writes the first of the bytes that are left (`written_prefix`).
 use Rattle.std.proofs.Common.{rules}
 use Rattle.amq_protocol_types.specs.stream.Sources.SourceReaches.{here, there}
 use Rattle.amqp_wire.proofs.Output.{written_prefix}

@@ -1,4 +1,5 @@
--- The invariant of the loop of `write_out`.
+-- Of the loop in `write_out`: all but the bytes that are left was written, with no error of the
+-- sink.
 use Rattle.std.proofs.Common.{length}
 use Rattle.amq_protocol_types.specs.stream.Sources.{SourceReaches}
 use Rattle.amqp_wire.specs.Faults.{SinkAccepts}

@@ -1,4 +1,5 @@
--- Proofs of the goals of `write_results` that tactics don't close.
+-- `write_results`: the results that are left begin with the next line's (`first_result`), so
+-- writing it, or a part of it, writes a longer prefix of the output.
 use Rattle.std.proofs.Common.{◌∙◌, rules}
 use Rattle.amq_protocol_types.specs.stream.Sources.SourceReaches.{here}
 use Rattle.amq_protocol_types.proofs.SourceReads.{reaches_on}

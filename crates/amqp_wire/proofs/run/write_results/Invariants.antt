@@ -1,4 +1,5 @@
--- The invariant of the loop of `write_results`.
+-- Of the loop in `write_results`: all but the results of the lines that are left was written, with
+-- no error of the sink.
 use Rattle.amqp_wire.specs.Lines.{said_in, lines_by, output_by}
 use Rattle.amq_protocol_types.specs.stream.Sources.{SourceReaches}
 use Rattle.amqp_wire.specs.Faults.{SinkAccepts}

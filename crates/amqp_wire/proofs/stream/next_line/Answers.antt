@@ -1,4 +1,5 @@
--- Proofs of the goals of `next_line` that tactics don't close.
+-- `next_line` returns the line of what `next_from` returned (`line_is`). A value that was read
+-- within limits can be written (`read_fits`).
 use Rattle.std.proofs.Common.{◌≡◌, ◌∷◌, ◌++◌, [], Ok, Err, true, false, codes, subst, rules}
 use Rattle.amqp_value_core.specs.View.{view}
 use Rattle.amq_protocol_types.specs.stream.Readers.{kept, limits_of, IsOutcomeOf, IsOutcomeOfAll}

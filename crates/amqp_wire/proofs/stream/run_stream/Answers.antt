@@ -1,3 +1,4 @@
+-- `run_stream`: each stream begins with some values, if only zero, and its lines are theirs.
 use Rattle.amqp_wire.proofs.Streams.{has_lines}
 use Rattle.amqp_wire.proofs.stream.run_stream.Goals as goal
 

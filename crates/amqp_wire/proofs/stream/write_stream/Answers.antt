@@ -1,4 +1,5 @@
--- Proofs of the goals of `write_stream` that tactics don't close.
+-- `write_stream`: each line is the first of those that are left, so it keeps `Progress`
+-- (`on_more`), and after the last line or the last value all of `stream_text` is written.
 use Rattle.std.proofs.Common.{◌≡◌, ℕ, Bool, ◌-◌, true, false, subst, ◌∙◌, rules, arith}
 use Rattle.std.specs.Option.{IfSome}
 use Rattle.std.specs.Io.KnownBytes.{Appends}

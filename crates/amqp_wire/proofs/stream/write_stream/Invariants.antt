@@ -1,4 +1,5 @@
--- The invariant of the loop of `write_stream`.
+-- Of the loop in `write_stream`: all but the lines of what is left was written (`Progress`), with
+-- no error of the source or the sink.
 use Rattle.std.proofs.Common.{◌≡◌, [], false}
 use Rattle.amq_protocol_types.specs.stream.Readers.{kept, has_failed, limits_of}
 use Rattle.amq_protocol_types.specs.stream.Sources.{SourceReaches}

@@ -1,4 +1,5 @@
--- Proofs of the goals of the functions of the cycle `copies` that tactics don't close.
+-- Copies: keys ascend, so each copied entry goes after those before it. A container that needs no
+-- allocation is empty, so copying it doesn't fail.
 use Rattle.std.proofs.Common.{◌≡◌, [], ◌∷◌, ◌++◌, refl, sym, ap, ◌∙◌, subst, append_assoc}
 use Rattle.std.specs.Cmp.Lexicographic.{slice_cmp}
 use Rattle.std.specs.List.Sorted.{IsStrictlySortedBy}

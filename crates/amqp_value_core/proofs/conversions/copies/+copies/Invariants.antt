@@ -1,4 +1,5 @@
--- The invariants of the loops of the functions of the cycle `copies`.
+-- Of the loops in `copy_items` and `copy_entries`: the copy has all values, or entries, that the
+-- loop has passed.
 use Rattle.std.proofs.Common.{◌≡◌, List, ◌++◌, take, map}
 use Rattle.amqp_value_core.specs.View.{view}
 use Rattle.amqp_value_core.specs.Containers.{array_items, entries, table_view}

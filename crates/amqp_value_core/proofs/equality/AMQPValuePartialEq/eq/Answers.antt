@@ -1,4 +1,4 @@
--- Proofs of the goals of `AMQPValue::eq` that tactics don't close.
+-- `AMQPValue::eq` is true exactly if the values' trees are equal: `same_tree` decides that.
 use Rattle.std.proofs.Common.{sym, ◌∙◌}
 use Rattle.amqp_value_core.specs.View.{view}
 use Rattle.amqp_value_core.specs.Decided.{tree_decides}

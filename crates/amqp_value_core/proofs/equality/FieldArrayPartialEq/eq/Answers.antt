@@ -1,4 +1,4 @@
--- Proofs of the goals of `FieldArray::eq` that tactics don't close.
+-- `FieldArray::eq` is true exactly if the arrays' trees are equal: `same_trees` decides that.
 use Rattle.std.proofs.Common.{◌≡◌, sym, ◌∙◌, rules}
 use Rattle.amqp_value_core.specs.Containers.{array_view}
 use Rattle.amqp_value_core.specs.Equality.{same_trees}

@@ -1,4 +1,4 @@
--- Proofs of the goals of `FieldTable::eq` that tactics don't close.
+-- `FieldTable::eq` is true exactly if the tables' entries are equal: `same_entries` decides that.
 use Rattle.std.proofs.Common.{◌≡◌, sym, ◌∙◌, rules}
 use Rattle.amqp_value_core.specs.Containers.{table_view}
 use Rattle.amqp_value_core.specs.Equality.{same_entries}

@@ -1,4 +1,5 @@
--- Proofs of the goals of `SplitInput::take_from` that tactics don't close.
+-- `SplitInput::take_from`: what is left of both slices after `n` bytes is what is left of each
+-- (`both_left`).
 use Rattle.amqp_value_core.proofs.Bytes.{both_left}
 use Rattle.amqp_value_core.proofs.input.split.SplitInputParsableInput.take_from.Goals as goal
 

@@ -1,4 +1,5 @@
--- The invariant of the loop of `FieldTable::contains_key`.
+-- Of the loop in `FieldTable::contains_key`: the table has the key exactly if the entries that are
+-- left have it.
 use Rattle.std.proofs.Common.{◌≡◌}
 use Rattle.amqp_value_core.specs.Maps.{has_key}
 use Rattle.amqp_value_core.specs.Containers.{entries}

@@ -1,4 +1,5 @@
--- The invariant of the loop of `FieldTable::from_named`.
+-- Of the loop in `FieldTable::from_named`: inserting the pairs that are left makes the table of
+-- all, and the first key that is too long is the same among them as among all.
 use Rattle.std.proofs.Common.{◌≡◌, ◌≤◌, length}
 use Rattle.amqp_value_core.specs.Values.{no_entries}
 use Rattle.amqp_value_core.specs.Maps.{insert_all}

@@ -1,5 +1,5 @@
--- `insert` passes on what `lend` lent, out of its struct: at each result its clauses are those of
--- `lend`.
+-- `FieldTable::insert` returns what `lend` returns, without its struct (`bare`), so at each result
+-- its clauses are those of `lend`.
 use Rattle.std.proofs.Common.{◌≡◌, List, [], ◌∷◌, refl, sym, subst, Ok, Err}
 use Rattle.std.proofs.raw_atomic.Walks.{proved_at, leaves}
 use seplogic.Ra.Ura.{Ura}

@@ -1,4 +1,5 @@
--- Proofs of the goals of `FieldTable::place` that tactics don't close.
+-- `FieldTable::place` inserts as `insert` does: at each entry the order of the keys decides, as in
+-- the map's `insert_entry`.
 use Rattle.std.proofs.Common.{◌≡◌, ◌∷◌, [], List, ℕ, Ordering, Less, Equal, Greater, refl, ap, ◌∙◌}
 use Rattle.std.specs.BTreeMap.{insert_entry}
 use Rattle.std.specs.Cmp.Lexicographic.{slice_cmp}

@@ -1,4 +1,4 @@
--- Proofs of the goals of `ShortStringError::fmt` that tactics don't close.
+-- `ShortStringError::fmt` writes `too_long_text`, since 255 is printed as the digits 2, 5 and 5.
 use Rattle.std.proofs.Common.{◌≡◌, [], ◌∷◌, refl, ap, ◌++◌, List, ℕ}
 use Rattle.std.specs.Fmt.{decimal, digits}
 use Rattle.std.specs.Prelude.{codes}
