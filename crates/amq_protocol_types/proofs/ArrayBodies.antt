@@ -1,4 +1,4 @@
--- The body of an array, as it is read: the values so far, and what is left.
+-- `ArrayBodyRead`, what holds while `parse_array_body` reads: the values so far, and what is left.
 use Rattle.std.proofs.Common.{◌≡◌, ◌<◌, ◌≤◌, ℕ, List, [], ◌∷◌, ◌++◌, length, refl, sym, ap, subst, arith, length-append}
 use Rattle.std.proofs.lemmas.List.{nil_from_length}
 use Rattle.amqp_value_core.specs.Values.{Tree, Trees, no_trees, tree, trees_of}

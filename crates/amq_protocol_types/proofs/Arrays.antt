@@ -1,4 +1,4 @@
--- An array's values, written one after another behind their length: the first of them, and one more.
+-- Lemmas for `gen_field_array`, which writes values one after another, after their length.
 use Rattle.std.proofs.Common.{◌≡◌, ℕ, ◌+◌, ◌<◌, List, [], ◌∷◌, ◌++◌, length, get_or, take, sym, ap, ◌∙◌, subst, zero, suc, ◌≤◌, replicate, arith, append_assoc, append-nil, length-append, true, Result, Ok, Err, OnOk}
 use Rattle.std.proofs.lemmas.List.{take_more, take_all}
 use Rattle.amqp_value_core.specs.declared.value.AMQPValue.{AMQPValue}

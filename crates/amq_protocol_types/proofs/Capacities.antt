@@ -1,4 +1,5 @@
--- Lemmas on a capacity that is fixed or open, and on bytes that are known or not.
+-- Lemmas on two fields of an `OutputState`: a capacity that is fixed or open, and bytes that are
+-- known or not. `Steps`, `FlagPuts` and `Lengths` use them.
 use Rattle.std.proofs.Common.{◌≡◌, ℕ, ◌+◌, ◌-◌, ◌<◌, ◌≤◌, Option, Some, None, IsSome, IfSome, is_some, List, [], ◌++◌, length, take, drop, refl, sym, ap, ◌∙◌, subst, arith, append_assoc, append-nil, length-append}
 use Rattle.std.specs.Option.{option_map}
 use Rattle.std.specs.Io.KnownBytes.{Appends}

@@ -1,4 +1,5 @@
--- The extent of a value: as its header counts it, while that is cut short, and once all bytes are there.
+-- Lemmas on the `extent` of a value, how many bytes it has at least by its type tag and length
+-- field, and on `IsWholeValue`, that all its bytes are there.
 use Rattle.std.proofs.Common.{◌≡◌, ◌+◌, ◌<◌, ◌≤◌, ℕ, List, [], ◌++◌, length, Option, Some, None, refl, sym, ◌∙◌, arith, inl, inr, length-append, suc, ◌∷◌, ap, subst}
 use Rattle.std.specs.Int.{Width, byte_len}
 use Rattle.std.proofs.lemmas.Bool.{cases_lt, lt-ltb, le-ltb}

@@ -1,4 +1,4 @@
--- Lemmas on gen_flags: bytes that are put one after another, to any output.
+-- Lemmas for `gen_flags`: bytes that are put one after another, to any output (`PutSoFar`).
 use Rattle.std.proofs.Common.{◌≡◌, ℕ, ◌+◌, ◌-◌, ◌≤◌, inl, Bool, IsTrue, Option, Some, None, IfSome, Result, Ok, Err, List, [], ◌∷◌, ◌++◌, length, refl, sym, ap, ◌∙◌, subst, arith, length-append}
 use Rattle.std.specs.Option.{option_map}
 use Rattle.std.proofs.lemmas.Bool.{false≢true}

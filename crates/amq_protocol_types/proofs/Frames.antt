@@ -1,4 +1,5 @@
--- Length-prefixed fields: a length, and as many bytes after it, which are copied chunk by chunk.
+-- Lemmas on reading a length-prefixed field: when the bytes after the length are a string, a byte
+-- array, an array or a table, and when they aren't.
 use Rattle.std.proofs.Common.{◌≡◌, ℕ, ◌≤◌, List, ◌++◌, length, take, ap, sym, ◌∙◌, arith, ◌+◌, ◌-◌, ◌%◌, ◌<◌, suc, ◌∷◌, drop, None, refl, ap₂, subst, take-append-drop}
 use Rattle.std.proofs.lemmas.List.{append-nil, nil_from_length, length-append, length-take, length-take-le}
 use Rattle.std.specs.Str.{IsUtf8, IsAscii}

@@ -1,4 +1,5 @@
--- Lemmas on a length that is put before what a call appends.
+-- Lemmas for `gen_with_len`: what its closure appends gets its length before it, or is taken back.
+-- Proofs of test_codec cite them too.
 use Rattle.std.proofs.Common.{◌≡◌, ℕ, Bool, IsTrue, ◌+◌, ◌-◌, ◌≤◌, true, inr, Some, None, IsSome, IfSome, Option, Result, Ok, Err, OnOk, OnErr, IfErr, List, [], ◌++◌, length, take, drop, replicate, refl, sym, ap, ◌∙◌, subst, arith, length-append}
 use Rattle.std.specs.Prelude.{⊤}
 use Rattle.std.specs.Option.{option_map}

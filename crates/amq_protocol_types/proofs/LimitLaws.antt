@@ -1,4 +1,5 @@
--- The laws of reading within limits: what was read is read again, and what more bytes change.
+-- `laws_within`: the laws of reading within limits hold. What was read is read again, and more
+-- bytes don't change the outcome, except for what is left and how many are missing.
 use Rattle.std.proofs.Common.{◌≡◌, ◌-◌, ℕ, suc, List, [], ◌++◌, length, Result, Ok, Err, MatchResult, IfOk, ap, ◌∙◌, subst, arith, length-append, ◌<◌, ◌≤◌, ◌∷◌, Option, Some, None, refl}
 use Rattle.amqp_value_core.specs.Values.{Tree}
 use Rattle.amqp_value_core.specs.Layouts.{fixed}

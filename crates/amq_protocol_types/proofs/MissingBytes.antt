@@ -1,4 +1,5 @@
--- What is missing of a value that hasn't all come, as more of it comes.
+-- Lemmas on `wanted`, how many bytes are missing of a value, and on `IsWaiting`, that each shorter
+-- prefix lacks some, as more bytes come.
 use Rattle.std.proofs.Common.{◌≡◌, ◌<◌, ◌≤◌, ◌+◌, ◌-◌, ℕ, zero, suc, List, [], ◌∷◌, ◌++◌, length, take, Option, Some, None, refl, sym, ap, ap₂, ◌∙◌, subst, arith, inl, inr, length-append}
 use Rattle.std.specs.Option.{IfSome}
 use Rattle.std.specs.Int.{Width, byte_len}

@@ -1,4 +1,5 @@
--- The laws of reading within limits, for the proofs of other crates to cite.
+-- The lemmas on reading that proofs of other crates may cite. Each is proved in the file that its
+-- line names.
 
 -- what asks for more bytes: which, and how many its header counts at most
 pub use Rattle.amq_protocol_types.proofs.MissingBytes.{more_wanted, wanted_more, lacks_within, wanted_within, kept_within}

@@ -1,4 +1,5 @@
--- What is read of one payload: of fixed width, of any type that is no container, and without a limit.
+-- Lemmas on reading one payload: of fixed width (`number_found`), of a type that is no container
+-- (`plain_found`), or without a limit (`raw_unlimited_result`).
 use Rattle.std.proofs.Common.{◌≡◌, ◌<◌, ◌∙◌, ℕ, List, [], length, ap, sym, subst, arith, ◌^◌, ◌++◌, ℤ, Bool, true, false, cond, nat_eq, Some, refl, ap₂, ◌≢◌, Result, Ok, Err, MatchResult}
 use Rattle.std.specs.Prelude.{not}
 use Rattle.std.specs.Int.{Width, w8, w16, w32, w64, byte_len, to_be_bytes, from_be_bytes, cast_signed, cast_unsigned}

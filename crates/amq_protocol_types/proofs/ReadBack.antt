@@ -1,4 +1,5 @@
--- What was written is read back, and what was read fits the capacity that its encoding took.
+-- Lemmas for `gen_value` and the generators of containers: what was written is read back, and a
+-- value that was read fits the capacity that its encoding took.
 use Rattle.std.proofs.Common.{ℕ, List, ◌++◌, ◌≡◌, refl, Result, Ok, Err, OnOk, Some, ◌≢◌, ◌≤◌, Bool, Option, None, IfSome, length, IsErrOf, true, arith}
 use Rattle.amqp_value_core.specs.declared.types.amqp_type.AMQPType.TheVariants as amqp
 use Rattle.amqp_value_core.specs.Values.{Tree, Trees, Entries, array, table}

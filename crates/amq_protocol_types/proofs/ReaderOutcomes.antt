@@ -1,4 +1,5 @@
--- What a reader of values returns, by all that its reader held.
+-- `outcome_of_all`, for `Values::next_from`: a result that is right of the bytes that came is right
+-- of all bytes that the reader held.
 use Rattle.std.proofs.Common.{◌≡◌, ◌<◌, ◌≤◌, ℕ, List, [], ◌++◌, length, Option, Some, None, Ok, Err, refl, sym, ap, ◌∙◌, subst, arith, append-nil, append_assoc}
 use Rattle.std.specs.Option.{IfSome}
 use Rattle.std.specs.Io.KnownBytes.{Consumes}

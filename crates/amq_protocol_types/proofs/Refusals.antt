@@ -1,4 +1,5 @@
--- Errors of parsers: what is right of a part is right of all.
+-- Lemmas on errors of parsers (`IsRefusal`): if one is right of a payload or a type tag, it is
+-- right of the value.
 use Rattle.std.proofs.Common.{◌≡◌, ◌<◌, ◌≤◌, ◌∙◌, ℕ, suc, List, [], ◌∷◌, length, Option, ap, sym, subst, arith}
 use Rattle.amqp_value_core.specs.declared.types.amqp_type.AMQPType.{AMQPType}
 use Rattle.amqp_value_core.specs.Values.{Tree}

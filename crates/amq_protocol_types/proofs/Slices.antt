@@ -1,4 +1,4 @@
--- Slices that are written from their start.
+-- Lemmas for `SliceOutput`: what `put`, `reserve` and `fill` do to its bytes and its capacity.
 use Rattle.std.proofs.Common.{◌≡◌, ℕ, ◌+◌, ◌-◌, ◌≤◌, true, Some, Ok, List, ◌++◌, length, take, drop, refl, sym, ap, ◌∙◌, subst, arith, rules, length-append, length-drop}
 use Rattle.std.proofs.lemmas.Slice.{take-put_mid, drop-put_mid}
 use Rattle.std.proofs.lemmas.List.{drop-drop, length-take-le, same_lists, places}

@@ -1,5 +1,5 @@
--- Reads from a source, one after another: the calls, and the bytes that each puts after those before.
--- Proofs of amqp_wire cite `reaches_on`.
+-- Lemmas for `Pending::fill_from` and `Values::read_value`: reads from a `Source`, and the bytes
+-- that each puts after those before. Proofs of amqp_wire cite `reaches_on`.
 use Rattle.std.proofs.Common.{◌≡◌, ◌+◌, ◌≤◌, ℕ, zero, suc, List, [], ◌∷◌, ◌++◌, length, take, drop, ap, ◌∙◌, arith, Result, Ok, Err, sym, subst, IfOk, append_assoc}
 use Rattle.std.proofs.lemmas.List.{length-take-le}
 use Rattle.std.specs.declared.io.ErrorKind.{ErrorKind}

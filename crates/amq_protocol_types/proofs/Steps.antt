@@ -1,4 +1,5 @@
--- Lemmas on writes that follow one another, most of them to a buffer.
+-- Lemmas on `Writes`, most of them for a buffer: two calls that follow one another write the bytes
+-- of both, or the second fails and those of the first are taken back.
 use Rattle.std.proofs.Common.{◌≡◌, ℕ, ◌+◌, ◌-◌, ◌^◌, ◌<◌, ◌≤◌, inl, inr, Bool, true, IfSome, OnOk, Result, Ok, Err, List, [], ◌++◌, length, take, drop, replicate, refl, sym, ap, ◌∙◌, subst, arith, length-append}
 use Rattle.std.specs.Option.{option_map}
 use Rattle.std.specs.Io.KnownBytes.{Appends}

@@ -1,4 +1,4 @@
--- The body of a table, as it is read: the entries so far, also while they are gathered, and what is left.
+-- `TableBodyRead`, what holds while `parse_table_body` reads: the entries so far, and what is left.
 use Rattle.std.proofs.Common.{◌≡◌, ℕ, List, [], ◌∷◌, ◌++◌, refl, ◌<◌, ◌≤◌, length, sym, ◌∙◌, ap, subst, arith, length-append}
 use Rattle.std.proofs.lemmas.List.{nil_from_length}
 use Rattle.amqp_value_core.specs.declared.value.AMQPValue.{AMQPValue}

@@ -1,4 +1,4 @@
--- A value after its type tag.
+-- Lemmas on reading a value with its type tag: it results in what reading its payload does.
 use Rattle.std.proofs.Common.{◌-◌, length, IfOk, ◌≡◌, ◌∙◌, ℕ, List, None, Some, Result, Ok, Err, MatchResult, sym, subst}
 use Rattle.amqp_value_core.specs.declared.types.amqp_type.AMQPType.{AMQPType}
 use Rattle.amqp_value_core.specs.declared.types.amqp_type.AMQPType.TheVariants as amqp

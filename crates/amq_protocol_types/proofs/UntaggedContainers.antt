@@ -1,4 +1,5 @@
--- Arrays and tables without their type tag, within limits: what their parsers return.
+-- Lemmas for `parse_field_array_within` and `parse_field_table_within`: a container without its
+-- type tag is read as the same bytes after the tag are.
 use Rattle.std.proofs.Common.{◌≡◌, ◌<◌, ◌≤◌, ℕ, suc, List, ◌++◌, Option, Some, Result, Ok, Err, MatchResult, ap, subst, arith}
 use Rattle.amqp_value_core.specs.declared.types.amqp_type.AMQPType.{AMQPType}
 use Rattle.amqp_value_core.specs.Ids.{kind, id_of}

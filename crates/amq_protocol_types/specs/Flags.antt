@@ -1,4 +1,4 @@
--- Flags: names with booleans, and the bits that denote these.
+-- `Flag`, a name with a boolean, and `pack` and `unpack`: the bytes whose bits are the booleans.
 use Rattle.std.specs.Prelude.{ℕ, zero, suc, ◌+◌, ◌*◌, ◌/◌, ◌%◌, ◌<◌, ◌≤◌, ◌-◌, ◌==◌, ◌≡◌, Bool, Option, Some, None, String, string_bytes, List, [], ◌∷◌, ◌++◌, length, take, drop, map, slice_index, if◌then◌else◌}
 use Rattle.std.specs.declared.alloc.Global.{Global}
 use Rattle.std.specs.Int.{bit_at}

@@ -1,4 +1,4 @@
--- What writing does.
+-- What writing does to an output, and what is promised of a value that was written.
 
 -- what an output is viewed as, and what each call does to that (33 lines)
 pub mod Outputs

@@ -1,5 +1,5 @@
-//! [`Error`] holds any of this crate's errors: those of parsers (`parsing/errors.rt`), of generators
-//! (`generation/error.rt`) and of readers of values (`stream/error.rt`), and those of strings.
+//! [`Error`] holds any error of this crate: a [`ParserError`] (`parsing/errors.rt`), a [`GenError`]
+//! (`generation/error.rt`), a [`StreamError`] (`stream/error.rt`), a string's or an allocation's.
 
 use crate::generation::GenError;
 use crate::parsing::ParserError;

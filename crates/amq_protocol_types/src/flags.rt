@@ -1,4 +1,5 @@
-//! Flags: named booleans, packed eight to a byte as in AMQP's method arguments.
+//! [`AMQPFlags`]: named booleans, packed eight to a byte as in AMQP's method arguments.
+//! `parsing/flags.rt` and `generation/flags.rt` parse and write them.
 
 ghost use Rattle.std.specs.Prelude.{◌≡◌, ◌<◌, ◌≤◌, ◌++◌, ◌∷◌, [], map, length, string_bytes, IfOk, OnOk, OnErr};
 ghost use Rattle.amq_protocol_types.specs.Flags.{listed, flags_of, values_of, flag_named, number_of, pack, unpack};

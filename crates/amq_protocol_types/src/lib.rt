@@ -33,6 +33,9 @@
 //!
 //! `CALLING.md` has the public contracts and a proved caller, `crates/examples` complete programs.
 //!
+//! The rows of `crates/test_calls/data` test the calls, and `crates/test_codec` what no row can say.
+//! `tests/memory` tests them with allocations that fail and with large input.
+//!
 //! What comes in, through which modules, and what comes out:
 //!
 //! ```text

@@ -1,4 +1,5 @@
--- What a buffer's calls do to it: bytes, capacity, truncation, and a length that is filled in.
+-- What the methods of `Output` and `BackToTheBuffer` do: `AppendsBytes` is about `put`,
+-- `PromisesCapacity` about `make_room`, `filled` about `fill`, and `TruncatesTo` about `back_to`.
 use Rattle.std.specs.Prelude.{ℕ, ◌≡◌, ◌+◌, ◌-◌, ◌^◌, ◌<◌, ◌≤◌, ⊤, Bool, IsTrue, Some, IsSome, IfSome, Result, Ok, Err, IsOk, IfErr, OnOk, OnErr, IsErrOf, List, ◌++◌, length, take, drop}
 use Rattle.std.specs.Option.{option_map}
 use Rattle.std.specs.Int.{w32, to_be_bytes}

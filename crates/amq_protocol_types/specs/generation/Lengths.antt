@@ -1,4 +1,5 @@
--- What calls put, and its length before it.
+-- What `gen_with_len` does: `AppendsWithLength` or `RefusesWithLength`; and `OnlyAppends`, which is
+-- what its closure must do.
 use Rattle.std.specs.Prelude.{ℕ, ◌≡◌, ◌+◌, ◌^◌, ◌<◌, ◌≤◌, ◌⊎◌, ⊤, true, List, length, drop, replicate, Result, Ok, Err, OnOk}
 use Rattle.std.specs.Int.{w32, to_be_bytes}
 use Rattle.std.specs.Io.KnownBytes.{Appends}

@@ -1,4 +1,5 @@
--- What a slice, a vector and a device are viewed as, as outputs.
+-- `seen_slice`, `seen_vector` and `seen_device`: the `OutputState` that a slice, a `Vec` or a
+-- device is viewed as.
 use Rattle.std.specs.Prelude.{ℕ, List, Some, length, ◌-◌, [], None, Vec, ◌≡◌, ◌+◌, ◌^◌, ◌≤◌, ◌⊎◌, Option, Result, Err, OnOk, IfErr, min}
 use Rattle.std.specs.Vec.{vec_len, vec_capacity}
 use Rattle.std.specs.declared.io.ErrorKind.{ErrorKind}

@@ -1,4 +1,4 @@
--- Outputs: what they are viewed as, and what each call does to that.
+-- `OutputState`, which each output is viewed as, and `Writes`, what a generator does to it.
 use Rattle.std.specs.Prelude.{ℕ, ◌≡◌, ◌+◌, ◌-◌, ◌^◌, ◌<◌, ◌≤◌, ◌⊎◌, Bool, IsTrue, Option, Some, IsSome, IfSome, Result, IsOk, IfErr, OnOk, OnErr, List, length, drop}
 use Rattle.std.specs.Option.{option_map}
 use Rattle.std.specs.declared.io.ErrorKind.{ErrorKind}

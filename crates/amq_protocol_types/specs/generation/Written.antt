@@ -1,4 +1,5 @@
--- What is promised of a value that was read, and of one that was written.
+-- What generators of values promise beyond `Writes`: a value that was read fits in as many bytes,
+-- and what is written is canonical and read back.
 use Rattle.std.specs.Prelude.{ℕ, ◌≤◌, List, ◌++◌, length, Result, IsOk, IsErrOf}
 use Rattle.std.specs.Option.{IfSome}
 use Rattle.amqp_value_core.specs.Values.{Tree}

@@ -1,5 +1,5 @@
--- What reading a container returns on its way: a length-prefixed field, its body's entries, and pairs
--- that are gathered.
+-- What the steps of reading a container return (`parse_length_prefixed`, `parse_array_body`,
+-- `parse_table_body`), and what the pairs in a `TableBuilder` mean.
 use Rattle.std.specs.Prelude.{ℕ, ◌<◌, ◌^◌, ◌≡◌, List, ◌++◌, length}
 use Rattle.std.specs.Int.{w32}
 use Rattle.amqp_value_core.specs.Values.{Trees, Entries, no_entries}

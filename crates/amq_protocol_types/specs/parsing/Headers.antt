@@ -1,4 +1,5 @@
--- What the type tag and the length field of a value determine, whatever has come after them.
+-- What a value's type tag and length field determine: its `extent`, how many bytes it has at least,
+-- and `wanted`, how many more the field that is being read needs.
 use Rattle.std.specs.Prelude.{ℕ, suc, ◌+◌, ◌<◌, ◌≤◌, ◌≡◌, Option, Some, None, MatchOption, List, [], ◌∷◌, length, take, nat_lt, if◌then◌else◌}
 use Rattle.std.specs.Int.{Width, byte_len}
 use Rattle.amqp_value_core.specs.declared.types.amqp_type.AMQPType.{AMQPType}

@@ -1,4 +1,5 @@
--- Reading within the limits `frame` and `depth`.
+-- `Within`: reading within the limits `frame`, on bytes, and `depth`, on nesting. `RefusesWithin`
+-- is about the errors, and `LawsWithin` has the laws.
 use Rattle.std.specs.Prelude.{ℕ, ◌<◌, ◌≤◌, ◌≡◌, ◌/◌, ◌↔◌, IsTrue, List, ◌++◌, length}
 use Rattle.amqp_value_core.specs.Values.{Tree, readable, depth}
 use Rattle.amqp_value_core.specs.Grammar.{Wire}

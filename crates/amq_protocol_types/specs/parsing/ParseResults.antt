@@ -1,4 +1,5 @@
--- What the parsers return.
+-- Which errors parsers may return (`Refuses` for `parse_value`, `RefusesAs` and `IsRefusal` for any
+-- parser), that reading has one outcome, and what more bytes change.
 use Rattle.std.specs.Prelude.{ℕ, ◌≡◌, List, ◌++◌}
 use Rattle.amqp_value_core.specs.Outcomes.{Reading, more, unknown, malformed, Outcome, Heavy, StillWaits, with_more}
 use Rattle.amq_protocol_types.specs.declared.parsing.errors.Err.TheVariants.{Incomplete, Error, Failure}

@@ -1,4 +1,5 @@
--- What the parsers of one type return, and those of types of fixed width.
+-- What the parsers of one type return: `ReadsNumber` and `ReadsScalar` for types of fixed width,
+-- `IsType` for a type tag, and `RawRefuses` for errors of any payload.
 use Rattle.std.specs.Prelude.{ℕ, ◌<◌, ◌-◌, ◌≡◌, Some, None, List, [], ◌∷◌, ◌++◌, length, Result, MatchResult}
 use Rattle.std.specs.Int.{Width, byte_len, to_be_bytes}
 use Rattle.amqp_value_core.specs.declared.types.amqp_type.AMQPType.{AMQPType}

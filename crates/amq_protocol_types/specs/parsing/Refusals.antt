@@ -1,4 +1,4 @@
--- The errors of parsers. A `ParserErrors` is viewed as its kind.
+-- `Refusal`: a `ParserError` as contracts view it, with the kind of its `ParserErrors`.
 use Rattle.std.specs.Prelude.{ℕ, List, codes}
 use Rattle.amq_protocol_types.specs.declared.parsing.errors.Err.{Err}
 use Rattle.amq_protocol_types.specs.declared.parsing.errors.Err.TheVariants.{Incomplete, Error, Failure}

@@ -1,4 +1,5 @@
--- Arrays and tables without their type tag, as AMQP's methods and content headers have tables.
+-- `UntaggedWithin`: reading an array or a table without its type tag within limits. AMQP's methods
+-- and content headers have such tables.
 use Rattle.std.specs.Prelude.{ℕ, ◌<◌, ◌≤◌, ◌≡◌, ◌↔◌, IsTrue, List, ◌∷◌, ◌++◌}
 use Rattle.amqp_value_core.specs.declared.types.amqp_type.AMQPType.{AMQPType}
 use Rattle.amqp_value_core.specs.Ids.{id_of}

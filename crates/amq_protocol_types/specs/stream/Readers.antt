@@ -1,4 +1,4 @@
--- What readers of values retain and return.
+-- `ReadsNext`: what a call for the next value of a `ValueReader` or `Values` returns and retains.
 use Rattle.std.specs.Prelude.{ℕ, ◌<◌, ◌≤◌, ◌≡◌, ◌++◌, Bool, true, false, Option, Some, None, IfSome, Result, Ok, Err, List, [], length}
 use Rattle.std.specs.Io.KnownBytes.{Consumes, IsAtEnd}
 use Rattle.amq_protocol_types.specs.declared.stream.error.StreamError.{StreamError}

@@ -1,4 +1,5 @@
--- Calls of a source, one after another, and the faults after which reading can go on.
+-- Calls of a `Source`, one after another (`SourceReaches`), and how its errors are passed on
+-- (`KeepsKind`).
 use Rattle.std.specs.Prelude.{◌≡◌, ◌≤◌, ◌++◌, ℕ, List, length, Result, Err}
 use Rattle.std.specs.declared.io.ErrorKind.{ErrorKind}
 use Rattle.std.specs.Io.KnownBytes.{Consumes}

@@ -1,4 +1,5 @@
-//! What follows from the definitions for all flags.
+//! Laws of packed flags, [`flags_are_bits`] and [`flags_are_unpacked`]: where the bit of each flag
+//! is, and that unpacking returns the flags that were packed.
 //!
 //! Nothing here does anything when it runs: the contracts are the laws.
 

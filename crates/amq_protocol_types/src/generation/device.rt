@@ -1,4 +1,5 @@
-//! An `io::Write` as an output; the rows of `crates/test_calls/data/outputs.calls` test it.
+//! [`IoOutput`] makes an [`Output`] of an `io::Write`. It isn't a buffer: what was written stays.
+//! The rows of `crates/test_calls/data/outputs.calls` test it.
 
 ghost use Rattle.std.specs.Prelude.{◌≡◌, length, false, IsOk};
 ghost use Rattle.amq_protocol_types.specs.generation.BufferOutput.{AppendsBytes, PromisesCapacity};

@@ -1,4 +1,5 @@
-//! The error of generators and of outputs. `src/errors.rt` has the one that holds any error of this crate.
+//! [`GenError`], the error of generators and outputs: no capacity, a length that is too long, no
+//! memory, or a device's fault. `crate::Error` (`src/errors.rt`) holds any error of this crate.
 
 use std::io::ErrorKind;
 use thiserror::Error;

@@ -1,4 +1,4 @@
-//! The generator of flags.
+//! [`gen_flags`] writes the flags of an [`AMQPFlags`] (`src/flags.rt`), eight to a byte.
 
 ghost use Rattle.std.specs.Prelude.{⊤};
 ghost use Rattle.amq_protocol_types.specs.generation.Outputs.{Writes};

@@ -1,4 +1,5 @@
-//! The traits of outputs: what a generator writes to, and a buffer that can take bytes back.
+//! [`Output`], the trait of what generators write to, and [`BackToTheBuffer`], the trait of a
+//! buffer, whose bytes can be changed or taken back.
 
 ghost use Rattle.std.specs.Prelude.{◌≡◌, ◌+◌, ◌≤◌, Bool, true, ⊤, IfOk, length, replicate};
 ghost use Rattle.amq_protocol_types.specs.generation.Outputs.{OutputState, Writes};

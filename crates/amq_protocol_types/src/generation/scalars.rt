@@ -1,4 +1,5 @@
-//! Generators of scalars.
+//! Generators of type tags ([`gen_type`]) and of payloads of fixed width: booleans, numbers,
+//! decimals, timestamps.
 
 ghost use Rattle.std.specs.Prelude.{[], ◌∷◌};
 ghost use Rattle.std.specs.Int.{w8, w16, w32, w64, to_be_bytes, cast_unsigned};

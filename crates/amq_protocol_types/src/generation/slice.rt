@@ -1,4 +1,4 @@
-//! A slice as an output, whose capacity is fixed.
+//! [`SliceOutput`]: a slice as an [`Output`], whose capacity is fixed.
 
 ghost use Rattle.std.specs.Prelude.{◌≡◌, []};
 ghost use Rattle.amq_protocol_types.specs.generation.OutputViews.{seen_slice};

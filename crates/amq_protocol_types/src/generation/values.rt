@@ -1,4 +1,5 @@
-//! Generators of values and of containers.
+//! [`gen_value`] and [`gen_raw_value`], which write a value with and without its type tag, and the
+//! generators of arrays and tables. `scalars.rt` and `strings.rt` write all other payloads.
 
 ghost use Rattle.std.specs.Prelude.{◌+◌, ◌≤◌, ℕ, List, ◌++◌, true, OnOk};
 ghost use Rattle.amqp_value_core.specs.Values.{array, table};

@@ -1,4 +1,4 @@
-//! A `Vec<u8>` as an output, which grows.
+//! A `Vec<u8>` as an [`Output`], whose capacity grows.
 
 ghost use Rattle.std.specs.Prelude.{◌≡◌, ◌+◌, ⊤, true, IfOk, IfErr, length, replicate};
 ghost use Rattle.amq_protocol_types.specs.generation.BufferOutput.{AppendsBytes, PromisesCapacity, outcome_of};

@@ -1,4 +1,5 @@
-//! A length in four bytes before what a closure writes; `crates/test_codec/src/closures.rt` tests it.
+//! [`gen_with_len`] writes a length in four bytes before what a closure writes.
+//! `crates/test_codec/src/closures.rt` tests it.
 
 ghost use Rattle.std.specs.Prelude.{◌≡◌, Result, OnOk, OnErr, IfErr};
 ghost use Rattle.std.specs.Fn.{FnOnceReturnsAtMut};

@@ -1,4 +1,5 @@
-//! Copies of an input's bytes.
+//! [`copy_of`] copies all bytes of an input into one `Vec`, chunk by chunk if they aren't
+//! contiguous.
 
 ghost use Rattle.std.specs.Prelude.{◌≡◌, ◌<◌, IfOk, OnErr, length};
 

@@ -1,5 +1,5 @@
-//! The errors of parsers, which tell input that may still become a value from input that can't. `src/errors.rt`
-//! has the one that holds any error of this crate.
+//! [`ParserError`], the error of parsers: more bytes are needed, the input is malformed, or an
+//! allocation failed. `crate::Error` (`src/errors.rt`) holds any error of this crate.
 
 ghost use Rattle.std.specs.Prelude.{◌≡◌, Some};
 ghost use Rattle.amq_protocol_types.specs.parsing.Refusals.{lacks, error_of_kind, out_of_memory, inside};

@@ -1,4 +1,4 @@
-//! The parser of flags.
+//! [`parse_flags`] reads an [`AMQPFlags`] (`src/flags.rt`) from packed bytes, by the flags' names.
 
 ghost use Rattle.std.specs.Prelude.{MatchResult, map, length};
 ghost use Rattle.amq_protocol_types.specs.parsing.ParseResults.{IsRefusal};

@@ -1,4 +1,5 @@
-//! What a value's type tag and length determine.
+//! [`header_of`] and [`value_len`]: how many bytes a value has at least, by its type tag and length
+//! field, and whether they are all there. Nothing else of the value is read.
 
 ghost use Rattle.std.specs.Prelude.{◌≡◌, ◌≢◌, ◌<◌, ◌≤◌, ◌+◌, None, option_map};
 ghost use Rattle.std.specs.Int.{w32};

@@ -1,4 +1,5 @@
-//! Building a table of pairs: few are inserted one by one, many are collected first.
+//! [`TableBuilder`], into which `parse_table_body` (`values.rt`) puts pairs: few are inserted into
+//! a table one by one, many are collected first.
 
 ghost use Rattle.std.specs.Prelude.{◌≡◌, ◌≤◌, IfOk, OnOk, length};
 ghost use Rattle.amqp_value_core.specs.Values.{no_entries};

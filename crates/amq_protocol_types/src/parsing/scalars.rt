@@ -1,4 +1,5 @@
-//! Parsers that don't allocate.
+//! Parsers of type tags ([`parse_type`]) and of payloads of fixed width: booleans, numbers,
+//! decimals, timestamps. They don't allocate.
 
 ghost use Rattle.std.specs.Prelude.{◌≡◌, Some, IfOk, MatchResult};
 ghost use Rattle.std.specs.Int.{w8, w16, w32, w64, cast_unsigned};

@@ -1,4 +1,5 @@
-//! Parsers of values and of containers.
+//! [`parse_value`], and parsers of payloads, arrays and tables. `within.rt` and `stream/values.rt`
+//! call those that take a depth, such as [`value_within`].
 
 ghost use Rattle.std.specs.Prelude.{◌≡◌, ◌≢◌, ◌<◌, ◌-◌, MatchResult, IfOk, length};
 ghost use Rattle.amqp_value_core.specs.Values.{array, table};

@@ -1,5 +1,5 @@
-//! Parsing within [`Limits`]: of bytes and of levels, and a call takes them. Those of the Rust crates
-//! (`bindings/rust`) also count values.
+//! [`parse_value_within`] and the same for arrays and tables: parsing within [`Limits`] on bytes
+//! and nesting, which each call takes. Two other `Limits`, in `bindings/rust`, also count values.
 
 ghost use Rattle.std.specs.Prelude.{suc, ◌≡◌, ◌-◌, ◌≤◌, length, MatchResult, IfOk};
 ghost use Rattle.amqp_value_core.specs.Bytes.{IsBytes};

@@ -1,5 +1,5 @@
-//! The error of readers of values: that of a parser, or that of the reader. `src/errors.rt` has the one
-//! that holds any error of this crate.
+//! [`StreamError`], the error of a `ValueReader` or `Values`: a parser's, a truncated value, or the
+//! reader's own. `crate::Error` (`src/errors.rt`) holds any error of this crate.
 
 use crate::parsing::ParserErrors;
 use std::alloc::AllocError;

@@ -1,4 +1,5 @@
-//! The bytes of a value that isn't complete.
+//! [`Pending`], the buffer of a `Values` (`values.rt`): the bytes that have come of a value that
+//! isn't complete yet.
 
 ghost use Rattle.std.specs.Prelude.{◌≡◌, ◌<◌, ◌≤◌, ◌+◌, ℕ, List, [], length, take, drop, max, min, vec_len, vec_capacity, IfOk, OnOk, OnErr, IfErr};
 ghost use Rattle.std.specs.Io.KnownBytes.{Keeps, IsAtEnd};

@@ -1,4 +1,5 @@
-//! A reader of values.
+//! [`ValueReader`] holds a reader, and reads one value after another from it. Its `next` only calls
+//! `next_from` of the [`Values`] (`values.rt`) in it. Both types are public.
 
 ghost use Rattle.std.specs.Prelude.{◌≡◌, ◌<◌, false, []};
 ghost use Rattle.amq_protocol_types.specs.stream.Readers.{values_of, reader_of, kept, has_failed, limits_of, ReadsNext};

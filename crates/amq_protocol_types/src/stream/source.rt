@@ -1,4 +1,5 @@
-//! What values are read from.
+//! [`Source`], the trait of readers that values are read from. Each `Read` is one. Unlike `Read`,
+//! `Source` has clauses about the errors that a reader returns.
 
 ghost use Rattle.std.specs.Prelude.{ℕ, List, Option, ⊤, IfErr, OnOk};
 ghost use Rattle.std.specs.Io.{ReadsAtMost};

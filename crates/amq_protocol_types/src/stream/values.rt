@@ -1,4 +1,5 @@
-//! Values from a reader, one after another.
+//! [`Values`] reads one value after another from the reader that each call is passed. It does the
+//! work of a `ValueReader` (`reader.rt`), which holds a `Values` and a reader.
 
 ghost use Rattle.std.specs.Prelude.{◌≡◌, ◌<◌, ◌≤◌, false, []};
 ghost use Rattle.std.proofs.Props.{props};

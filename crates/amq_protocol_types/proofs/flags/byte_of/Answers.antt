@@ -1,4 +1,4 @@
--- Proofs of the goals of `byte_of` that tactics don't close.
+-- `byte_of`: flag i adds 2 ^ i if it is set, as in `number_of`, and the sum is below 2 ^ (i + 1).
 use Rattle.std.proofs.Common.{arith}
 use Rattle.amq_protocol_types.proofs.FlagBits.{next_bit, bit_fits}
 use Rattle.amq_protocol_types.proofs.flags.byte_of.Goals as goal

@@ -1,4 +1,4 @@
--- The invariant of the loop of `byte_of`.
+-- Of the loop in `byte_of`: the byte is the number of the first i flags, which is below 2 ^ i.
 use Rattle.std.proofs.Common.{◌≡◌, ◌<◌, ◌^◌, take}
 use Rattle.amq_protocol_types.specs.Flags.{listed, values_of, number_of}
 use Rattle.amq_protocol_types.proofs.flags.byte_of.Given as goal

@@ -1,4 +1,4 @@
--- The invariant of the loop of `AMQPFlags::clone`.
+-- Of the loop in `AMQPFlags::clone`: the copy has the flags so far, in order.
 use Rattle.std.proofs.Common.{◌≡◌, take}
 use Rattle.amq_protocol_types.specs.Flags.{listed, flags_of}
 use Rattle.amq_protocol_types.proofs.flags.AMQPFlags.clone.Given as goal

@@ -1,4 +1,5 @@
--- Proofs of the goals of `AMQPFlags::from_bytes` that tactics don't close.
+-- `AMQPFlags::from_bytes`: each step adds the next flag of `unpack`, and all are there once the
+-- names or the bytes end. An allocation can fail only if there is a flag.
 use Rattle.std.proofs.Common.{string_bytes, arith, rules}
 use Rattle.amq_protocol_types.specs.Flags.{flags_of}
 use Rattle.amq_protocol_types.proofs.FlagBits.{next_flag, all_unpacked, some_flag}

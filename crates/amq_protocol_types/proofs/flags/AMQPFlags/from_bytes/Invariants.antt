@@ -1,4 +1,4 @@
--- The invariant of the loop of `AMQPFlags::from_bytes`.
+-- Of the loop in `AMQPFlags::from_bytes`: the flags so far are the first ones of `unpack`.
 use Rattle.std.proofs.Common.{◌≡◌, map, take}
 use Rattle.amq_protocol_types.specs.Flags.{flags_of, unpack}
 use Rattle.amq_protocol_types.proofs.flags.AMQPFlags.from_bytes.Given as goal

@@ -1,4 +1,5 @@
--- Proofs of the goals of `AMQPFlags::get_bytes` that tactics don't close.
+-- `AMQPFlags::get_bytes`: the next eight flags are one byte of `pack`, and the flags left are the
+-- bytes after it.
 use Rattle.std.proofs.Common.{◌∷◌, [], ◌++◌, ap, sym, ◌∙◌, append_assoc}
 use Rattle.std.specs.Slice.Iter.{chunks_rest}
 use Rattle.amq_protocol_types.specs.Flags.{listed, values_of, pack}

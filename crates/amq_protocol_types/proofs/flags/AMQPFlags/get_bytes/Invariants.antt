@@ -1,4 +1,5 @@
--- The invariant of the loop of `AMQPFlags::get_bytes`.
+-- Of the loop in `AMQPFlags::get_bytes`: the bytes so far, then `pack` of the flags left, are
+-- `pack` of all flags.
 use Rattle.std.proofs.Common.{◌≡◌, ◌++◌}
 use Rattle.std.specs.Slice.Iter.{chunks_rest, chunks_size}
 use Rattle.amq_protocol_types.specs.Flags.{listed, values_of, pack}

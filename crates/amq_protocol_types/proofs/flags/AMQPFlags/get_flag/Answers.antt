@@ -1,4 +1,5 @@
--- Proofs of the goals of `AMQPFlags::get_flag` that tactics don't close.
+-- `AMQPFlags::get_flag` finds the first flag of the name: a flag of another name doesn't decide,
+-- and the flags after it do.
 use Rattle.std.proofs.Common.{true, false, sym, ◌∙◌, ap}
 use Rattle.amqp_value_core.specs.Maps.{same_bytes}
 use Rattle.amq_protocol_types.specs.Flags.{listed, flag_named}

@@ -1,4 +1,4 @@
--- The invariant of the loop of `AMQPFlags::get_flag`.
+-- Of the loop in `AMQPFlags::get_flag`: `flag_named` finds in the flags left what it finds in all.
 use Rattle.std.proofs.Common.{◌≡◌, drop}
 use Rattle.amq_protocol_types.specs.Flags.{listed, flag_named}
 use Rattle.amq_protocol_types.proofs.flags.AMQPFlags.get_flag.Given as goal

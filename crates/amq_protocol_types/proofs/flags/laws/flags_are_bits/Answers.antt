@@ -1,3 +1,4 @@
+-- `flags_are_bits`: each byte of `pack` is the number of its eight booleans, so they are its bits.
 use Rattle.amq_protocol_types.proofs.FlagBits.{flag_is_bit, left_over, length_pack}
 use Rattle.amq_protocol_types.proofs.flags.laws.flags_are_bits.Goals as goal
 

@@ -1,4 +1,5 @@
--- Proofs of the goals of `gen_flags` that tactics don't close.
+-- `gen_flags`: the bytes put one by one are `pack` of the flags. A buffer promised capacity for
+-- all, so only another output can fail midway.
 use Rattle.std.proofs.Common.{◌≡◌, [], ◌∷◌, ◌++◌, length, refl, ap, sym, ◌∙◌, append_assoc, rules}
 use Rattle.std.proofs.lemmas.Result.{err_from_is_err_and}
 use Rattle.std.specs.Slice.Iter.{chunks_rest}

@@ -1,4 +1,5 @@
--- The invariant of the loop of `gen_flags`.
+-- Of the loop in `gen_flags`: the bytes put so far, then `pack` of the flags left, are `pack` of
+-- all flags.
 use Rattle.std.proofs.Common.{◌≡◌, ◌++◌, List, ℕ, length}
 use Rattle.std.specs.Slice.Iter.{chunks_rest, chunks_size}
 use Rattle.amq_protocol_types.specs.generation.Contexts.{start_of, state_of}

@@ -1,4 +1,5 @@
--- Proofs of the goals of the functions of the cycle `values` that tactics don't close.
+-- Writing values, arrays, tables and entries (the cycle `values`): the parts put one after another
+-- are the canonical encoding, and after an error those before it were taken back.
 use Rattle.std.proofs.Common.{◌++◌, sym, ap, ◌∙◌, arith}
 use Rattle.amqp_value_core.specs.View.{view}
 use Rattle.amqp_value_core.specs.Grammar.{short_field}

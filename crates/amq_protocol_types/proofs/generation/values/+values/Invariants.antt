@@ -1,4 +1,5 @@
--- The invariants of the loops of the functions of the cycle `values`.
+-- Of the loops in `gen_field_array` and `gen_field_table`: the encodings of the values or entries
+-- so far were put after four reserved bytes.
 use Rattle.std.proofs.Common.{◌≡◌, true, Ok, take, replicate, ◌++◌}
 use Rattle.amqp_value_core.specs.Containers.{array_items, trees, table_entries}
 use Rattle.amqp_value_core.specs.Texts.{body, AllFit}

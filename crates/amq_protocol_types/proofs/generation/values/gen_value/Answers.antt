@@ -1,4 +1,5 @@
--- Proofs of the goals of `gen_value` that tactics don't close.
+-- `gen_value`: `write_value` wrote the canonical encoding, which is shortest, unique, and read back
+-- as the value. So it fits in as many bytes as the value was read from.
 use Rattle.amqp_value_core.specs.View.{view}
 use Rattle.amqp_value_core.proofs.GrammarLaws.{is_shortest, injective}
 use Rattle.amq_protocol_types.proofs.ReadBack.{written, writes_what_was_read}

@@ -1,4 +1,5 @@
--- `o` shows that the call of f only appended.
+-- `gen_with_len`: four reserved bytes are filled with the length of what the closure appended, or
+-- all is taken back. `o` shows that the call of f only appended.
 use Rattle.std.proofs.Common.{refl, inl, inr, arith}
 use Rattle.amq_protocol_types.proofs.Lengths.{refusal_appends, taken_back, put_with_length, too_long, all_back, length_appends, after}
 use Rattle.amq_protocol_types.proofs.generation.with_len.gen_with_len.Goals as goal

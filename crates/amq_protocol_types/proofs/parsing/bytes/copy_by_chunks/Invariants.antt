@@ -1,4 +1,4 @@
--- The invariant of the loop of `copy_by_chunks`.
+-- Of the loop in `copy_by_chunks`: the bytes copied, and then those left, are the input's.
 use Rattle.std.proofs.Common.{◌≡◌, ◌++◌, length}
 use Rattle.amq_protocol_types.proofs.parsing.bytes.copy_by_chunks.Given as goal
 

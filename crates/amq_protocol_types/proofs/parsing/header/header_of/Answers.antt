@@ -1,3 +1,5 @@
+-- `header_of` returns `Unknown` if the first byte is no type tag: reading results in `unknown`, and
+-- the `extent` is 0, within any limit.
 use Rattle.std.proofs.Common.{arith}
 use Rattle.amq_protocol_types.proofs.Refusals.{no_type_unknown}
 use Rattle.amq_protocol_types.proofs.parsing.header.header_of.Goals as goal

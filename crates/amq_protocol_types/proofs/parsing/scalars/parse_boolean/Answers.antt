@@ -1,3 +1,4 @@
+-- The byte that `parse_boolean` reads is a payload of width 1, whose number decides the boolean.
 use Rattle.std.proofs.Common.{arith}
 use Rattle.amq_protocol_types.proofs.Payloads.{WidthReadsBack-8, boolean_found}
 use Rattle.amq_protocol_types.proofs.parsing.scalars.parse_boolean.Goals as goal

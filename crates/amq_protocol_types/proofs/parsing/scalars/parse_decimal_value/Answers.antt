@@ -1,3 +1,5 @@
+-- The five bytes that `parse_decimal_value` reads are a decimal's payload: one for the scale, then
+-- four for the number. Both numbers are read back from their bytes.
 use Rattle.std.proofs.Common.{arith}
 use Rattle.amq_protocol_types.proofs.Payloads.{WidthReadsBack-8, WidthReadsBack-32, decimal_found}
 use Rattle.amq_protocol_types.proofs.parsing.scalars.parse_decimal_value.Goals as goal

@@ -1,3 +1,4 @@
+-- The eight bytes that `parse_double` reads are a `Double`'s payload: `from_bits` keeps their bits.
 use Rattle.std.proofs.Common.{refl, arith}
 use Rattle.std.specs.Int.{w64}
 use Rattle.amqp_value_core.specs.declared.types.amqp_type.AMQPType.TheVariants as amqp

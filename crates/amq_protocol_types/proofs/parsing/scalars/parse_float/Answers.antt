@@ -1,3 +1,4 @@
+-- The four bytes that `parse_float` reads are a `Float`'s payload: `from_bits` keeps their bits.
 use Rattle.std.proofs.Common.{refl, arith}
 use Rattle.std.specs.Int.{w32}
 use Rattle.amqp_value_core.specs.declared.types.amqp_type.AMQPType.TheVariants as amqp

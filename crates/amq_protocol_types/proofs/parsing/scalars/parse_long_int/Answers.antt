@@ -1,3 +1,5 @@
+-- The four bytes that `parse_long_int` reads are a `LongInt`'s payload: the cast to a signed number
+-- keeps their bits.
 use Rattle.std.proofs.Common.{refl, arith}
 use Rattle.std.specs.Int.{w32}
 use Rattle.std.proofs.lemmas.Int.{of_z-to_z}

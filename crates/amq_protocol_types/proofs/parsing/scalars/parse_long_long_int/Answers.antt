@@ -1,3 +1,5 @@
+-- The eight bytes that `parse_long_long_int` reads are a `LongLongInt`'s payload: the cast to a
+-- signed number keeps their bits.
 use Rattle.std.proofs.Common.{refl, arith}
 use Rattle.std.specs.Int.{w64}
 use Rattle.std.proofs.lemmas.Int.{of_z-to_z}

@@ -1,4 +1,5 @@
--- Proofs of the goals of `parse_long_uint` that tactics don't close.
+-- The four bytes that `parse_long_uint` reads are a `LongUInt`'s payload: a number below 2 ^ 32 is
+-- read back from its bytes.
 use Rattle.std.proofs.Common.{refl, arith, rules}
 use Rattle.std.specs.Int.{w32}
 use Rattle.amqp_value_core.specs.declared.types.amqp_type.AMQPType.TheVariants as amqp

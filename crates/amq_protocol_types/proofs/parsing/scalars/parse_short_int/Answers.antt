@@ -1,3 +1,5 @@
+-- The two bytes that `parse_short_int` reads are a `ShortInt`'s payload: the cast to a signed
+-- number keeps their bits.
 use Rattle.std.proofs.Common.{refl, arith}
 use Rattle.std.specs.Int.{w16}
 use Rattle.std.proofs.lemmas.Int.{of_z-to_z}

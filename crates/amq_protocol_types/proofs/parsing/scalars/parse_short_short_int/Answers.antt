@@ -1,3 +1,5 @@
+-- The byte that `parse_short_short_int` reads is a `ShortShortInt`'s payload: the cast to a signed
+-- number keeps its bits.
 use Rattle.std.proofs.Common.{refl, arith}
 use Rattle.std.specs.Int.{w8}
 use Rattle.std.proofs.lemmas.Int.{of_z-to_z}

@@ -1,4 +1,5 @@
--- Proofs of the goals of `parse_short_short_uint` that tactics don't close.
+-- The byte that `parse_short_short_uint` reads is a `ShortShortUInt`'s payload: a number below 256
+-- is read back from its byte.
 use Rattle.std.proofs.Common.{refl, arith, rules}
 use Rattle.std.specs.Int.{w8}
 use Rattle.amqp_value_core.specs.declared.types.amqp_type.AMQPType.TheVariants as amqp

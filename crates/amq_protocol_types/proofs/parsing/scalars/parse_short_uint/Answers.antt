@@ -1,4 +1,5 @@
--- Proofs of the goals of `parse_short_uint` that tactics don't close.
+-- The two bytes that `parse_short_uint` reads are a `ShortUInt`'s payload: a number below 2 ^ 16 is
+-- read back from its bytes.
 use Rattle.std.proofs.Common.{refl, arith, rules}
 use Rattle.std.specs.Int.{w16}
 use Rattle.amqp_value_core.specs.declared.types.amqp_type.AMQPType.TheVariants as amqp

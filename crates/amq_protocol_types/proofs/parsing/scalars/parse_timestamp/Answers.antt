@@ -1,3 +1,5 @@
+-- The eight bytes that `parse_timestamp` reads are a `Timestamp`'s payload: a number below 2 ^ 64
+-- is read back from its bytes.
 use Rattle.std.proofs.Common.{refl, arith}
 use Rattle.std.specs.Int.{w64}
 use Rattle.amqp_value_core.specs.declared.types.amqp_type.AMQPType.TheVariants as amqp

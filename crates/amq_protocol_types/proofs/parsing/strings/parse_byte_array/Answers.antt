@@ -1,3 +1,4 @@
+-- `parse_byte_array` copies what is after the length in a length-prefixed field: the byte array.
 use Rattle.amq_protocol_types.proofs.Frames.{octets_found}
 use Rattle.amq_protocol_types.proofs.parsing.strings.parse_byte_array.Goals as goal
 

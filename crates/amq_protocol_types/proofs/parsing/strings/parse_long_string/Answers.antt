@@ -1,3 +1,4 @@
+-- `parse_long_string` copies what is after the length in a length-prefixed field: the string.
 use Rattle.amq_protocol_types.proofs.Frames.{long_found}
 use Rattle.amq_protocol_types.proofs.parsing.strings.parse_long_string.Goals as goal
 

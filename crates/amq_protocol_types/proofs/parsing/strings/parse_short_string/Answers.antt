@@ -1,4 +1,5 @@
--- Proofs of the goals of `parse_short_string` that tactics don't close.
+-- `parse_short_string`: the bytes after the length, contiguous or joined, are the string if they
+-- are UTF-8. If they aren't, no prefix of the input is a short string.
 use Rattle.std.proofs.Common.{◌≡◌, length, take, ap, ◌∙◌, subst, rules, arith}
 use Rattle.std.proofs.lemmas.List.{length-take-le}
 use Rattle.std.proofs.lemmas.Result.{err_from_is_err_and}

@@ -1,4 +1,5 @@
--- Proofs of the goals of the functions of the cycle `parser` that tactics don't close.
+-- Reading values, payloads, arrays and tables (the cycle `parser`): a value has the outcome of its
+-- payload, and a container is read if all its entries are.
 use Rattle.std.proofs.Common.{◌≡◌, [], ◌∷◌, ◌++◌, sym, ap, subst, rules, arith, map}
 use Rattle.std.specs.Int.{w8, w16, w32, w64, cast_signed, cast_unsigned}
 use Rattle.std.proofs.lemmas.List.{map_push}

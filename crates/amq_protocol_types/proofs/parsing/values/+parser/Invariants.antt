@@ -1,4 +1,5 @@
--- The invariants of the loops of the functions of the cycle `parser`.
+-- Of the loops in `parse_array_body` and `parse_table_body`: the entries so far are those of the
+-- bytes that were read. Each call in the cycle `parser` has less to do than its caller.
 use Rattle.std.proofs.Common.{length, map, ◌+◌, ◌*◌}
 use Rattle.amqp_value_core.specs.View.{view}
 use Rattle.amqp_value_core.specs.Containers.{array_items}

@@ -1,3 +1,4 @@
+-- `parse_field_table` reads within a depth as large as the input is long, which limits no result.
 use Rattle.amqp_value_core.specs.declared.types.amqp_type.AMQPType.TheVariants as amqp
 use Rattle.amqp_value_core.specs.Values.{table}
 use Rattle.amqp_value_core.specs.Containers.{table_view}

@@ -1,3 +1,5 @@
+-- `parse_raw_value` reads a type other than `ShortString` within a depth as large as the input is
+-- long, which limits no result.
 use Rattle.amq_protocol_types.proofs.Payloads.{raw_value_result}
 use Rattle.amq_protocol_types.proofs.parsing.values.parse_raw_value.Goals as goal
 

@@ -1,4 +1,5 @@
--- Proofs of the goals of `parse_value` that tactics don't close.
+-- `parse_value` results in what reading the payload does. Each input has one outcome, which is kept
+-- if more bytes follow, and a value can be written in as many bytes as it was read from.
 use Rattle.std.proofs.lemmas.Result.{err_from_is_err_and}
 use Rattle.amqp_value_core.proofs.GrammarLaws.{more_bytes}
 use Rattle.amq_protocol_types.proofs.LimitLaws.{has_one_outcome}

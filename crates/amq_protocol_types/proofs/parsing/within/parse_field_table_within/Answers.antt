@@ -1,4 +1,5 @@
--- Proofs of the goals of `parse_field_table_within` that tactics don't close.
+-- `parse_field_table_within`: the laws of reading within limits hold of its input after a table's
+-- type tag, and reading with the tag results in what reading without it does.
 use Rattle.std.proofs.Common.{refl, arith}
 use Rattle.amqp_value_core.specs.declared.types.amqp_type.AMQPType.TheVariants as amqp
 use Rattle.amqp_value_core.specs.Values.{table}

@@ -1,3 +1,5 @@
+-- `parse_value_within`: the laws of reading within limits hold of any bytes, and a value that was
+-- read keeps to the limits.
 use Rattle.amqp_value_core.specs.View.{view}
 use Rattle.amq_protocol_types.proofs.LimitLaws.{read_result, laws_within}
 use Rattle.amq_protocol_types.proofs.parsing.within.parse_value_within.Goals as goal

@@ -1,3 +1,5 @@
+-- `read_table_within`: with its type tag the table is within limits if its payload has fewer bytes
+-- than `frame` and is read within the depth.
 use Rattle.std.proofs.Common.{refl, arith}
 use Rattle.amqp_value_core.specs.declared.types.amqp_type.AMQPType.TheVariants as amqp
 use Rattle.amqp_value_core.specs.Values.{table}

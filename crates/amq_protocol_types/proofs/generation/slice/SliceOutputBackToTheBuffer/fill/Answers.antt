@@ -1,3 +1,4 @@
+-- `SliceOutput::fill` overwrites bytes before the position, and nothing else changes.
 use Rattle.amq_protocol_types.proofs.Slices.{fill_before}
 use Rattle.amq_protocol_types.proofs.generation.slice.SliceOutputBackToTheBuffer.fill.Goals as goal
 

@@ -1,4 +1,4 @@
--- Proofs of the goals of `SliceOutput::reserve` that tactics don't close.
+-- `SliceOutput::reserve`: `n` zeros that fit were written at the position, which moved after them.
 use Rattle.std.proofs.Common.{rules, arith}
 use Rattle.std.proofs.lemmas.List.{length-replicate}
 use Rattle.amq_protocol_types.proofs.Slices.{put_next}

@@ -1,3 +1,4 @@
+-- `SliceOutput::put`: bytes that fit were copied to the position, which moved after them.
 use Rattle.std.proofs.Common.{refl, arith}
 use Rattle.amq_protocol_types.proofs.Slices.{put_next}
 use Rattle.amq_protocol_types.proofs.generation.slice.SliceOutputOutput.put.Goals as goal

@@ -1,4 +1,5 @@
--- Proofs of the goals of `Pending::fill_from` that tactics don't close.
+-- `Pending::fill_from`: the bytes of one read follow those that were retained. Growing the buffer
+-- leaves these as they were, and so does an error.
 use Rattle.std.proofs.Common.{take, drop, sym, subst, arith, rules}
 use Rattle.amq_protocol_types.proofs.SourceReads.{length_after, still_kept, read_on, kept_by}
 use Rattle.amq_protocol_types.specs.stream.Sources.SourceReaches.{here, there}

@@ -1,4 +1,5 @@
--- Proofs of the goals of `Values::next_from` that tactics don't close.
+-- `Values::next_from` returns the outcome of what came, which is that of all that the reader held.
+-- After a failure for good it changes nothing.
 use Rattle.std.proofs.Common.{rules}
 use Rattle.amq_protocol_types.proofs.ParsingLaws.{kept_within}
 use Rattle.amq_protocol_types.specs.stream.Sources.SourceReaches.{here}

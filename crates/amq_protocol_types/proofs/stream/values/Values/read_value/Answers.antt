@@ -1,4 +1,5 @@
--- Proofs of the goals of `Values::read_value` that tactics don't close.
+-- `Values::read_value`: the bytes of each read join those before, so the result is the outcome of
+-- all that is retained. Only the last read may have failed.
 use Rattle.std.proofs.Common.{rules, ℕ, refl}
 use Rattle.amq_protocol_types.specs.stream.Readers.{kept}
 use Rattle.amq_protocol_types.specs.stream.Sources.SourceReaches.{here}

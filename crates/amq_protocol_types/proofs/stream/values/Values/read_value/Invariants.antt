@@ -1,4 +1,4 @@
--- The invariant of the loop of `Values::read_value`.
+-- Of the loop in `Values::read_value`: all that came is retained, and no read returned an error.
 use Rattle.std.proofs.Common.{◌≡◌, ◌-◌, false, length}
 use Rattle.amq_protocol_types.specs.stream.Readers.{kept, has_failed}
 use Rattle.amq_protocol_types.specs.stream.Sources.{SourceReaches}

@@ -1,4 +1,4 @@
--- Proofs of the goals of `Values::result_at_end` that tactics don't close.
+-- `Values::result_at_end`: bytes are retained and more are wanted, so the value is truncated.
 use Rattle.std.proofs.Common.{rules}
 use Rattle.amqp_value_core.specs.Nesting.{WireWithin}
 use Rattle.amq_protocol_types.specs.parsing.Headers.{wanted}

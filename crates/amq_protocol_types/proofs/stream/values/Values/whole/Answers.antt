@@ -1,4 +1,4 @@
--- Proofs of the goals of `Values::whole` that tactics don't close.
+-- `Values::whole`: the value takes all bytes that are retained, since with fewer some were missing.
 use Rattle.std.proofs.Common.{◌≡◌, ◌++◌, ◌∙◌, List, ℕ, [], ap, sym, subst, append-nil, rules}
 use Rattle.amqp_value_core.specs.View.{view}
 use Rattle.amqp_value_core.specs.Nesting.{WireWithin, OutcomeWithin}
