@@ -1,4 +1,5 @@
--- What some rules allow, weaker ones do, and if containers may nest deeper: AnyKeys than Reading, and each than itself.
+-- What has no problem by some rules has none by weaker ones, even if containers may nest deeper:
+-- none by `Reading`, so none by `AnyKeys` (`none_of_any_keys`).
 use Rattle.std.proofs.Common.{◌≡◌, ◌≤◌, ◌+◌, ◌-◌, ℕ, zero, suc, Bool, true, false, Option, Some, None, List, [], ◌∷◌, length, take, drop, refl, sym, ap, ◌∙◌, subst, if◌then◌else◌, inl, inr, arith}
 use Rattle.std.specs.Prelude.{option_map, ◌&&◌}
 use Rattle.std.specs.Option.{option_or}

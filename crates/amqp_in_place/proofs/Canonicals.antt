@@ -1,4 +1,5 @@
--- Canonical encodings at the start of bytes.
+-- `canonical_len` and `is_canonical`: bytes pass the checks of src/canonical.rt exactly if they
+-- start with a canonical encoding, and `is_canonical` compares its length (`known_by_len`).
 use Rattle.std.proofs.Common.{◌≡◌, ◌<◌, ◌≤◌, ◌+◌, ℕ, suc, Bool, true, false, cond, nat_eq, eqb, List, [], ◌∷◌, ◌++◌, length, drop, get_or, Fits, w8, Option, Some, None, refl, sym, ap, ◌∙◌, subst, arith, length-append, eq-eqb}
 use Rattle.std.specs.Map.{lookup}
 use Rattle.std.specs.List.{AllByRecursion}

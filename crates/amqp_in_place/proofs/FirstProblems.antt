@@ -1,4 +1,5 @@
--- Looking for the first problem in a value.
+-- `IsFreeOfProblems`, which the loops of src/problems.rt keep: the entries so far have no problem.
+-- Also the first problem in a payload.
 use Rattle.std.proofs.Common.{◌≡◌, ◌<◌, ◌≤◌, ◌+◌, ◌-◌, ℕ, zero, suc, Option, Some, None, List, [], ◌∷◌, length, take, drop, Bool, true, false, nat_lt, refl, sym, ap, ◌∙◌, arith}
 use Rattle.std.specs.Prelude.{option_map, if◌then◌else◌, Result, Ok, Err, MatchResult, is_ok}
 use Rattle.std.specs.Str.{IsUtf8, is_utf8}

@@ -1,4 +1,5 @@
--- What is after a type tag, one level deep.
+-- `read_head` returns the `Head` of a value, or the error of reading it (`head_result`, `no_head`);
+-- and with a head a value is read exactly if its body is valid (`head_read`, `head_bad`).
 use Rattle.std.proofs.Common.{◌≡◌, ◌<◌, ◌-◌, ◌+◌, ℕ, List, [], ◌∷◌, ◌++◌, length, MatchResult, Result, Ok, Err, refl, sym, ap, ◌∙◌, subst, arith, length-append, inl, inr}
 use Rattle.std.specs.Int.{w8}
 use Rattle.std.specs.Str.{IsUtf8}

@@ -1,4 +1,5 @@
--- Looking for the first key with a fault.
+-- `warnings`: while its loops pass over entries, the first fault is still ahead or there is none
+-- (`ValuesPassed`, `PairsPassed`), and the set tells whether a key is repeated.
 use Rattle.std.proofs.Common.{◌≡◌, ◌≢◌, ◌<◌, ◌≤◌, ◌+◌, ◌-◌, ℕ, zero, suc, Option, Some, None, List, [], ◌∷◌, length, take, drop, Bool, true, false, not, refl, sym, ap, ◌∙◌, subst, arith}
 use Rattle.std.specs.Prelude.{Result, Ok, Err, MatchResult, is_err, max, option_map, ◌||◌, ◌==◌}
 use Rattle.std.specs.Bool.{then_some}

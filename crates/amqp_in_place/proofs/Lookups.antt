@@ -1,4 +1,5 @@
--- Looking up what is in a container.
+-- `get` of tables and arrays: what the loops of `place_of` and `nth_value` keep (`FoundSoFar`,
+-- `IsAmongLeft`), and what the encoding that they find means.
 use Rattle.std.proofs.Common.{◌≡◌, ◌<◌, ◌↔◌, ℕ, zero, suc, Bool, true, false, cond, List, ◌++◌, length, take, drop, Option, Some, None, option_map, refl, sym, ap, ◌∙◌, subst, arith, length-append}
 use Rattle.std.proofs.Math.Logic.{∥∥₁_elim, ∥∥₁_map}
 use Rattle.std.proofs.lemmas.List.{drop_at, take-append-drop}

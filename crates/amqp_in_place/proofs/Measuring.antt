@@ -1,4 +1,5 @@
--- Measuring values in place, as they are written.
+-- `measure_value`: values and levels are counted entry by entry (`ValuesSoFar`, `PairsSoFar`), as
+-- they are written, and are never more than the bytes.
 use Rattle.std.proofs.Common.{◌≡◌, ◌<◌, ◌≤◌, ◌+◌, ◌-◌, ◌^◌, ℕ, suc, max, List, [], ◌∷◌, ◌++◌, length, drop, None, refl, sym, ap, ap₂, ◌∙◌, subst, arith, length-append}
 use Rattle.std.proofs.Math.Logic.{∥∥₁_elim}
 use Rattle.std.specs.Coded.{le_prop}

@@ -1,4 +1,5 @@
--- Following a path step by step.
+-- `get_path`: after each step the rest of the path leads to what all of it does (`PathLeadsTo`),
+-- and stays in the bytes of the first container (`is_in_step`).
 use Rattle.std.proofs.Common.{◌≡◌, ◌<◌, ℕ, zero, suc, List, [], ◌∷◌, ◌++◌, length, drop, get_or, Option, Some, None, refl, sym, ap, ◌∙◌, subst, arith, append_assoc, append-nil, drop-cons}
 use Rattle.std.specs.Prelude.{option_and_then}
 use Rattle.std.specs.Borrow.{Bor}

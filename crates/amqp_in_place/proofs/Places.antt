@@ -1,4 +1,5 @@
--- The place of a value that is read.
+-- `inside`: what refers to a head is a view of the start of the bytes (`IsViewIn`); and each step
+-- leaves bytes of the same body (`value_left`, `pair_left`).
 use Rattle.std.proofs.Common.{◌≡◌, ◌^◌, ◌<◌, ℕ, List, [], ◌∷◌, ◌++◌, length, Some, refl, sym, ap, ◌∙◌, subst, append_assoc}
 use Rattle.amqp_value_core.specs.declared.types.amqp_type.AMQPType.{AMQPType}
 use Rattle.amqp_value_core.specs.declared.types.amqp_type.AMQPType.TheVariants as amqp

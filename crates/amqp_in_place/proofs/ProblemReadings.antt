@@ -1,4 +1,5 @@
--- Looking for a problem by the rules of reading: there is none exactly if a value is read.
+-- `first_problem` by `Rules::Reading`: there is none exactly if a value is read (`reads_if_none`),
+-- and otherwise it says how reading fails (`fails_if_some`).
 use Rattle.std.proofs.Common.{◌≡◌, ◌≢◌, ◌<◌, ◌≤◌, ◌+◌, ◌-◌, ◌↔◌, ℕ, zero, suc, Option, Some, None, option_map, List, [], ◌∷◌, length, take, drop, Bool, true, false, refl, sym, ap, ◌∙◌, subst, inl, inr, arith}
 use Rattle.std.specs.Prelude.{IsNone, ◌⊎◌, Result, Ok, Err, MatchResult, is_ok}
 use Rattle.std.specs.Option.{IfSome}

@@ -1,4 +1,5 @@
--- Reading in place: why a body isn't read, that one value is, and that what was read can be read again.
+-- `read_in_place`: why a body isn't read (`bad_value`, `bad_pair`), that one value is
+-- (`one_value`), and that `to_owned` can read again what was read (`values_there`, `pairs_there`).
 use Rattle.std.proofs.Common.{◌≡◌, ◌<◌, ℕ, List, length, refl, arith, ◌∙◌, sym, ap, ◌≤◌}
 use Rattle.amqp_value_core.specs.declared.types.amqp_type.AMQPType.TheVariants as amqp
 use Rattle.amqp_value_core.specs.Values.{Tree, Entries, short, array, table}

@@ -1,4 +1,5 @@
--- What holds of errors, by what reading results in.
+-- What holds of an error (`Refusal`), by each outcome of reading (`by_outcome`); and bytes that are
+-- read aren't rejected (`not_read`).
 use Rattle.std.proofs.Common.{◌≡◌, ℕ, List, arith}
 use Rattle.amqp_value_core.specs.Values.{Tree}
 use Rattle.amqp_value_core.specs.Outcomes.{Reading, found, more, unknown, malformed}

@@ -1,4 +1,5 @@
--- Keys that occur more than once, and keys that are ascending.
+-- `TableRef::repeated_key`: keys that ascend occur once, and its two loops tell whether keys ascend
+-- (`KeysAscend`) and whether one occurs again (`KeysAreSeen`).
 use Rattle.std.proofs.Common.{◌≡◌, ◌<◌, ◌≤◌, ◌+◌, ◌↔◌, ℕ, Bool, true, false, cond, List, Option, Some, None, refl, sym, ap, ◌∙◌, subst, arith}
 use Rattle.std.specs.Prelude.{◌||◌}
 use Rattle.std.specs.List.{list_any}

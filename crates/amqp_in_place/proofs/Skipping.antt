@@ -1,4 +1,5 @@
--- How many bytes a value takes, by its head.
+-- `skip_value`: a head takes `extent` bytes, a container's body included (`skipped`), as many as a
+-- value that is read there has (`width_of_found`).
 use Rattle.std.proofs.Common.{◌≡◌, ◌+◌, ℕ, suc, List, ◌∷◌, ◌++◌, length, Some, None, refl, ap, ◌∙◌, arith, length-append}
 use Rattle.std.specs.Int.{w32}
 use Rattle.amqp_value_core.specs.declared.types.amqp_type.AMQPType.{AMQPType}

@@ -1,4 +1,5 @@
--- Stepping through bodies that are known to be values or pairs: by reading heads, or by lengths only.
+-- `next_value`, `next_pair` and `next_key`: in bytes that are known to be values or pairs the first
+-- one is read, by its head or by its lengths only, and values or pairs are after it.
 use Rattle.std.proofs.Common.{◌≡◌, ◌<◌, ℕ, List, ◌++◌, length, Some, None, refl, sym, ap, subst, arith, length-append, ◌≤◌, ◌∷◌, take, drop, get_or, ◌∙◌}
 use Rattle.std.proofs.Math.Logic.{∥∥₁_elim, ∥∥₁_map}
 use Rattle.std.proofs.Math.Bool.{Bool-set}

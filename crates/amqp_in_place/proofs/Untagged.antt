@@ -1,4 +1,5 @@
--- Tables without their type tag: each is what the table with it is.
+-- Tables without their type tag: the head, the view, the errors and the canonical encoding of each
+-- are those of the same bytes after the type tag (`tagged`).
 use Rattle.std.proofs.Common.{◌≡◌, ◌<◌, ◌≤◌, ◌^◌, ◌∷◌, ◌++◌, ℕ, zero, suc, List, length, refl, arith, ap, subst, sym, ◌+◌}
 use Rattle.std.specs.Int.{w32}
 use Rattle.amqp_value_core.specs.declared.types.amqp_type.AMQPType.TheVariants as amqp

@@ -1,4 +1,5 @@
--- What is read in place, by its place in the bytes.
+-- `stands`: a view of the start of some bytes has the meaning, the written form and the bytes of
+-- the encoding that is there.
 use Rattle.std.proofs.Common.{◌≡◌, ◌<◌, ◌^◌, ℕ, List, [], ◌∷◌, ◌++◌, length, drop, get_or, Some, refl, sym, ap, ◌∙◌, subst, append-nil}
 use Rattle.std.proofs.lemmas.List.{append_cancel_right}
 use Rattle.std.proofs.lemmas.Option.{same_Some}

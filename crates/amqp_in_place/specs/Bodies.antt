@@ -1,4 +1,5 @@
--- The bodies of containers.
+-- What the bytes of a container's body are: values (`HasValues`), pairs (`HasPairs`), or pairs that
+-- mean some entries (`HasEntries`).
 use Rattle.std.specs.Prelude.{ℕ, List}
 use Rattle.amqp_value_core.specs.Values.{Trees, Entries}
 use Rattle.amqp_value_core.specs.Grammar.{ArrayBody, TableBody}

@@ -1,4 +1,5 @@
--- Canonical encodings at the start of bytes.
+-- Whether bytes are a canonical encoding within limits (`IsCanonicalWithin`), or start with one
+-- (`IsCanonicalLen`); and the same of the parts that src/canonical.rt checks.
 use Rattle.std.specs.Prelude.{ℕ, ◌<◌, ◌≤◌, ◌-◌, ◌≡◌, ◌≢◌, Option, Some, None, List, [], ◌∷◌, ◌++◌, length}
 use Rattle.std.specs.Borrow.{Bor}
 use Rattle.std.specs.Ordering.{nat_cmp}

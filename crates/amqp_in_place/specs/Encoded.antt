@@ -1,4 +1,5 @@
--- The encodings in a body, and views of them: which bytes are referred to.
+-- `EncodedValue`, the bytes of a value and what they mean: the one at a position or a key of a
+-- body, and whether a `ValueRef` refers to exactly its bytes.
 use Rattle.std.specs.Prelude.{ℕ, zero, suc, ◌≡◌, Option, Some, None, List, [], if◌then◌else◌}
 use Rattle.std.specs.Option.{option_or}
 use Rattle.amqp_value_core.specs.Values.{Tree, octets, Trees, no_trees, tree, Entries, no_entries, entry}

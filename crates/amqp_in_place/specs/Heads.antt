@@ -1,4 +1,5 @@
--- What is after a type tag, one level deep.
+-- `Head`, which leaves the body of a container unread: which bytes have it (`IsHead`), what it
+-- means (`HeadMeans`), and whether the body is valid (`HasValidBody`).
 use Rattle.std.specs.Prelude.{ℕ, ◌<◌, ◌≤◌, ◌≡◌, ◌-◌, List, length, ◌++◌}
 use Rattle.amqp_value_core.specs.declared.types.amqp_type.AMQPType.{AMQPType}
 use Rattle.amqp_value_core.specs.declared.types.amqp_type.AMQPType.TheVariants as amqp

@@ -1,4 +1,5 @@
--- What reading in place returns.
+-- Results of reading in place: the value that is read (`IsReadInPlaceWithin`), the bytes that are
+-- left (`IsLeft`), and errors (`HeadRefuses`, `NeedsNoMemory`).
 use Rattle.std.specs.Prelude.{ℕ, ◌≡◌, ◌+◌, List, ◌++◌, length}
 use Rattle.amqp_value_core.specs.Values.{Tree}
 use Rattle.amqp_value_core.specs.Outcomes.{Reading, found, unknown, Outcome}

@@ -1,4 +1,5 @@
--- Look-ups: what a key, a position and a path of these lead to; and which keys occur again.
+-- Look-ups: the value at a key (`value_of_pair`) or at a path of keys and positions (`at_path`),
+-- and which keys occur again (`RepeatedIs`).
 use Rattle.std.specs.Prelude.{ℕ, ◌+◌, ◌<◌, ◌≤◌, List, Option, Some, None, if◌then◌else◌, ◌≡◌, [], ◌∷◌, option_and_then}
 use Rattle.std.specs.Borrow.{Bor}
 use Rattle.amqp_value_core.specs.Values.{Tree, Entries, no_entries, entry, Trees, array, table}

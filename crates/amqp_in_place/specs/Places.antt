@@ -1,4 +1,5 @@
--- The place of a value that is referred to, inside the bytes that it is read from.
+-- Where in some bytes the value is that a `ValueRef` refers to: at their start (`IsViewIn`), or
+-- anywhere in them (`IsViewWithin`).
 use Rattle.std.specs.Prelude.{ℕ, ◌^◌, ◌<◌, ◌≡◌, Some, List, ◌∷◌, ◌++◌, length}
 use Rattle.amqp_value_core.specs.declared.types.amqp_type.AMQPType.{AMQPType}
 use Rattle.amqp_value_core.specs.declared.types.amqp_type.AMQPType.TheVariants as amqp

@@ -1,4 +1,5 @@
--- What looking for a problem returns.
+-- What a result of `first_problem` says about reading: a value is read (`FindsValue`), or how that
+-- fails (`FailsAt`). `GoesOver` is the result for one entry.
 use Rattle.std.specs.Prelude.{ℕ, zero, ◌≡◌, ◌<◌, ◌≤◌, List, Option, Some, None, Result, Ok, Err}
 use Rattle.amqp_value_core.specs.Values.{Tree}
 use Rattle.amqp_value_core.specs.Outcomes.{found, more, unknown, malformed}

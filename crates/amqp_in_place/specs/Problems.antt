@@ -1,6 +1,6 @@
--- The first thing in a value that some rules don't allow. By those of reading a value is as the grammar
--- has it; by those of any keys a key is any bytes; and by RabbitMQ's besides, for which it closes the
--- connection, `U` is no type tag, and a Float or a Double is a finite number.
+-- `problem_of`: the first thing in a value that some `Rules` don't allow. `Reading` allows what the
+-- grammar has, and `AnyKeys` also keys of any bytes. `RabbitMq` allows such keys, but not the type
+-- tag `U`, nor an infinity or a NaN, for which RabbitMQ closes the connection.
 use Rattle.std.specs.Prelude.{ℕ, zero, suc, ◌+◌, ◌-◌, ◌/◌, ◌%◌, ◌^◌, ◌==◌, ◌&&◌, nat_lt, Bool, true, false, Option, Some, None, option_map, List, [], ◌∷◌, length, take, drop, if◌then◌else◌}
 use Rattle.std.specs.Option.{option_or}
 use Rattle.std.specs.Int.{w32, w64, from_be_bytes}

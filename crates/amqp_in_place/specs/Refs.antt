@@ -1,4 +1,5 @@
--- Values in place: what they denote.
+-- `Denotes`: the tree of the value that a `ValueRef` refers to; and the bytes of the body of an
+-- `ArrayRef` or a `TableRef`.
 use Rattle.std.specs.Prelude.{ℕ, ◌≡◌, ◌<◌, List, length, Option, Some, None}
 use Rattle.std.specs.Int.{w8, w16, w32, w64, cast_unsigned}
 use Rattle.amqp_value_core.specs.declared.types.amqp_type.AMQPType.TheVariants as amqp

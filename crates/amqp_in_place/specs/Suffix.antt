@@ -1,4 +1,5 @@
--- What iterators have left.
+-- `values_left` and `pairs_left`: the bytes that the iterators `ArrayValues` and `TablePairs`
+-- haven't passed yet.
 use Rattle.std.specs.Prelude.{ℕ, List}
 use Rattle.amqp_value_core.specs.Bytes.{slice_bytes}
 use Rattle.amqp_in_place.specs.declared.iter.ArrayValues.{ArrayValues}

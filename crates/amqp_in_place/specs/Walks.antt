@@ -1,4 +1,5 @@
--- Stepping through bodies in place.
+-- What one step through a body returns, by `next_value` (`NextValueIs`) or by an iterator
+-- (`ValueStep`); and what a look-up finds (`FoundIs`).
 use Rattle.std.specs.Prelude.{ℕ, zero, suc, ◌≡◌, ◌<◌, List, ◌++◌, length, Option, Some, None}
 use Rattle.std.specs.Borrow.{Bor}
 use Rattle.amqp_value_core.specs.Values.{Tree, Trees, no_trees, tree, Entries, no_entries, entry}

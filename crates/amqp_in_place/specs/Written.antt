@@ -1,5 +1,5 @@
--- Values as they are written: their tables with every pair, in the order in which they are written; and how
--- large they are.
+-- `IsWrittenAs`: the value that a `ValueRef` refers to as it is written, with every pair of a table
+-- in its order, even if keys are equal; and how large that is (`HoldsValue`).
 use Rattle.std.specs.Prelude.{ℕ, ◌≡◌, List, ◌++◌}
 use Rattle.amqp_value_core.specs.declared.types.amqp_type.AMQPType.{AMQPType}
 use Rattle.amqp_value_core.specs.Values.{Tree, scalar, short, long, octets, array, table, Trees, no_trees, tree, Entries, no_entries, entry, count, depth, count_all, greatest_depth, entries_count, entries_depth}

@@ -1,4 +1,5 @@
-//! Access to the values of an array.
+//! `ArrayRef`, an array in place: `get` by position, `is_empty`, `as_bytes`, and `to_owned`, which
+//! copies it to a `FieldArray`. Its `iter` is in `iter.rt`.
 
 ghost use Rattle.std.specs.Prelude.{◌≡◌, ◌<◌, ◌↔◌, IsTrue, IfSome, length, MatchResult};
 ghost use Rattle.amqp_value_core.specs.Values.{Trees, no_trees};

@@ -1,4 +1,5 @@
-//! Canonical encodings, checked in place.
+//! `is_canonical` and `canonical_len`: whether bytes are, or start with, the canonical encoding of
+//! a value, checked in place.
 
 ghost use Rattle.std.specs.Prelude.{◌≡◌, ◌+◌, true, false, ℕ, List, None, IfSome};
 ghost use Rattle.std.specs.Ordering.{nat_cmp};

@@ -1,4 +1,5 @@
-//! Getters: the field of a value of a given type.
+//! The getters of `ValueRef`: `get_type`, and `as_bool`, `as_long_int` and the like, which return
+//! what a value of their type holds.
 
 use super::refs::{ArrayRef, TableRef, ValueRef};
 use amqp_value_core::types::{

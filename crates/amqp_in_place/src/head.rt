@@ -1,5 +1,5 @@
-//! A type tag and one level behind it, and how long a value is by these; a bare table and a key likewise.
-//! `in_place.calls` of test_calls has the rows.
+//! Reads a `Head`, which is a scalar, a string, or the unread bytes of a container's body; likewise
+//! a key, or a table without its type tag. `skip_value` returns how long a value is by its head.
 
 // Tactics at functions: each names what all arms of a `match`, or all errors, are proved by; that at
 // `skip_value` names a lemma for each clause.

@@ -1,4 +1,5 @@
-//! Iterators over the values of an array and the pairs of a table.
+//! The public iterators `ArrayValues` and `TablePairs`, which `ArrayRef::iter` and `TableRef::iter`
+//! return. Each `next` is a step of `steps.rt`.
 
 ghost use Rattle.amqp_value_core.specs.Bytes.{slice_bytes};
 ghost use Rattle.amqp_in_place.specs.Bodies.{HasValues, HasPairs};

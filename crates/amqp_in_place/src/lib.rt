@@ -11,8 +11,10 @@
 //! bytes     canonical, by head; problems and rabbitmq            a length; Problem, Warned
 //! ```
 //!
-//! `in_place.calls` of test_calls has rows of its calls. tests/c and tests/show try problems, warnings
-//! and measures by the calls of the C API and by amqp_show.
+//! `crates/test_calls/data/in_place.calls` has rows of reading, look-ups and canonical encodings.
+//! `tests/c/test_by_model.py` tries problems, warnings and measures by the calls of the C API, and
+//! `tests/show` problems and warnings by amqp_show. `crates/test_large/src/in_place.rt` has calls
+//! that allocate much.
 #![tactic(auto)]
 
 mod arrays;

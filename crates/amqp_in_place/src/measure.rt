@@ -1,4 +1,5 @@
-//! How large an encoded value is, measured in place.
+//! `measure_value` and `measure_table`: how many bytes, values and levels of nesting an encoded
+//! value has, counted in place.
 
 ghost use Rattle.std.specs.Prelude.{ℕ, List, ◌≡◌, ◌+◌, ◌^◌, ◌<◌, ◌≤◌, max, drop, length, MatchResult, IfErr, IfOk};
 ghost use Rattle.amqp_value_core.specs.Values.{Tree, count, depth};

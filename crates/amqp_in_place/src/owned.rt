@@ -1,4 +1,4 @@
-//! Owned values, from values in place.
+//! `ValueRef::to_owned`, which copies a value in place to an `AMQPValue`.
 
 ghost use Rattle.std.specs.Prelude.{MatchResult};
 ghost use Rattle.amqp_value_core.specs.View.{view};

@@ -1,4 +1,4 @@
-//! Look-ups by a path of keys and positions.
+//! `get_path`, which looks up a nested value by a path of keys and positions (`PathStep`).
 
 ghost use Rattle.std.specs.Prelude.{◌≡◌, ◌≢◌, [], Some, IfSome};
 ghost use Rattle.amqp_value_core.specs.Values.{Tree};

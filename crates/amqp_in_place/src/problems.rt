@@ -1,4 +1,5 @@
-//! The first thing in a value that isn't allowed, and its offset.
+//! `first_problem`: the first thing in an encoded value that the given `Rules` don't allow, and its
+//! offset.
 
 // Tactics at functions: each names the lemmas that prove its clauses.
 

@@ -1,4 +1,4 @@
-//! What RabbitMQ makes of a value.
+//! Checks of a value that is to be sent to RabbitMQ: [`first_problem`] and [`warnings`].
 //!
 //! RabbitMQ 3.10.8 and 4.0.5 close the connection if a field table has a type tag that they don't
 //! know, a NaN or an infinity, or a length that doesn't fit. [`first_problem`] finds the first of

@@ -1,4 +1,5 @@
-//! Reading a value in place.
+//! `read_in_place` and `read_table_in_place`: validate all of an encoded value, or of a table
+//! without its type tag, and return a view of it.
 
 // Tactics at functions: each names the lemmas that prove several clauses or several arms.
 

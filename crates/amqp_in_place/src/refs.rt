@@ -1,4 +1,5 @@
-//! Borrowed views of encoded values.
+//! The types `ValueRef`, `ArrayRef` and `TableRef`: borrowed views of encoded values that were
+//! validated. Their methods are in other modules, such as `getters`, `arrays` and `tables`.
 
 ghost use Rattle.amqp_value_core.specs.Bytes.{slice_bytes};
 ghost use Rattle.amqp_in_place.specs.Bodies.{HasValues, HasPairs};

@@ -1,4 +1,4 @@
-//! Keys that occur more than once in a table.
+//! `TableRef::repeated_key`, which returns a key that occurs more than once in a table.
 
 ghost use Rattle.std.specs.Prelude.{◌≡◌, true, false, IfOk, OnErr};
 ghost use Rattle.amqp_value_core.specs.Values.{Entries};

@@ -1,4 +1,5 @@
-//! Iterating over bodies that were validated.
+//! One step through a body that was validated: `next_value`, `next_pair` and `next_key` split off
+//! the first entry. Iterators, look-ups, `measure` and `repeated` loop over these.
 
 ghost use Rattle.std.specs.Prelude.{◌≡◌, ◌++◌, length, drop, IfSome, IsNone};
 ghost use Rattle.amqp_value_core.specs.Values.{Tree, Trees, Entries};

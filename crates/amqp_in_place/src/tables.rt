@@ -1,4 +1,5 @@
-//! Access to the entries of a table.
+//! `TableRef`, a table in place: `get`, `get_first`, `contains_key`, `is_empty`, `as_bytes`, and
+//! `to_owned`, a copy. Its other methods are in `iter.rt`, `path.rt` and `repeated.rt`.
 
 // Tactics at functions: each names the one lemma on tables that proves its clause.
 

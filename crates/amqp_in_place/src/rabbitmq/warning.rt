@@ -1,4 +1,5 @@
-//! What a peer of RabbitMQ, or a stream queue, may reject in a value that RabbitMQ accepts.
+//! `warnings`: what a client or a stream queue may reject in a value that RabbitMQ accepts, as a
+//! `Warned`.
 
 ghost use Rattle.std.specs.Prelude.{◌≡◌, ◌<◌, ◌+◌, ◌-◌, ◌^◌, ◌&&◌, ◌∷◌, nat_lt, suc, min, IfOk, IfSome, OnErr, length};
 ghost use Rattle.amqp_value_core.specs.Ids.{id_of};

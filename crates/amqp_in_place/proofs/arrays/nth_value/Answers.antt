@@ -1,4 +1,5 @@
--- Proofs of the goals of `nth_value` that tactics don't close.
+-- `nth_value`: the value at the position is among those left (`IsAmongLeft`), and is the first of
+-- them once no more are to be skipped.
 use Rattle.std.proofs.Common.{rules, ◌≡◌, ◌-◌, suc, subst, arith}
 use Rattle.amqp_value_core.specs.Bytes.{slice_bytes}
 use Rattle.amqp_in_place.proofs.Lookups.{IsAmongLeft, among-start, among-step, among-here, among-end}

@@ -1,4 +1,5 @@
--- The invariant of the loop of `nth_value`.
+-- Of the loop in `nth_value`: values are left, and the one that is asked for is at position `left`
+-- among them.
 use Rattle.std.proofs.Common.{length}
 use Rattle.amqp_value_core.specs.Bytes.{slice_bytes}
 use Rattle.amqp_in_place.specs.Bodies.{HasValues}
@@ -6,7 +7,6 @@ use Rattle.amqp_in_place.specs.InPlaceResults.{IsLeft}
 use Rattle.amqp_in_place.proofs.Lookups.{IsAmongLeft}
 use Rattle.amqp_in_place.proofs.arrays.nth_value.Given as goal
 
--- values are left, and what is asked for is among them
 abbrev pub invariant-values : goal.invariant-values
 invariant-values l = record {
   values : ∥ HasValues (slice_bytes l.rest) ∥₁;

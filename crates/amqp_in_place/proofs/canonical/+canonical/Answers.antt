@@ -1,4 +1,5 @@
--- Proofs of the goals of the functions of the cycle `canonical` that tactics don't close.
+-- The checks for a canonical encoding: each rejects only bytes that start with none, since a
+-- canonical value or pair has what it looks for; and what passes all of them is one.
 use Rattle.std.proofs.Common.{sym, subst, rules, arith}
 use Rattle.std.specs.Str.{IsUtf8}
 use Rattle.amqp_value_core.specs.Bytes.{slice_bytes}

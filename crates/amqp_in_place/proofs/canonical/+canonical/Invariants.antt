@@ -1,4 +1,5 @@
--- The invariants of the loops of the functions of the cycle `canonical`.
+-- Of the loops in `are_canonical_values` and `are_canonical_pairs`: the body is canonical exactly
+-- if the rest of it is. And what decreases from call to call.
 use Rattle.std.proofs.Common.{None, length, ◌+◌, ◌*◌, ◌≤◌}
 use Rattle.amqp_value_core.specs.Bytes.{slice_bytes}
 use Rattle.amqp_in_place.specs.Canonicals.{CanonValues, CanonEntries}

@@ -1,4 +1,5 @@
--- Proofs of the goals of `canonical_len` that tactics don't close.
+-- `canonical_len`: a canonical encoding within the limits has the header `Whole`, and
+-- `after_canonical` finds what is after it, so its length is that of the bytes before that.
 use Rattle.std.proofs.Common.{ℕ, ◌-◌, List, length, sym, ap, subst, arith}
 use Rattle.amqp_value_core.specs.Bytes.{IsBytes, slice_bytes}
 use Rattle.amq_protocol_types.specs.parsing.Limits.{IsHeader}

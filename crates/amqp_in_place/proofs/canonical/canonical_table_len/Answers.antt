@@ -1,4 +1,5 @@
--- Proofs of the goals of `canonical_table_len` that tactics don't close.
+-- `canonical_table_len`: after the type tag the table is a canonical encoding exactly if its body
+-- is canonical, and if its header is rejected there is none.
 use Rattle.std.proofs.Common.{rules, ◌≤◌, ◌-◌, ℕ, List, length, ap, subst, arith, length-append}
 use Rattle.amqp_value_core.specs.declared.types.amqp_type.AMQPType.TheVariants as amqp
 use Rattle.amqp_value_core.specs.Bytes.{slice_bytes}

@@ -1,4 +1,4 @@
--- Proofs of the goals of `is_above` that tactics don't close.
+-- `is_above`: if there is a key before, `IsAbove` is the comparison that `is_below` makes.
 use Rattle.std.proofs.Common.{sym, subst, Option, List, ℕ}
 use Rattle.std.specs.Borrow.{Bor}
 use Rattle.amqp_in_place.specs.Canonicals.{IsAbove}

@@ -1,4 +1,5 @@
--- Proofs of the goals of `is_canonical` that tactics don't close.
+-- `is_canonical`: the bytes are canonical exactly if `canonical_len` is the length of all of them,
+-- and exactly if they are what is written for the value that is read from them.
 use Rattle.std.proofs.Common.{length, refl}
 use Rattle.amqp_in_place.proofs.Canonicals.{bytes_all, known_by_len, as_written, written_canon}
 use Rattle.amqp_in_place.proofs.canonical.is_canonical.Goals as goal

@@ -1,4 +1,5 @@
--- Proofs of the goals of `is_canonical_table` that tactics don't close.
+-- `is_canonical_table`: as of `is_canonical`, for the bytes with the type tag before them, which
+-- adds one to both lengths.
 use Rattle.std.proofs.Common.{◌+◌, length, arith}
 use Rattle.amqp_value_core.specs.declared.types.amqp_type.AMQPType.TheVariants as amqp
 use Rattle.amq_protocol_types.specs.parsing.Untagged.{tagged}

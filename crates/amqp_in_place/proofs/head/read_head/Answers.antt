@@ -1,4 +1,4 @@
--- Proofs of the goals of `read_head` that tactics don't close.
+-- `read_head`: the head of the payload, or its error, is that of the value with the type tag.
 use Rattle.amqp_value_core.specs.Bytes.{slice_bytes}
 use Rattle.amqp_in_place.proofs.HeadLemmas.{head_result}
 use Rattle.amqp_in_place.proofs.head.read_head.Goals as goal

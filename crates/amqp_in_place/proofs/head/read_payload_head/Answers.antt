@@ -1,4 +1,5 @@
--- Proofs of the goals of `read_payload_head` that tactics don't close.
+-- `read_payload_head`: the payloads of long strings, byte arrays and Void are read as they are
+-- defined, and a LongLongUInt as a LongLongInt.
 use Rattle.std.proofs.Common.{rules}
 use Rattle.std.specs.Int.{w64, cast_signed, cast_unsigned}
 use Rattle.amqp_value_core.specs.declared.types.amqp_type.AMQPType.TheVariants as amqp

@@ -1,4 +1,5 @@
--- Proofs of the goals of `skip_value` that tactics don't close.
+-- `skip_value`: `extent` and the bytes that are left add up to all bytes, and an error within every
+-- depth is one without a limit.
 use Rattle.std.proofs.Common.{◌≡◌, ◌+◌, ◌-◌, ℕ, List, length, subst, arith}
 use Rattle.amqp_value_core.specs.Bytes.{slice_bytes}
 use Rattle.std.proofs.lemmas.Result.{err_from_is_err_and}

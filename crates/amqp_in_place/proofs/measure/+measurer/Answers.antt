@@ -1,4 +1,5 @@
--- Proofs of the goals of the functions of the cycle `measurer` that tactics don't close.
+-- The counts of values and levels: a container has one more than its body, the counts of a body's
+-- entries add up, and no count exceeds the number of bytes.
 use Rattle.std.proofs.Common.{length, ap, arith}
 use Rattle.amqp_value_core.specs.Bytes.{slice_bytes}
 use Rattle.amqp_in_place.proofs.Measuring.{values_few, pairs_few, plain_holds, array_holds, table_holds, content_few, content_shorter, pair_shorter, values_start, values_step, values_end, values_so_few, pairs_start, pairs_step, pairs_end, pairs_so_few}

@@ -1,4 +1,5 @@
--- The invariants of the loops of the functions of the cycle `measurer`.
+-- Of the loops in `counts_of_values` and `counts_of_pairs`: `held` is what the entries before the
+-- rest hold. And what decreases from call to call.
 use Rattle.std.proofs.Common.{length, ◌+◌, ◌*◌}
 use Rattle.amqp_value_core.specs.Bytes.{slice_bytes}
 use Rattle.amqp_in_place.specs.Lookups.{content}

@@ -1,4 +1,5 @@
--- Proofs of the goals of `measure_of` that tactics don't close.
+-- `measure_of`: the counts of a value are those of each encoding that it is a view of, and its tree
+-- has no more values or levels.
 use Rattle.amqp_in_place.proofs.Measuring.{measured_values, measured_levels, measured_tree}
 use Rattle.amqp_in_place.proofs.measure.measure_of.Goals as goal
 

@@ -1,4 +1,5 @@
--- Proofs of the goals of `measure_table` that tactics don't close.
+-- `measure_table`: after the type tag the table is a view of the start of the bytes, so its measure
+-- is that of the encoding there.
 use Rattle.std.proofs.Common.{length, ap, arith, length-append}
 use Rattle.amqp_value_core.specs.declared.types.amqp_type.AMQPType.TheVariants as amqp
 use Rattle.amqp_value_core.specs.Values.{table}

@@ -1,4 +1,5 @@
--- Proofs of the goals of `measure_value` that tactics don't close.
+-- `measure_value`: the value that is read is a view of the start of the bytes, so its measure is
+-- that of the encoding there.
 use Rattle.std.proofs.Common.{arith}
 use Rattle.amqp_in_place.proofs.Measuring.{content_few, rest_dropped, measured_bytes}
 use Rattle.amqp_in_place.proofs.measure.measure_value.Goals as goal

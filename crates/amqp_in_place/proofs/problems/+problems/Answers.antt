@@ -1,4 +1,5 @@
--- Proofs of the goals of the functions of the cycle `problems` that tactics don't close.
+-- The first problem: a complete payload has that of its bytes, a container that of its entries, and
+-- an entry without one is passed over by its length.
 use Rattle.std.proofs.Common.{◌-◌, Some, sym, ap, ◌∙◌, arith}
 use Rattle.std.specs.Prelude.{option_map}
 use Rattle.std.proofs.lemmas.List.{length-take-le}

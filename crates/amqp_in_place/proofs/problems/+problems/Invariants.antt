@@ -1,4 +1,5 @@
--- The invariants of the loops of the functions of the cycle `problems`.
+-- Of the loops in `values` and `pairs`: the entries before `at` have no problem. And what decreases
+-- from call to call.
 use Rattle.std.proofs.Common.{length, ◌+◌, ◌-◌, ◌*◌}
 use Rattle.amq_protocol_types.specs.parsing.Headers.{extent}
 use Rattle.amqp_in_place.specs.Problems.{in_value, in_pair, pair_len, inside}

@@ -1,4 +1,5 @@
--- Proofs of the goals of `first_problem` that tactics don't close.
+-- `first_problem` by `Rules::Reading`: since it is `problem_of`, it is none exactly if a value is
+-- read, and otherwise says how reading fails.
 use Rattle.std.proofs.Common.{None, sym}
 use Rattle.amqp_in_place.proofs.Canonicals.{bytes_all}
 use Rattle.amqp_in_place.proofs.ProblemReadings.{reads_if_none, fails_if_some}

@@ -1,4 +1,5 @@
--- Proofs of the goals of `first_problem_in_table` that tactics don't close.
+-- `first_problem_in_table` by `Rules::Reading`: since it is `problem_in_table_of`, it is none
+-- exactly if the table after its type tag is read, and otherwise says how that fails.
 use Rattle.std.proofs.Common.{None, sym}
 use Rattle.amqp_in_place.proofs.Canonicals.{bytes_all}
 use Rattle.amqp_in_place.proofs.ProblemReadings.{table_read_if_none, table_fails_if_some}

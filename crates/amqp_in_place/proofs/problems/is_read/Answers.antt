@@ -1,4 +1,5 @@
--- Proofs of the goals of `is_read` that tactics don't close.
+-- `is_read`: what `read_in_place` reads has no problem by `Rules::Reading`, and so none by
+-- `AnyKeys`.
 use Rattle.std.proofs.Common.{sym, ◌∙◌}
 use Rattle.amq_protocol_types.specs.parsing.Limits.{RefusesWithin}
 use Rattle.amqp_in_place.specs.Refs.{Denotes}

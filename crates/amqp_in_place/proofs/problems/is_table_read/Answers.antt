@@ -1,4 +1,5 @@
--- Proofs of the goals of `is_table_read` that tactics don't close.
+-- `is_table_read`: what `read_table_in_place` reads is a value after the type tag, and so has no
+-- problem by `Rules::Reading` or `AnyKeys`.
 use Rattle.std.proofs.Common.{option_map, sym, ap, ◌∙◌, arith}
 use Rattle.amqp_value_core.specs.declared.types.amqp_type.AMQPType.TheVariants.{FieldTable}
 use Rattle.amqp_value_core.specs.Values.{table}

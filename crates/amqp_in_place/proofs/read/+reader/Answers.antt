@@ -1,4 +1,5 @@
--- Proofs of the goals of the functions of the cycle `reader` that tactics don't close.
+-- Reading in place: a value is read exactly if its head is and its body is valid, and a body is
+-- valid exactly if its loop reads entries to its end.
 use Rattle.std.proofs.Common.{[], ◌∷◌, ◌++◌, subst, sym, rules, arith}
 use Rattle.std.specs.Str.{IsUtf8}
 use Rattle.amqp_value_core.specs.Values.{no_entries, trees_of}

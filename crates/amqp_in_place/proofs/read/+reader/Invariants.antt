@@ -1,4 +1,5 @@
--- The invariants of the loops of the functions of the cycle `reader`.
+-- Of the loops in `are_values` and `are_pairs`: what is before the rest was read as values, or as
+-- pairs. And what decreases from call to call.
 use Rattle.std.proofs.Common.{List, length, ◌+◌, ◌*◌}
 use Rattle.amqp_value_core.specs.Values.{Tree, Entries}
 use Rattle.amqp_value_core.specs.Bytes.{slice_bytes}

@@ -1,4 +1,5 @@
--- Proofs of the goals of `read_in_place_unlimited` that tactics don't close.
+-- `read_in_place_unlimited`: containers can't nest deeper than there are bytes, so with that as the
+-- limit the outcome is the one without a limit.
 use Rattle.std.proofs.Common.{ℕ, List, length, sym, ap, subst, arith}
 use Rattle.std.proofs.lemmas.Result.{err_from_is_err_and}
 use Rattle.amqp_value_core.specs.Outcomes.{Outcome, found}

@@ -1,4 +1,5 @@
--- Proofs of the goals of `read_table_in_place` that tactics don't close.
+-- `read_table_in_place`: after the type tag the table is the head of a value, so it is read exactly
+-- if that value is.
 use Rattle.std.proofs.Common.{ℕ, List, sym, ◌∙◌, subst, rules}
 use Rattle.amqp_value_core.specs.declared.types.amqp_type.AMQPType.TheVariants as amqp
 use Rattle.amqp_value_core.specs.Values.{Tree, table}

@@ -1,4 +1,5 @@
--- Proofs of the goals of `keys_rise` that tactics don't close.
+-- `keys_rise`: if the next key is above the one before it, all keys ascend exactly if those from it
+-- on do.
 use Rattle.std.proofs.Common.{rules}
 use Rattle.amqp_value_core.specs.Bytes.{slice_bytes}
 use Rattle.amqp_in_place.proofs.RepeatedKeys.{KeysAscend-step}

@@ -1,11 +1,11 @@
--- The invariant of the loop of `keys_rise`.
+-- Of the loop in `keys_rise`: pairs are left, and the keys of all pairs ascend exactly if those
+-- that are left do, after `previous`.
 use Rattle.std.proofs.Common.{length}
 use Rattle.amqp_value_core.specs.Bytes.{slice_bytes}
 use Rattle.amqp_in_place.specs.Bodies.{HasPairs}
 use Rattle.amqp_in_place.proofs.RepeatedKeys.{KeysAscend}
 use Rattle.amqp_in_place.proofs.repeated.keys_rise.Given as goal
 
--- pairs are left, and the keys before them are ascending up to the previous one
 abbrev pub invariant-pairs : goal.invariant-pairs
 invariant-pairs l = record {
   pairs : ∥ HasPairs (slice_bytes l.rest) ∥₁;

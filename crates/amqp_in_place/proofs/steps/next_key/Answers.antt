@@ -1,4 +1,5 @@
--- Proofs of the goals of `next_key` that tactics don't close.
+-- `next_key`: in bytes that are pairs the first key and its value are complete, so each split by
+-- their lengths is inside the bytes.
 use Rattle.std.proofs.Common.{◌≡◌, ◌∷◌, ◌++◌, List, ℕ, length, drop, sym, ap, ap₂, ◌∙◌, arith}
 use Rattle.std.proofs.lemmas.Grind.{common_steps}
 use Rattle.amqp_value_core.specs.Grammar.{short_field}

@@ -1,4 +1,5 @@
--- Proofs of the goals of `next_pair` that tactics don't close.
+-- `next_pair`: the first of some pairs has a key, which is UTF-8, and a value, so both are read;
+-- what is after them is pairs.
 use Rattle.std.proofs.Common.{◌≡◌, ℕ, List, sym, subst, ◌∙◌, arith}
 use Rattle.std.specs.Str.{IsUtf8}
 use Rattle.amqp_value_core.specs.Bytes.{slice_bytes}

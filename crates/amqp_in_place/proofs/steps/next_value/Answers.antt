@@ -1,4 +1,5 @@
--- Proofs of the goals of `next_value` that tactics don't close.
+-- `next_value`: the first of some values is an encoding, so its head is read and means it; what is
+-- after it is values.
 use Rattle.std.proofs.Common.{arith}
 use Rattle.amqp_value_core.specs.Bytes.{slice_bytes}
 use Rattle.amqp_in_place.proofs.Stepping.{read_there, meant_there, value_at_start, value_given, values_after}

@@ -1,4 +1,5 @@
--- Proofs of the goals of `value_of` that tactics don't close.
+-- `value_of`: if the head of a container means something, its body is values, or pairs, as
+-- `ArrayRef::of` and `TableRef::of` require.
 use Rattle.amqp_in_place.proofs.Stepping.{meant_values, meant_pairs}
 use Rattle.amqp_in_place.proofs.steps.value_of.Goals as goal
 

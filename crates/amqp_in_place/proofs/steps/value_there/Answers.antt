@@ -1,4 +1,5 @@
--- Proofs of the goals of `value_there` that tactics don't close.
+-- `value_there`: where an encoding begins its head is read, and what refers to that is a view of
+-- the bytes there.
 use Rattle.std.proofs.Common.{ℕ, List, sym, subst}
 use Rattle.amqp_value_core.specs.Bytes.{slice_bytes}
 use Rattle.amqp_in_place.specs.Heads.{IsHead}

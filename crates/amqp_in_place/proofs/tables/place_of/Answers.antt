@@ -1,4 +1,5 @@
--- Proofs of the goals of `place_of` that tactics don't close.
+-- `place_of`: the pair that is asked for is among those left, or else is the one found so far
+-- (`FoundSoFar`), which the loop keeps by comparing keys.
 use Rattle.std.proofs.Common.{sym, ◌∙◌, refl}
 use Rattle.amqp_in_place.proofs.Lookups.{found-start, found-other, found-first, found-last, found-end, pairs_more, value_inside, rest_inside}
 use Rattle.amqp_in_place.proofs.Places.{nothing_before}

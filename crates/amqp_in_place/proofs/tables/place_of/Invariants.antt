@@ -1,11 +1,11 @@
--- The invariant of the loop of `place_of`.
+-- Of the loop in `place_of`: pairs are left, and what is asked for begins at `at` unless one of
+-- them has the key.
 use Rattle.std.proofs.Common.{length, IfSome}
 use Rattle.amqp_in_place.specs.Bodies.{HasPairs}
 use Rattle.amqp_in_place.specs.InPlaceResults.{IsLeft}
 use Rattle.amqp_in_place.proofs.Lookups.{FoundSoFar}
 use Rattle.amqp_in_place.proofs.tables.place_of.Given as goal
 
--- pairs are left, and what is found so far counts unless one of them does
 abbrev pub invariant-pairs : goal.invariant-pairs
 invariant-pairs l = record {
   pairs : ∥ HasPairs l.rest ∥₁;

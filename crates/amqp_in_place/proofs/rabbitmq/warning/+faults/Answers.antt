@@ -1,4 +1,5 @@
--- Proofs of the goals of the functions of the cycle `faults` that tactics don't close.
+-- The first fault in values and in pairs: an entry without one is passed over by its length, and
+-- then the first is still ahead or there is none.
 use Rattle.std.proofs.Common.{refl, ap, sym, ◌∙◌, ◌-◌, ◌+◌, length, take, drop, arith}
 use Rattle.std.specs.Prelude.{max}
 use Rattle.amq_protocol_types.specs.parsing.Headers.{extent}

@@ -1,4 +1,5 @@
--- The invariants of the loops of the functions of the cycle `faults`.
+-- Of the loops in `in_values` and `in_pairs`: the first fault is not before `at`, and for repeated
+-- keys `seen` has those before it. And what decreases from call to call.
 use Rattle.std.proofs.Common.{length, ◌+◌, ◌-◌, ◌*◌}
 use Rattle.amqp_in_place.specs.RabbitmqWarnings.{fault_in_value, fault_inside}
 use Rattle.amqp_in_place.proofs.KeyFaults.{ValuesPassed, PairsPassed}

@@ -1,4 +1,5 @@
--- Proofs of the goals of `is_key_faulty` that tactics don't close.
+-- `is_key_faulty`: for each `Fault` the answer is as defined; a key is repeated exactly if `insert`
+-- finds it in `seen`.
 use Rattle.amqp_in_place.proofs.KeyFaults.{tells_repeated, tells_utf8, tells_empty, tells_deep, tells_decimal}
 use Rattle.amqp_in_place.proofs.rabbitmq.warning.is_key_faulty.Goals as goal
 

@@ -1,4 +1,5 @@
--- Proofs of the goals of `ArrayRef::get` that tactics don't close.
+-- `ArrayRef::get`: what `nth_value` finds is the value at the position: what it means, as it is
+-- written, and a view of its encoding.
 use Rattle.amqp_value_core.specs.Bytes.{slice_bytes}
 use Rattle.amqp_in_place.specs.Refs.{array_body}
 use Rattle.amqp_in_place.proofs.Lookups.{nth_means, nth_is_written, nth_is_view}

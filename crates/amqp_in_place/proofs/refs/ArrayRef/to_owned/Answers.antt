@@ -1,4 +1,5 @@
--- Proofs of the goals of `ArrayRef::to_owned` that tactics don't close.
+-- `ArrayRef::to_owned`: the body is known to be values, so the only error of parsing it is that
+-- memory runs out, and then it isn't empty.
 use Rattle.std.proofs.Common.{List, ℕ, ◌<◌, length, subst, arith}
 use Rattle.amqp_value_core.specs.Bytes.{slice_bytes}
 use Rattle.amq_protocol_types.specs.parsing.ParseResults.{IsRefusal}

@@ -1,4 +1,5 @@
--- Proofs of the goals of `TableRef::contains_key` that tactics don't close.
+-- `TableRef::contains_key`: the last pair with a key begins somewhere exactly if the entries have
+-- the key.
 use Rattle.std.proofs.Common.{List, ℕ, sym, ◌∙◌, subst}
 use Rattle.amqp_in_place.specs.Bodies.{HasPairs, HasEntries}
 use Rattle.amqp_in_place.proofs.Lookups.{begins_has_key}

@@ -1,4 +1,5 @@
--- Proofs of the goals of `TableRef::repeated_key` that tactics don't close.
+-- `TableRef::repeated_key`: keys that ascend occur once, and a key that the set didn't have is
+-- added to it.
 use Rattle.std.proofs.Common.{rules, arith}
 use Rattle.amqp_value_core.specs.Bytes.{slice_bytes}
 use Rattle.amqp_in_place.specs.Refs.{table_body}

@@ -1,4 +1,5 @@
--- The invariant of the loop of `TableRef::repeated_key`.
+-- Of the loop in `TableRef::repeated_key`: pairs are left, and `seen` has the keys of those before
+-- them, each of which occurs once there.
 use Rattle.std.proofs.Common.{length}
 use Rattle.amqp_value_core.specs.Bytes.{slice_bytes}
 use Rattle.amqp_in_place.specs.Bodies.{HasPairs}
@@ -6,7 +7,6 @@ use Rattle.amqp_in_place.specs.Refs.{table_body}
 use Rattle.amqp_in_place.proofs.RepeatedKeys.{KeysAreSeen}
 use Rattle.amqp_in_place.proofs.refs.TableRef.repeated_key.Given as goal
 
--- pairs are left, and the set has the keys of those before them, each once
 abbrev pub invariant-pairs : goal.invariant-pairs
 invariant-pairs l = record {
   pairs : ∥ HasPairs (slice_bytes l.rest) ∥₁;

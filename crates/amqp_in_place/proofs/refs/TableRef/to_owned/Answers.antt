@@ -1,4 +1,5 @@
--- Proofs of the goals of `TableRef::to_owned` that tactics don't close.
+-- `TableRef::to_owned`: the body is known to be pairs, so parsing it returns the entries that they
+-- mean, or fails only because memory runs out; then the body isn't empty.
 use Rattle.std.proofs.Common.{List, ℕ, ◌<◌, length, subst, arith}
 use Rattle.amqp_value_core.specs.Bytes.{slice_bytes}
 use Rattle.amq_protocol_types.specs.parsing.ParseResults.{IsRefusal}

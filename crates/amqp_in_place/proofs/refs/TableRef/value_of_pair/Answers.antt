@@ -1,4 +1,5 @@
--- Proofs of the goals of `TableRef::value_of_pair` that tactics don't close.
+-- `TableRef::value_of_pair`: the value that begins where `place_of` says is the pair's: what it
+-- means, as it is written, and a view of its encoding.
 use Rattle.std.proofs.Common.{List, ℕ, sym, subst}
 use Rattle.amqp_value_core.specs.Values.{Entries}
 use Rattle.amqp_value_core.specs.Grammar.{TableBody}

@@ -1,4 +1,5 @@
--- Proofs of the goals of `ValueRef::get_path` that tactics don't close.
+-- `ValueRef::get_path`: a step leads on from where the path led so far, and stays inside the bytes
+-- of the first container.
 use Rattle.std.proofs.Common.{◌+◌, arith}
 use Rattle.amqp_in_place.specs.Refs.{Denotes}
 use Rattle.amqp_in_place.specs.Written.{IsWrittenAs}

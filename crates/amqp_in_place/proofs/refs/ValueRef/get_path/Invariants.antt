@@ -1,4 +1,5 @@
--- The invariant of the loop of `ValueRef::get_path`.
+-- Of the loop in `ValueRef::get_path`: the rest of the path leads from `at` to what the whole path
+-- leads to.
 use Rattle.std.proofs.Common.{◌≡◌, ◌<◌, drop}
 use Rattle.amqp_in_place.specs.declared.path.EqualKeys.TheVariants as equal
 use Rattle.amqp_in_place.specs.Refs.{Denotes}
@@ -8,7 +9,6 @@ use Rattle.amqp_in_place.specs.Lookups.{content}
 use Rattle.amqp_in_place.proofs.Paths.{PathLeadsTo, PathLeadsToView}
 use Rattle.amqp_in_place.proofs.refs.ValueRef.get_path.Given as goal
 
--- the rest of the path leads from here to what the path leads to
 abbrev pub invariant-loop-step : goal.invariant-loop-step
 invariant-loop-step l = record {
   written : PathLeadsTo IsWrittenAs l.fn.of_equal l.fn.path (drop l.step-index l.fn.path) l.fn.self l.at;

@@ -1,4 +1,5 @@
--- Proofs of the goals of `ValueRef::step` that tactics don't close.
+-- `ValueRef::step`, by the last of equal keys: the last pair's value is the one that the table, as
+-- a map, has at the key.
 use Rattle.std.proofs.Common.{sym, subst}
 use Rattle.amqp_in_place.specs.declared.path.PathStep.{PathStep}
 use Rattle.amqp_in_place.specs.declared.refs.ValueRef.{ValueRef}
