@@ -1,4 +1,4 @@
--- Whether keys ascend in what was written, a value or a pair at a time.
+-- `InOrder`, value by value and pair by pair: what the loops of `printing::walk` keep of the keys.
 use Rattle.std.proofs.Common.{◌≡◌, ℕ, List, Some, None, sym, ◌∙◌, subst, ◌∷◌, ◌++◌, Option, refl, ap}
 use Rattle.std.specs.Borrow.{Bor}
 use Rattle.std.specs.Ordering.{nat_cmp}

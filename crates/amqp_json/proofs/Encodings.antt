@@ -1,4 +1,5 @@
--- Encodings and the values that they encode, canonical encodings among them.
+-- The value that is read from an encoding, canonical or not, is the one that it encodes (`Wire`),
+-- and it has a JSON text (`HasJson`).
 use Rattle.std.proofs.Common.{ℕ, List, ◌++◌, length, IsTrue, Less, Equal, Greater, ◌≡◌, [], Some, sym, ap, ◌∙◌, subst, append-nil, Bool, true, false, cond, refl}
 use Rattle.std.specs.Cmp.Lexicographic.{slice_cmp}
 use Rattle.std.specs.Ordering.{nat_cmp, match_ordering}

@@ -1,4 +1,4 @@
--- Bytes that need no escape in a string of JSON, and the escapes of others.
+-- `is_plain` bytes need no escape in a string of JSON; the escapes of others. For `src/printing`.
 use Rattle.std.proofs.Common.{◌≡◌, ℕ, ◌+◌, ◌%◌, ◌^◌, ◌≤◌, ltb, Bool, true, cond, eqb, List, [], ◌∷◌, map, length, drop, Fits, w8, refl, sym, ap, ap₂, ◌∙◌, arith, zero, suc, ◌-◌, ◌<◌, ◌/◌, ◌++◌, take, get_or, false, append_assoc, append-nil, decimal}
 use Rattle.std.proofs.lemmas.Bool.{agree_below_at, eq-eqb}
 use Rattle.std.proofs.lemmas.List.{length-map}

@@ -1,4 +1,4 @@
--- Integers and their decimal text.
+-- `signed_of` and `unsigned_of`: parsing a decimal text gives the integer that they define.
 use Rattle.std.proofs.Common.{◌≡◌, ◌≢◌, ℕ, zero, suc, ℤ, pos, negsuc, neg_ℤ, ◌^◌, ◌<◌, ◌≤◌, ◌==◌, nat_lt, length, drop, get_or, List, [], ◌∷◌, ◌&&◌, Bool, true, false, Some, None, Result, Ok, Err, refl, sym, ap, ◌∙◌, subst, arith, le-leb, ne_eqb, eqb-true, true≢false, cond, FitsSigned}
 use Rattle.std.specs.Prelude.{if◌then◌else◌, decimal as digits}
 use Rattle.std.specs.Fmt.{signed_decimal}

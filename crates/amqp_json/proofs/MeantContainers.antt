@@ -1,4 +1,4 @@
--- Items and members that are read one after another, under the meaning of items and of pairs.
+-- What an array or an object means (`array_of`, `object_meant`), item by item, member by member.
 use Rattle.std.proofs.Common.{◌≡◌, ℕ, zero, suc, ◌-◌, ◌<◌, ◌≤◌, List, ◌∷◌, length, false, Option, Some, None, option_map, option_and_then, refl, sym, ap, ◌∙◌, arith}
 use Rattle.json.specs.Token.{Token, key}
 use Rattle.json.specs.Json as json

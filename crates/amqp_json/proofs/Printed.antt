@@ -1,4 +1,5 @@
--- Bytes, tokens, values and pairs that are put after others in a buffer.
+-- `PutsBytes`, `PutsTokens` and `PutsJson` step by step: bytes, tokens, values and pairs that are
+-- put after others in a buffer. For `src/printing`.
 use Rattle.std.proofs.Common.{◌≡◌, Bool, ℕ, min, ◌+◌, ◌-◌, ◌<◌, List, [], ◌∷◌, ◌*◌, ◌^◌, ◌++◌, length, length-append, refl, sym, ap, ◌∙◌, subst, false, true, append_assoc, arith, ◌≤◌, Some, None}
 use Rattle.hex.proofs.HexLemmas.{length-encode_with}
 use Rattle.hex.specs.Hex.{lower_digits, encode_lower}

@@ -1,4 +1,4 @@
--- The JSON text of a whole value in a buffer.
+-- Once `PutsJson` holds of a value, the buffer begins with its `json_text`. For `src/decode.rt`.
 use Rattle.std.proofs.Common.{◌≡◌, ◌+◌, ◌<◌, ◌≤◌, ◌^◌, ℕ, List, ◌++◌, [], length, take, drop, false, refl, sym, ap, ◌∙◌, subst, append-nil, arith}
 use Rattle.std.proofs.Math.ListN.{drop_of_length-le}
 use Rattle.std.proofs.lemmas.List.{take_at}

@@ -1,4 +1,5 @@
--- Encodings that are put one after another, with pairs in the order of the text.
+-- `PutsEncodingOf`, value by value and pair by pair: `ItemsLeft` and `PairsLeft` are what the loops
+-- of `src/walk.rt` keep.
 use Rattle.std.proofs.Common.{◌≡◌, ℕ, Bor, ◌-◌, ◌+◌, ◌<◌, ◌≤◌, ◌^◌, List, [], ◌∷◌, ◌++◌, length, take, drop, Option, Some, None, option_map, refl, sym, ap, ◌∙◌, subst, arith, append_assoc, append-nil, length-append}
 use Rattle.std.specs.Int.{w32, to_be_bytes, w64, from_be_bytes}
 use Rattle.std.proofs.Math.Seq.{take-append_seam, drop-append-add}

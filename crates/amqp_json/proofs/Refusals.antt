@@ -1,4 +1,4 @@
--- Why no encoding is put.
+-- `IsRefusal`: what refuses a part refuses the array or object that has it. For `src/walk.rt`.
 use Rattle.std.proofs.Common.{◌≡◌, ℕ, ◌≤◌, ◌<◌, ◌-◌, true, false, drop, List, ◌∷◌, Option, Some, None, sym, ap, ◌∙◌, subst, arith}
 use Rattle.json.specs.Token.{Token, begin_array, begin_object, key}
 use Rattle.json.specs.Json as json

@@ -1,4 +1,4 @@
--- The entries of a table, sorted by their keys.
+-- `InsertsOn`: references inserted by their keys are the entries of the table. For `entries_of`.
 use Rattle.std.proofs.Common.{◌≡◌, ◌<◌, ℕ, List, [], ◌∷◌, Less, Equal, Greater, refl, sym, ap, ◌∙◌, subst}
 use Rattle.std.specs.Borrow.{Bor}
 use Rattle.std.specs.BTreeMap.{insert_entry}

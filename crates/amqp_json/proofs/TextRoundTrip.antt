@@ -1,4 +1,4 @@
--- The text of a value is UTF-8, and is read as the value.
+-- `json_text v` is UTF-8, and means `v` if it nests at most 127 deep.
 use Rattle.std.proofs.Common.{◌≡◌, ℕ, ℤ, pos, negsuc, ◌^◌, ◌<◌, ◌≤◌, List, [], ◌∷◌, ◌++◌, Bool, true, false, Some, IsUtf8, refl, sym, ap, ◌∙◌, append-nil, option_and_then, arith, ltb-true}
 use Rattle.std.specs.Int.{Width, w8, w16, w32, w64, cast_signed, to_be_bytes}
 use Rattle.std.specs.Str.{is_utf8, IsAscii}

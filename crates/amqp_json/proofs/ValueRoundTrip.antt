@@ -1,4 +1,4 @@
--- What is written for a value means the value.
+-- `meaning (written v)` is `Some v`: the JSON that is written for a value means the value.
 use Rattle.std.proofs.Common.{◌≡◌, ℕ, ℤ, pos, negsuc, zero, suc, ◌+◌, ◌^◌, ◌<◌, ◌≤◌, ◌==◌, nat_lt, length, drop, take, get_or, List, [], ◌∷◌, ◌++◌, Bool, true, false, Option, Some, option_map, refl, ap, ◌∙◌, arith, le-ltb}
 use Rattle.std.specs.Prelude.{if◌then◌else◌, decimal as digits}
 use Rattle.std.specs.Char.{digit_value}

@@ -1,4 +1,4 @@
--- Encodings whose tables have ascending keys.
+-- `InOrder`: the keys of each table in an encoding ascend. `OutOfOrder`: in one table they don't.
 use Rattle.std.specs.Prelude.{ℕ, ◌≡◌, List, ◌++◌, Option, MatchOption}
 use Rattle.amqp_value_core.specs.Values.{Tree, scalar, short, long, octets, array, table, Trees, no_trees, tree, Entries, no_entries, entry}
 use Rattle.amqp_value_core.specs.Grammar.{Wire, ArrayBody, TableBody}

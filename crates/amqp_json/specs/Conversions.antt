@@ -1,4 +1,5 @@
--- From JSON texts to values and encodings, and back: what the calls' clauses say.
+-- What the clauses of the public calls say: `IsEncodingWithin`, from a JSON text to an encoding,
+-- and `IsJsonOf`, from an encoding to a JSON text; and why a call returns an error.
 use Rattle.std.specs.Prelude.{ℕ, ◌≡◌, ◌<◌, ◌≤◌, List, ◌++◌, length, drop, Option, Some, None, option_and_then, false}
 use Rattle.json.specs.Json.{Json}
 use Rattle.amq_protocol_types.specs.declared.parsing.within.Limits.{Limits}

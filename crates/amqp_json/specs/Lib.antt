@@ -7,4 +7,5 @@ pub mod Conversions
 -- For private clauses.
 pub mod Puts
 pub mod Printing
+-- Of values that were read in place.
 pub mod Views

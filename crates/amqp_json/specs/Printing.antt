@@ -1,5 +1,5 @@
--- For private clauses: text that is put at the start of a buffer, and may be longer than that; and references to the
--- entries of a table.
+-- For private clauses of `src/printing`: `PutsBytes`, `PutsTokens` and `PutsJson`, text is put into
+-- a buffer, and may be longer than that; and `Refer`, references to the entries of a table.
 use Rattle.std.specs.Prelude.{ℕ, ◌≡◌, ◌≤◌, List, ◌++◌, length, drop, ◌<◌, [], ◌∷◌}
 use Rattle.json.specs.Token.{Token}
 use Rattle.json.specs.Json.{Json}

@@ -1,4 +1,5 @@
--- For private clauses: encodings that are put after other bytes.
+-- For private clauses of reading JSON: `PutsEncodingOf`, an encoding is put after other bytes, and
+-- `IsRefusal`, why none is.
 use Rattle.std.specs.Prelude.{◌≡◌, ◌≤◌, ◌==◌, ◌&&◌, ◌||◌, nat_le, Bool, true, false, List, ◌∷◌, ◌++◌, ℕ, drop, length, slice_index, Option, Some, None, option_map, option_and_then}
 use Rattle.json.specs.Token.{Token, key, end_object}
 use Rattle.json.specs.Json.{Json, Items, items, Members, members, value}

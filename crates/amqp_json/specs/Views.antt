@@ -1,4 +1,5 @@
--- Values that were read in place.
+-- `IsViewOfRead`, a `ValueRef` is the view of a value that was read, and `WritesText`, its JSON
+-- text is written to a buffer: for the clauses of `src/decode.rt`.
 use Rattle.std.specs.Prelude.{ℕ, ◌≡◌, ◌≤◌, List, ◌++◌, length, drop}
 use Rattle.amqp_in_place.specs.declared.refs.ValueRef.{ValueRef}
 use Rattle.amqp_in_place.specs.Places.{IsViewIn}

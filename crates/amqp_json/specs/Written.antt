@@ -1,4 +1,4 @@
--- The JSON of a value, as it is written.
+-- `written` and `json_text`: the JSON that is written for a value.
 use Rattle.std.specs.Prelude.{ℕ, ◌≡◌, ◌≤◌, Some, ◌-◌, ◌^◌, min, length, List, ◌∷◌, ◌++◌, ◌==◌, Bool, slice_index, decimal as digits, if◌then◌else◌}
 use Rattle.std.specs.Int.{Width, w8, w16, w32, w64, cast_signed, to_be_bytes}
 use Rattle.std.specs.Fmt.{signed_decimal}

@@ -1,4 +1,4 @@
-//! From a value or its encoding to JSON text.
+//! `to_json`, `json_of_encoding` and `write_json`: from a value or its encoding to JSON text.
 
 // The tactics at the functions name the lemmas that clauses are proved by.
 

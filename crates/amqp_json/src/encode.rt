@@ -1,4 +1,4 @@
-//! From a JSON text to the canonical encoding, and to a value.
+//! `from_json` and `encoding_of_json`: from a JSON text to a value, and to its canonical encoding.
 
 // The tactics at the functions name the lemmas that clauses are proved by.
 

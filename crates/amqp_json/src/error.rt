@@ -1,4 +1,5 @@
-//! Why no value was read from a JSON text, and why no text was made of a value or an encoding.
+//! The errors: `JsonError` of reading a JSON text; `EncodeError`, `DecodeError` and `WriteError` of
+//! writing one.
 
 use amq_protocol_types::parsing::ParserError;
 use std::alloc::AllocError;

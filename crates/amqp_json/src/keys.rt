@@ -1,4 +1,4 @@
-//! Keys of objects: of entries, and `$` with the name of a type.
+//! `key_of`: whether a key of a JSON object is that of a table's entry, or `$` and a type's name.
 
 ghost use Rattle.std.specs.Prelude.{◌≡◌, true, false, drop};
 ghost use Rattle.std.specs.Str.{bytes_eq};

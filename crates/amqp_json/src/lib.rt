@@ -9,7 +9,8 @@
 //! or value   both by printing::leaves, tokens and put
 //! ```
 //!
-//! `laws` has what the definitions imply.
+//! `laws` has what the definitions imply. The crate's tests are the rows of
+//! `crates/test_calls/data/json.calls`, and `tests/c/test_by_model.py` from C.
 #![tactic(auto)]
 
 mod decode;

@@ -1,4 +1,5 @@
-//! Numbers and strings, as values of named types, and integers of their decimal texts.
+//! `put_number` and `put_string`: put the encoding of a JSON number or string as a value of a given
+//! type, such as the 5 of `{"$LongInt":5}`, for `walk`.
 
 // The tactics at the functions name the lemmas that clauses are proved by.
 

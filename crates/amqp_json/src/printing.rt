@@ -1,6 +1,5 @@
-//! From a value that was read in place to its JSON text in a buffer. Text that the buffer has no space
-//! for is counted. One walk takes no memory, and stops at a table whose keys don't ascend; the other
-//! sorts them.
+//! From a `ValueRef` to its JSON text in a buffer. Text that doesn't fit is counted. `walk`
+//! allocates nothing, and stops at a table whose keys don't ascend; `sorted` sorts them.
 
 mod leaves;
 mod put;

@@ -1,4 +1,5 @@
-//! Bytes of encodings, put after others.
+//! Appends type tags, lengths, keys and payloads of encodings to a `Vec<u8>`, for `walk` and
+//! `named`. (`printing::put` goes the other way: it puts JSON text into a buffer of a fixed size.)
 
 ghost use Rattle.std.specs.Prelude.{◌≡◌, ◌+◌, ◌-◌, ◌<◌, ◌^◌, ◌∷◌, [], ◌++◌, length, take, drop, false, None, Option, OnOk, IfErr};
 ghost use Rattle.std.specs.Int.{w32, to_be_bytes};

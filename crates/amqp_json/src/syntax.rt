@@ -1,6 +1,7 @@
-//! Where a text stops being JSON, and why.
+//! `first_fault`: the byte at which a text stops being JSON, and what is wrong there.
 //!
-//! The reader tells that a text isn't JSON, but not the byte. So a text that it rejects is looked at once more.
+//! `json::Reader` tells that a text isn't JSON, but not at which byte. So `encode` scans a rejected
+//! text again.
 
 use crate::error::SyntaxError;
 

@@ -1,4 +1,5 @@
-//! From the tokens of a text to an encoding: the pairs of a table are in the order of the text.
+//! `put_document`: reads the tokens of a JSON text and puts the encoding of its value, with pairs
+//! in the order of the text. (`printing::walk` goes the other way, from a value to JSON text.)
 
 // The tactic at the function names the lemmas that clauses are proved by.
 

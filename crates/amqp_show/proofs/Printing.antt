@@ -1,4 +1,4 @@
--- Words of which each character prints.
+-- `all_print`: words whose characters all print are shown as they are. For `src/screen.rt`.
 use Rattle.std.proofs.Common.{◌≡◌, ℕ, Bool, true, cond, ◌&&◌, ◌||◌, ◌==◌, List, [], ◌∷◌, ◌++◌, map, refl, sym, ap, subst, ◌∙◌}
 use Rattle.std.proofs.lemmas.Bool.{and_parts, and_from}
 use Rattle.std.proofs.lemmas.List.{map-id}

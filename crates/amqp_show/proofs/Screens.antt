@@ -1,4 +1,4 @@
--- Strings that are appended to what a terminal shows.
+-- `IsShowable`: text that a terminal shows, with such text appended, is such text again.
 use Rattle.std.proofs.Common.{◌≡◌, ◌==◌, ◌||◌, ◌&&◌, ℕ, Bool, true, false, cond, IsTrue, List, [], ◌∷◌, ◌++◌, refl, sym, ap, ◌∙◌, subst, append-nil, codes}
 use Rattle.std.proofs.lemmas.Bool.{and_parts, and_from}
 use Rattle.std.proofs.lemmas.Str.{chars-append, chars-encodes, chars-nil}

@@ -1,4 +1,4 @@
--- What is added to a screen, and what the program ends with.
+-- `AddsText`: what is added to a `Screen`. `code_of`: the exit status that the program ends with.
 use Rattle.std.specs.Prelude.{◌≡◌, ℕ, Result, Ok, Err, List, [], ◌∷◌, ◌++◌, string_bytes}
 use Rattle.amq_protocol_types.specs.declared.parsing.within.Limits.{Limits}
 use Rattle.amqp_json.specs.Conversions.{IsJsonOf}

@@ -1,4 +1,4 @@
--- The parts of an encoding, one after another.
+-- `joined` and `HaveOffsets`: the parts of an encoding follow one another without gaps.
 use Rattle.std.specs.Prelude.{ℕ, ◌+◌, ◌≡◌, List, [], ◌∷◌, ◌++◌, length, map}
 use Rattle.amqp_show.specs.declared.parts.Part.{Part}
 

@@ -1,4 +1,4 @@
--- What a terminal shows and doesn't obey.
+-- `IsShowable`: text that a terminal shows and doesn't obey. `in_line`: words, made so by escapes.
 use Rattle.std.specs.Prelude.{ℕ, Bool, true, false, not, ◌/◌, ◌%◌, ◌==◌, ◌||◌, ◌&&◌, List, [], ◌∷◌, ◌++◌, IsTrue, codes, flat_map, if◌then◌else◌}
 use Rattle.std.specs.Char.{is_control, encode_utf8, digit_char}
 use Rattle.std.specs.Int.{is_in_range}

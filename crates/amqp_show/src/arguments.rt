@@ -1,4 +1,4 @@
-//! The command line: its options, and what they ask for.
+//! The command line: `command` has its options, and `Settings` is what they ask for.
 
 use amq_protocol_types::stream::Limits;
 use clap::{Arg, ArgAction, ArgMatches, Command, value_parser};

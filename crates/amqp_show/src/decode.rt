@@ -1,4 +1,4 @@
-//! Shows a value as JSON, for `--json`.
+//! `show_json`: shows a value as JSON, for `--json`.
 
 ghost use Rattle.std.specs.Prelude.{OnOk};
 ghost use Rattle.amqp_show.specs.Output.{AddsJsonLine};

@@ -1,4 +1,4 @@
-//! Writes the encoding of the value that some JSON denotes, for `--encode`.
+//! `encode_file`: writes the encoding of a file's JSON, for `--encode`, or says why it is rejected.
 
 ghost use Rattle.std.specs.Prelude.{◌≡◌, ◌++◌, ◌∷◌, [], IfOk, IfSome, IsTrue, IsFalse};
 ghost use Rattle.hex.specs.Hex.{encode_lower};

@@ -1,4 +1,4 @@
-//! How the work on a file ends: the exit status, and what ends it early.
+//! How the work on a file ends: `Status`, the exit status, and `Fault`, what ends it early.
 
 use crate::hexadecimal::NotHexadecimal;
 use std::alloc::AllocError;

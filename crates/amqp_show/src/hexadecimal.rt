@@ -1,6 +1,6 @@
-//! Bytes that a text spells in hexadecimal: two digits side by side for each, with `0x` or `\x` right
-//! before them or nothing; between bytes white space, `,`, `:`, and comments from `#` to the end of
-//! the line.
+//! `Decoder`: the bytes that a text spells in hexadecimal, for `--hex`. Each is two digits side by
+//! side, with `0x` or `\x` right before them or nothing; between bytes may be white space, `,`,
+//! `:`, and comments from `#` to the end of the line.
 
 use thiserror::Error;
 

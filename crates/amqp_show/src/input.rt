@@ -1,4 +1,5 @@
-//! Reads a file, or the bytes that it spells in hexadecimal, as far as they are asked for.
+//! `Input`: reads a file or standard input, or the bytes that it spells in hexadecimal, only as far
+//! as they are asked for.
 
 use crate::fault::{Fault, Result};
 use crate::hexadecimal::{Decoder, NotHexadecimal, dump_of};

@@ -11,6 +11,9 @@
 //! JSON        encode                                       the bytes, or digits
 //! Screen      screen; messages on standard error           what is printed
 //! ```
+//!
+//! `tests/show` tests it. The file `stdout` has what it prints with the words of the file `args`,
+//! which name the files of `data`.
 #![tactic(auto)]
 
 ghost use Rattle.std.specs.Prelude.{◌≡◌};

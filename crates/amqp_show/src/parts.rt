@@ -1,4 +1,5 @@
-//! Splits an encoding into its parts, also one that is malformed or cut.
+//! `parts_of`: splits an encoding into its `Part`s, such as tags, lengths and keys, even if it is
+//! malformed or cut. `tree` shows them.
 
 ghost use Rattle.std.specs.Prelude.{◌≡◌, ◌≤◌, ◌+◌, length, take, IfOk, OnOk};
 ghost use Rattle.amqp_show.specs.Parts.{joined, HaveOffsets};

@@ -1,4 +1,5 @@
-//! Says why a value is rejected, or closes a connection, and where.
+//! `problem_text`: the message of a `Problem`, which says why a value is rejected, or closes a
+//! connection, and where.
 
 use crate::arguments::{Form, Settings};
 use crate::messages::{bytes_text, quoted};

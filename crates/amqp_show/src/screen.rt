@@ -1,4 +1,5 @@
-//! What is printed, so that a terminal shows it and doesn't obey it. Nothing else in the program prints.
+//! `Screen`: collects text and prints it, with escapes for what a terminal would obey. Only this
+//! module prints.
 
 ghost use Rattle.std.specs.Prelude.{◌≡◌, ◌<◌, IsTrue, IsErr, OnOk, string_bytes};
 ghost use Rattle.std.specs.Char.{digit_char};

@@ -1,4 +1,5 @@
-//! Shows a file: the value at its beginning, or each of a stream.
+//! `show_file`: shows the value at the beginning of a file, or each value of a stream, by `tree`,
+//! `decode` or `check`.
 
 ghost use Rattle.std.specs.Prelude.{◌≡◌, ◌↔◌, IfOk};
 ghost use Rattle.amqp_in_place.specs.ProblemResults.{FindsValue};

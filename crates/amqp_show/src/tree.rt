@@ -1,4 +1,4 @@
-//! Shows the parts of a value, as a tree or each on a line.
+//! `show_tree` and `show_parts`: show the parts of a value, as a tree or each on a line.
 
 use crate::arguments::Settings;
 use crate::fault::Result;

@@ -1,4 +1,4 @@
-//! Values that aren't containers, in a buffer.
+//! `put_leaf`: puts the JSON text of a value that isn't an array or a table into a buffer.
 
 // The tactic at the function names the lemmas on bytes that are UTF-8, and on others.
 

@@ -1,5 +1,6 @@
-//! Bytes after others in a buffer: each call returns how many there are then, which may be more
-//! than the buffer has space for. Those that don't fit are counted, and not written.
+//! Puts bytes of JSON text into a buffer, as they are, escaped or in hexadecimal. (The crate's
+//! `put` appends encodings to a `Vec<u8>`.) Each call returns how many bytes there are then, which
+//! may be more than the buffer has space for: those that don't fit are counted, and not written.
 
 // The tactics at the functions name the lemma that a clause is proved by, and open the definition of an escape.
 

@@ -1,4 +1,5 @@
-//! The JSON text of a value in a buffer, with the keys of each table sorted.
+//! `put_any_value`: puts the JSON text of a value into a buffer, with the keys of each table
+//! sorted, which allocates. (`printing::walk` doesn't, and only takes tables whose keys ascend.)
 
 ghost use Rattle.std.specs.Prelude.{◌≡◌, IfOk, length};
 ghost use Rattle.amqp_value_core.specs.Values.{Tree, Trees, Entries, array as array_tree};

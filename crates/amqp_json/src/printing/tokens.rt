@@ -1,4 +1,5 @@
-//! A token of JSON after others in a buffer.
+//! `put_token`: puts one JSON token into a buffer, with a comma before it if one is needed; and the
+//! tokens of keys, of hexadecimal digits and of decimals.
 
 ghost use Rattle.std.specs.Prelude.{◌≡◌, ◌∷◌, [], ◌++◌, ◌&&◌, cond, true, decimal};
 ghost use Rattle.hex.specs.Hex.{encode_lower};

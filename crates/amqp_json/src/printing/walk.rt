@@ -1,4 +1,5 @@
-//! The JSON text of a value in a buffer.
+//! `put_value`: puts the JSON text of a `ValueRef` into a buffer, unless the keys of a table don't
+//! ascend. It allocates nothing. (The crate's `walk` goes the other way, from JSON to an encoding.)
 
 ghost use Rattle.std.specs.Prelude.{IfSome, List, ℕ};
 ghost use Rattle.amqp_value_core.specs.Values.{Tree, Trees, Entries, array as array_tree};

@@ -1,4 +1,4 @@
--- Proofs of the goals of `json_of_encoding` that tactics don't close.
+-- `json_of_encoding`: `read_in_place` returns a view of what it read, as `json_of_view` requires.
 use Rattle.amqp_in_place.proofs.Canonicals.{bytes_all}
 use Rattle.amqp_json.proofs.decode.json_of_encoding.Goals as goal
 

@@ -1,4 +1,4 @@
--- Proofs of the goals of `json_of_view` that tactics don't close.
+-- `json_of_view`: a value that was read within the limits has a JSON text, which means the value.
 use Rattle.std.proofs.Common.{◌≡◌, List, ℕ, string_bytes}
 use Rattle.std.proofs.lemmas.Result.{IfOk-weaker}
 use Rattle.amq_protocol_types.specs.declared.parsing.within.Limits.{Limits}

@@ -1,4 +1,5 @@
--- Proofs of the goals of `ordered_text` that tactics don't close.
+-- `ordered_text`: what `put_value` puts, into the small buffer or one of the text's length, is the
+-- text, which is UTF-8.
 use Rattle.std.proofs.Common.{◌≡◌, take, rules, string_bytes, sym, ◌∙◌, subst, arith}
 use Rattle.std.specs.Str.{IsUtf8}
 use Rattle.std.specs.Vec.{with_items}

@@ -1,4 +1,5 @@
--- Proofs of the goals of `text_of_canonical` that tactics don't close.
+-- `text_of_canonical`: a canonical encoding is read as its own value, with ascending keys, so there
+-- is a text. If it isn't read, the value isn't `readable`.
 use Rattle.std.proofs.Common.{rules, ◌≡◌, List, ℕ, Option, String, Global, string_bytes, sym, ap, ◌∙◌, subst}
 use Rattle.amqp_in_place.proofs.Canonicals.{bytes_all}
 use Rattle.amqp_in_place.specs.Places.{IsViewIn}

@@ -1,4 +1,4 @@
--- Proofs of the goals of `to_json` that tactics don't close.
+-- `to_json`: what `text_of_canonical` guarantees for any value holds for this one.
 use Rattle.std.proofs.Common.{rules, ◌≡◌, string_bytes}
 use Rattle.std.proofs.lemmas.Result.{IfOk-weaker, IfErr-weaker}
 use Rattle.amqp_value_core.specs.Texts.{text}

@@ -1,4 +1,5 @@
--- Proofs of the goals of `write_json` that tactics don't close.
+-- `write_json`: the buffer has the text if the count of `write_json_of_view` fits it, and otherwise
+-- the error has the count.
 use Rattle.std.proofs.Common.{◌≤◌, length, arith}
 use Rattle.amqp_in_place.proofs.Canonicals.{bytes_all}
 use Rattle.amqp_json.proofs.decode.write_json.Goals as goal

@@ -1,4 +1,4 @@
--- Proofs of the goals of `write_json_of_view` that tactics don't close.
+-- `write_json_of_view`: what `put_value` puts at the start of the buffer is the text of the value.
 use Rattle.std.proofs.Common.{refl, arith}
 use Rattle.amqp_json.specs.Written.{json_text}
 use Rattle.amqp_json.proofs.PrintedTexts.{decoded, text_begins, text_written}

@@ -1,4 +1,5 @@
--- Proofs of the goals of `canonical_encoding` that tactics don't close.
+-- `canonical_encoding`: an encoding that `is_canonical` accepts is the `text` of what the JSON
+-- means, and `canonical_of` converts any other to it.
 use Rattle.std.proofs.Common.{◌≡◌, Some, refl}
 use Rattle.std.proofs.lemmas.Result.{IfOk-weaker}
 use Rattle.amqp_value_core.specs.Grammar.{Wire}

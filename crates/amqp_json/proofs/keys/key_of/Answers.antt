@@ -1,4 +1,4 @@
--- Proofs of the goals of `key_of` that tactics don't close.
+-- `key_of`: whether a key begins with `$`, and then with a second one, decides `is_type_key`.
 use Rattle.std.proofs.Common.{rules, arith, ◌≡◌, sym, ap, ◌∙◌, true, false, not, ◌==◌, get_or, ◌∷◌}
 use Rattle.std.proofs.lemmas.Str.Pattern.{strip_prefix_char}
 use Rattle.amqp_json.proofs.ObjectKeys.{plain, marked}

@@ -1,4 +1,4 @@
--- Proofs of the goals of `decimal` that tactics don't close.
+-- `decimal`: a text whose exponent doesn't begin with a minus isn't a decimal.
 use Rattle.std.proofs.Common.{rules}
 use Rattle.amqp_json.proofs.ObjectKeys.{no_minus}
 use Rattle.amqp_json.proofs.named.decimal.Goals as goal

@@ -1,4 +1,4 @@
--- Proofs of the goals of `put_string` that tactics don't close.
+-- `put_string` puts what `string_as` has: a decimal, bits of a float, or bytes after their length.
 use Rattle.std.proofs.Common.{rules, ◌≡◌, Some, length}
 use Rattle.std.proofs.lemmas.Result.{on_ok_weaker}
 use Rattle.std.specs.Int.{w32, w64, from_be_bytes}

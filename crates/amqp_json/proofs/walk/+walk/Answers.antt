@@ -1,4 +1,5 @@
--- Proofs of the goals of the functions of the cycle `walk` that tactics don't close.
+-- `put_value` and what it calls put the encoding of what is read, or refuse what means nothing: the
+-- loops keep `ItemsLeft` and `PairsLeft`, and what is in a container is a level deeper.
 use Rattle.std.proofs.Common.{rules, arith, ◌≡◌, ◌<◌, ◌∷◌, [], length, Some, None, option_map, OnOk, ℕ, ◌+◌, ◌-◌, ◌^◌, false, List, ◌++◌, Bor, Option, refl, ap, ◌∙◌, subst}
 use Rattle.std.proofs.lemmas.Result.{IfErr-weaker, on_ok_weaker}
 use Rattle.json.specs.Token.{Token}

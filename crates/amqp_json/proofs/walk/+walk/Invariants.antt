@@ -1,4 +1,5 @@
--- The invariants of the loops of the functions of the cycle `walk`, and what decreases.
+-- Of the loops in `put_items` and `put_pairs`: what is put, with what is left, is the container's
+-- body. The depth decreases in calls, and the number of tokens in the loops.
 use Rattle.std.proofs.Common.{◌+◌, ◌*◌, ◌≤◌, ◌∷◌, length, option_map}
 use Rattle.amqp_json.specs.Puts.{next_token}
 use Rattle.amqp_json.proofs.PutEncodings.{ItemsLeft, PairsLeft}

@@ -1,4 +1,5 @@
--- Proofs of the goals of `put_leaf` that tactics don't close.
+-- `put_leaf`: a number or a string means what `number_as` or `string_as` has, and no value begins
+-- with a closing bracket or a key.
 use Rattle.std.proofs.Common.{arith, ◌≡◌, Some}
 use Rattle.std.proofs.lemmas.Result.{on_ok_weaker}
 use Rattle.json.specs.Token.{number, string}

@@ -1,4 +1,5 @@
--- Proofs of the goals of `put_named` that tactics don't close.
+-- `put_named`: if the object ends after the token, it means what `put_leaf` puts. It means nothing
+-- if the name is unknown, the token isn't of the type, or another key follows.
 use Rattle.std.proofs.Common.{rules, ◌≡◌, ◌∷◌, [], Some, None, refl, sym, ap, ◌∙◌}
 use Rattle.json.specs.Token.{key}
 use Rattle.json.specs.Json.{value, read_key}

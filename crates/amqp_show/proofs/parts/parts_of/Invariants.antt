@@ -1,4 +1,4 @@
--- What the walk keeps.
+-- Of the loop in `parts_of`: the walk is over the same bytes.
 use Rattle.std.proofs.Common.{◌≡◌}
 use Rattle.amqp_show.proofs.parts.parts_of.Given as goal
 

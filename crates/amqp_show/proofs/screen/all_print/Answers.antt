@@ -1,4 +1,4 @@
--- Each character has been looked at once the iterator ends.
+-- `all_print`: once the iterator ends, each character has been looked at, and prints.
 use Rattle.std.proofs.Common.{sym, ◌∙◌}
 use Rattle.std.proofs.lemmas.Iterator.{YieldsList-from_chars}
 use Rattle.std.proofs.lemmas.Iterator.Consumers.{YieldsList-end}

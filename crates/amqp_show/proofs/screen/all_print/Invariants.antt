@@ -1,4 +1,4 @@
--- What is known of the characters so far.
+-- Of the loop in `all_print`: the characters so far print.
 use Rattle.std.specs.Prelude.{IsTrue}
 use Rattle.amqp_show.specs.Screens.{all_print}
 use Rattle.amqp_show.proofs.screen.all_print.Given as goal

@@ -1,4 +1,4 @@
--- Proofs of the goals of `decimal` that tactics don't close.
+-- `decimal` puts four tokens: an opening brace, the key, the decimal's string and a closing brace.
 use Rattle.std.proofs.Common.{◌∷◌, [], codes}
 use Rattle.json.specs.Token.{begin_object, key, string}
 use Rattle.amqp_json.specs.Written.{decimal_text}

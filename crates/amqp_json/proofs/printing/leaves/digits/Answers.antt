@@ -1,4 +1,4 @@
--- Proofs of the goals of `digits` that tactics don't close.
+-- `digits` puts four tokens: an opening brace, the key, the digits as a string and a closing brace.
 use Rattle.std.proofs.Common.{◌∷◌, []}
 use Rattle.hex.specs.Hex.{encode_lower}
 use Rattle.json.specs.Token.{begin_object, key, string}

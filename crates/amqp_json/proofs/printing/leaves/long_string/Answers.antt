@@ -1,4 +1,4 @@
--- Proofs of the goals of `long_string` that tactics don't close.
+-- `long_string`: for bytes that aren't UTF-8, `long_written` has their hexadecimal digits.
 use Rattle.std.proofs.Common.{rules, sym, subst}
 use Rattle.std.specs.Str.{IsUtf8}
 use Rattle.json.specs.Json.{Json}

@@ -1,4 +1,4 @@
--- Proofs of the goals of `named` that tactics don't close.
+-- `named` puts four tokens: an opening brace, the key, the value and a closing brace.
 use Rattle.std.proofs.Common.{◌∷◌, []}
 use Rattle.json.specs.Token.{begin_object, key}
 use Rattle.json.specs.Reads.{token_of}

@@ -1,4 +1,5 @@
--- Proofs of the goals of `put_leaf` that tactics don't close.
+-- `put_leaf`: the function of each type puts what is `written`; a signed integer that is widened to
+-- 64 bits keeps its decimal text.
 use Rattle.std.proofs.Common.{rules, ◌≡◌, ◌∷◌, [], ℕ, List, codes, sym, subst, w8, w16, w64}
 use Rattle.std.specs.Fmt.{signed_decimal}
 use Rattle.std.specs.Int.{cast_signed, cast_unsigned}

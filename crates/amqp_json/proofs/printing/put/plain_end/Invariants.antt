@@ -1,4 +1,4 @@
--- The invariant of the loop of `plain_end`, and what decreases.
+-- Of the loop in `plain_end`: the bytes that were passed, eight at a time, are plain.
 use Rattle.std.proofs.Common.{◌≡◌, ◌+◌, ◌-◌, ◌≤◌, length, drop}
 use Rattle.std.specs.List.{prefix_len}
 use Rattle.json.specs.Run.{is_plain}

@@ -1,4 +1,4 @@
--- Proofs of the goals of `put_escaped` that tactics don't close.
+-- `put_escaped`: each pass through the loop puts the plain bytes up to a stop, and its escape.
 use Rattle.std.proofs.Common.{◌<◌, ◌++◌, length, take, drop, get_or, ◌-◌, arith}
 use Rattle.json.specs.Print.{escape_byte}
 use Rattle.amqp_json.proofs.Escapes.{escaped_end, escaped_more}

@@ -1,4 +1,4 @@
--- The invariant of the loop of `put_escaped`, and what decreases.
+-- Of the loop in `put_escaped`: what is put, and the escape of what is left, are that of the text.
 use Rattle.std.proofs.Common.{◌≡◌, ◌-◌, ◌≤◌, ◌++◌, List, ℕ, length, drop}
 use Rattle.json.specs.Print.{escape}
 use Rattle.amqp_json.specs.Printing.{PutsBytes}

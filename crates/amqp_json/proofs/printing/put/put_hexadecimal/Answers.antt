@@ -1,4 +1,4 @@
--- Proofs of the goals of `put_hexadecimal` that tactics don't close.
+-- `put_hexadecimal`: digits that the buffer has no space for are counted, two for each byte.
 use Rattle.std.proofs.Common.{arith}
 use Rattle.amqp_json.proofs.Printed.{digits_counted}
 use Rattle.amqp_json.proofs.printing.put.put_hexadecimal.Goals as goal

@@ -1,4 +1,4 @@
--- The invariant of the loop of `stop_of`, and what decreases.
+-- Of the loop in `stop_of`: the bytes that were passed, one at a time, are plain.
 use Rattle.std.proofs.Common.{◌≡◌, ◌+◌, ◌-◌, ◌≤◌, length, drop}
 use Rattle.std.specs.List.{prefix_len}
 use Rattle.json.specs.Run.{is_plain}

@@ -1,4 +1,4 @@
--- Proofs of the goals of `stops` that tactics don't close.
+-- `stops`: the bits of the three comparisons together are those of the bytes that are `is_stop`.
 use Rattle.std.proofs.Common.{arith}
 use Rattle.std.proofs.lemmas.Simd.{zip2_splat}
 use Rattle.amqp_json.proofs.Escapes.{hit, below, both, stops_are}

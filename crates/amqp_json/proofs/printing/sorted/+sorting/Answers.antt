@@ -1,4 +1,5 @@
--- Proofs of the goals of the functions of the cycle `sorting` that tactics don't close.
+-- `put_any_value`, `put_items` and `put_entries` put the tokens of what is `written`, item by item
+-- and entry by entry in the order of the keys.
 use Rattle.std.proofs.Common.{◌≡◌, ◌∷◌, [], List, ℕ, length, refl, ap, subst, rules, arith}
 use Rattle.std.specs.Borrow.{Bor}
 use Rattle.std.proofs.lemmas.Result.{IfOk-weaker}

@@ -1,4 +1,5 @@
--- The invariants of the loops of the functions of the cycle `sorting`, and what decreases.
+-- Of the loops in `put_items` and `put_entries`: what is put, with the tokens of what is left, is
+-- the container's. A call has a shorter body than its caller.
 use Rattle.std.proofs.Common.{◌≡◌, ◌+◌, ◌*◌, ◌≤◌, ◌++◌, List, length}
 use Rattle.json.specs.Token.{Token}
 use Rattle.json.specs.Tree.{json_tokens, items_tokens, members_tokens}

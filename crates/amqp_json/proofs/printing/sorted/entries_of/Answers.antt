@@ -1,4 +1,5 @@
--- Proofs of the goals of `entries_of` that tactics don't close.
+-- `entries_of`: the pairs, inserted one after another, are the entries of the table, and each
+-- value's body is shorter than the table's.
 use Rattle.std.proofs.Common.{◌≡◌, List, ℕ, [], length, sym, ap, subst, rules, arith}
 use Rattle.std.specs.Borrow.{Bor}
 use Rattle.amqp_in_place.specs.declared.refs.ValueRef.{ValueRef}

@@ -1,4 +1,5 @@
--- The invariant of the loop of `entries_of`.
+-- Of the loop in `entries_of`: the pairs so far are inserted, and each value's body is shorter than
+-- the table's.
 use Rattle.std.proofs.Common.{◌≤◌, length}
 use Rattle.amqp_in_place.specs.Refs.{table_body}
 use Rattle.amqp_in_place.specs.Suffix.{pairs_left}

@@ -1,4 +1,4 @@
--- Proofs of the goals of `put_decimal` that tactics don't close.
+-- `put_decimal`: digits and `e-` need no escape, so what is put is the token of their string.
 use Rattle.std.proofs.Common.{◌∷◌, [], ◌++◌, List, ℕ, decimal, sym, ap, refl, ◌∙◌, arith, append_assoc}
 use Rattle.json.specs.Token.{string}
 use Rattle.amqp_json.specs.Written.{decimal_text}

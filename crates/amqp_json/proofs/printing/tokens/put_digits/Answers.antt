@@ -1,4 +1,4 @@
--- Proofs of the goals of `put_digits` that tactics don't close.
+-- `put_digits`: hexadecimal digits need no escape, so what is put is the token of their string.
 use Rattle.std.proofs.Common.{◌≡◌, ◌∷◌, [], ◌++◌, sym, ap, refl, List, ℕ}
 use Rattle.hex.specs.Hex.{encode_lower}
 use Rattle.json.specs.Token.{string}

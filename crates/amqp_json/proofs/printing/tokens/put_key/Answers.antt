@@ -1,4 +1,5 @@
--- Proofs of the goals of `put_key` that tactics don't close.
+-- `put_key`: the quote, a `$` if the name begins with one, and the escaped name are the token of
+-- `written_key`.
 use Rattle.std.proofs.Common.{◌∷◌, [], ◌++◌, List, ℕ, cond, ap, ◌∙◌, refl}
 use Rattle.json.specs.Print.{escape}
 use Rattle.json.specs.Token.{key}

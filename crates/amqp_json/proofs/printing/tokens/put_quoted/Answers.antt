@@ -1,4 +1,4 @@
--- Proofs of the goals of `put_quoted` that tactics don't close.
+-- `put_quoted` puts the opening quote, the escaped text and `close`, one after another.
 use Rattle.std.proofs.Common.{◌∷◌, []}
 use Rattle.amqp_json.proofs.Printed.{puts_more}
 use Rattle.amqp_json.proofs.printing.tokens.put_quoted.Goals as goal

@@ -1,4 +1,4 @@
--- Proofs of the goals of `put_token` that tactics don't close.
+-- `put_token`: a comma if one is needed, and the token's text, are what is printed for the token.
 use Rattle.std.proofs.Common.{sym}
 use Rattle.json.specs.Reads.{token_of}
 use Rattle.amqp_json.proofs.Printed.{token_put}

@@ -1,4 +1,5 @@
--- Proofs of the goals of the functions of the cycle `walk` that tactics don't close.
+-- `put_value`, `put_array` and `put_table` put the tokens of what is `written`, item by item and
+-- pair by pair, and return `None` exactly if the keys of a table don't ascend.
 use Rattle.std.proofs.Common.{◌≡◌, ◌∷◌, [], List, ℕ, length, Option, Some, None, refl, sym, ap, subst, rules, arith}
 use Rattle.std.specs.Borrow.{Bor}
 use Rattle.std.proofs.lemmas.Option.{IfSome_then}

@@ -1,4 +1,4 @@
--- The part that is added keeps what a walk guarantees.
+-- `Walk::add`: with the part that is added, the parts are `joined` up to its end and `HaveOffsets`.
 use Rattle.std.proofs.Common.{◌≡◌, ◌+◌, List, take, refl, sym, subst}
 use Rattle.amqp_show.specs.declared.parts.Part.{Part}
 use Rattle.amqp_show.specs.Parts.{joined, HaveOffsets}

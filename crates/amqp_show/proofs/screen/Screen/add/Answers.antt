@@ -1,4 +1,4 @@
--- A character that prints keeps the screen showable.
+-- `Screen::add`: a character that prints keeps the screen showable.
 use Rattle.std.proofs.lemmas.Str.{IsUtf8-string_bytes}
 use Rattle.amqp_show.proofs.Screens.{kept, printed}
 use Rattle.amqp_show.proofs.screen.Screen.add.Goals as goal

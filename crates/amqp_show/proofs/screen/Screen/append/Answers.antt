@@ -1,4 +1,4 @@
--- Text that may be shown as it is keeps the screen showable.
+-- `Screen::append`: text that may be shown as it is keeps the screen showable.
 use Rattle.std.proofs.lemmas.Str.{IsUtf8-string_bytes}
 use Rattle.amqp_show.proofs.Screens.{kept}
 use Rattle.amqp_show.proofs.screen.Screen.append.Goals as goal

@@ -1,4 +1,4 @@
--- Words are added whole if all of them print, and otherwise one character after another.
+-- `Screen::push`: words are added whole if all of them print, and otherwise character by character.
 use Rattle.std.proofs.Common.{sym, subst}
 use Rattle.std.proofs.lemmas.Iterator.{YieldsList-from_chars}
 use Rattle.std.proofs.lemmas.Iterator.Consumers.{YieldsList-end}

@@ -1,4 +1,4 @@
--- What the loop has added so far.
+-- Of the loop in `Screen::push`: the characters so far are added, each as `shown_character` has it.
 use Rattle.std.specs.List.{flat_map}
 use Rattle.amqp_show.specs.Screens.{shown_character}
 use Rattle.amqp_show.specs.Output.{AddsText}

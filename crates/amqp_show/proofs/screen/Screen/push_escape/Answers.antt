@@ -1,4 +1,4 @@
--- An escape is a backslash, a `u` and four digits.
+-- `Screen::push_escape`: an escape is a backslash, a `u` and four digits.
 use Rattle.amqp_show.proofs.Adding.{adds_escape}
 use Rattle.amqp_show.proofs.Screens.{escape_begin}
 use Rattle.amqp_show.proofs.screen.Screen.push_escape.Goals as goal
