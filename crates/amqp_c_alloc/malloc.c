@@ -1,7 +1,8 @@
 /*
- * The three functions that the calls of the C API which allocate use, over those of the C library. They do what the kit's
- * own do (its libc/src/heap.rt states their contracts, which are trusted): an alignment is at most that of malloc, and a
- * block of no bytes is one of `align`.
+ * rattle_alloc, rattle_realloc and rattle_dealloc, by which the calls of the C API allocate, over malloc, realloc and
+ * free. They do what the kit's own do (its libc/src/heap.rt states their contracts, which are trusted): an alignment is
+ * at most that of malloc, and a block of no bytes is one of `align`. tests/c/memory.c tries the calls with allocations
+ * that fail.
  */
 #include <stddef.h>
 #include <stdlib.h>

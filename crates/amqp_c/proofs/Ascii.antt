@@ -1,4 +1,5 @@
--- Lemmas on bytes that are ASCII, by their high bits.
+-- Lemmas for src/key.rt: eight bytes are ASCII if none of their high bits is set, and up to 16 are
+-- if the first eight and the last eight are.
 use Rattle.std.proofs.Common.{◌≡◌, ◌+◌, ◌-◌, ◌<◌, ◌≤◌, min, ℕ, zero, suc, List, get_or, length, take, drop, refl, sym, ap, ◌∙◌, subst, arith}
 use Rattle.std.specs.Int.{w64, from_le_bytes, bit_at}
 use Rattle.std.specs.Int.Bits.{bit_and}

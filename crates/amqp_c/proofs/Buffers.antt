@@ -1,4 +1,5 @@
--- Buffers that are written to.
+-- Lemmas on `with_bytes`, a buffer that is written to: writes that follow one another or overlap,
+-- and the entry that `append` writes.
 use Rattle.std.proofs.Common.{◌≡◌, ◌+◌, ◌-◌, ◌≤◌, ℕ, List, ◌++◌, length, take, drop, refl, sym, ap, ap₂, ◌∙◌, arith, append_assoc, length-append, length-drop}
 use Rattle.std.proofs.lemmas.List.{take_at, drop_at, drop-drop, length-take-le, take-append-drop, take-append-le}
 use Rattle.std.proofs.lemmas.Slice.{drop-append-drop}

@@ -1,4 +1,5 @@
--- Lemmas on encodings by rules: bodies and one more entry after them, values that aren't containers, and what is read.
+-- Lemmas on `IsEncodingBy`, encodings by rules: bodies and one more entry after them, values that
+-- aren't containers, and what is read.
 use Rattle.std.proofs.Common.{◌≡◌, ◌<◌, ◌≤◌, ◌-◌, ◌^◌, ℕ, zero, suc, Bool, true, false, Option, Some, None, List, [], ◌∷◌, ◌++◌, length, take, drop, refl, sym, ap, ◌∙◌, subst, arith, inl, inr, length-append, length-drop, if◌then◌else◌, ◌==◌, ◌+◌, append-nil}
 use Rattle.std.specs.Prelude.{option_map}
 use Rattle.std.specs.Int.{Width, w32, byte_len, from_be_bytes}

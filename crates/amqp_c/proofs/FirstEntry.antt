@@ -1,4 +1,5 @@
--- Lemmas on the entry of the value at the start of some bytes.
+-- Lemmas for src/entry.rt: the entry of the value at the start of some bytes (`GivesFirst`), and
+-- which faults are right (`HeaderFaults`).
 use Rattle.std.proofs.Common.{◌≡◌, ◌+◌, ◌-◌, ◌<◌, ◌≤◌, ◌^◌, ℕ, suc, nat_lt, if◌then◌else◌, Bool, true, false, Option, Some, None, List, [], ◌∷◌, ◌++◌, length, take, drop, refl, sym, ap, ap₂, ◌∙◌, subst, arith, length-append}
 use Rattle.std.specs.Int.{Width, w32}
 use Rattle.std.proofs.lemmas.List.{take_at, length-take-le, take-append-drop}

@@ -1,4 +1,5 @@
--- Lemmas on containers that grow by an entry, and on entries that are opened and closed in them.
+-- Lemmas on `GrowsContainer`: a container grows by the bytes of an entry, or by an entry that was
+-- opened and is closed.
 use Rattle.std.proofs.Common.{◌≡◌, ◌+◌, ◌-◌, ◌<◌, ◌≤◌, ◌^◌, ℕ, List, [], ◌∷◌, ◌++◌, length, take, drop, refl, sym, ap, ap₂, ◌∙◌, subst, arith, append_assoc, append-nil, length-append, take-append-drop, length-drop, Bool, true, false}
 use Rattle.std.specs.Int.{w32, to_be_bytes}
 use Rattle.std.proofs.lemmas.List.{take_at, drop_at, drop-drop, drop-take, drop-append-le, length-take-le}

@@ -1,4 +1,5 @@
--- Looking up by a key or by an index.
+-- Lemmas on `LooksUp` and `LooksUpNth`: the search through pairs or values, and the entry at the
+-- place that it finds.
 use Rattle.std.proofs.Common.{◌≡◌, ◌+◌, ◌-◌, ◌<◌, ◌≤◌, ℕ, zero, suc, IfOk, IfSome, Bool, true, false, cond, List, [], ◌++◌, length, take, drop, Option, Some, None, MatchOption, Result, Ok, Err, refl, sym, ap, ◌∙◌, subst, ◌⊎◌, inl, inr, arith, length-append, length-drop}
 use Rattle.std.proofs.lemmas.List.{take_at, drop_at, drop-drop, take-take, nil_from_length}
 use Rattle.std.specs.Option.{option_or}

@@ -1,4 +1,5 @@
--- What look-ups find in pairs, as lists of these say it.
+-- Lemmas for src/laws.rt: a look-up finds what `last_of_pairs`, `first_of_pairs` or an index finds
+-- in a list of the pairs or values.
 use Rattle.std.proofs.Common.{◌≡◌, ◌↔◌, Bool, true, false, cond, ℕ, List, [], ◌++◌, take, drop, length, Option, Some, None, Result, zero, suc, refl, sym, ap, ◌∙◌, subst}
 use Rattle.std.specs.Option.{option_or}
 use Rattle.std.specs.Cmp.Lexicographic.{bytes_decides}

@@ -1,4 +1,4 @@
--- Following a path.
+-- Lemmas on `StepLeads`, one step of a path, and on `StepsLead` and `LooksUpOn`, all of its steps.
 use Rattle.std.proofs.Common.{◌≡◌, ◌+◌, ◌<◌, ◌≤◌, ℕ, suc, Bool, false, get_or, eq-eqb, drop, drop-cons, length-drop, List, [], ◌∷◌, length, IfOk, IfSome, Option, Some, None, Result, Ok, Err, refl, sym, ◌∙◌, subst, inl, inr, arith}
 use Rattle.std.proofs.lemmas.Bool.{cases_eq, ne_eqb}
 use Rattle.std.proofs.lemmas.List.{nil_from_length}

@@ -1,4 +1,5 @@
--- Lemmas on entries that are put.
+-- Lemmas on `IsEntryPut`: the encoding of each kind of `Item` that is put, and by which rules it is
+-- an encoding.
 use Rattle.std.proofs.Common.{◌≡◌, ◌+◌, ◌-◌, ◌<◌, ◌≤◌, ◌^◌, ℕ, suc, Bool, true, false, Option, Some, None, List, [], ◌∷◌, ◌++◌, length, take, Result, Ok, Err, MatchResult, refl, sym, ap, ap₂, ◌∙◌, subst, arith, inl, inr, if◌then◌else◌}
 use Rattle.std.specs.Prelude.{option_map}
 use Rattle.std.specs.Int.{w32, to_be_bytes}

@@ -1,4 +1,4 @@
--- What is reported of the first problem in a value, by the header of the value.
+-- Lemmas on `read_error`: what is reported of the first problem in a value, by the value's header.
 use Rattle.std.proofs.Common.{◌≡◌, ◌<◌, ℕ, Bool, true, false, Option, Some, None, option_map, List, refl, sym, ap, ◌∙◌, subst, if◌then◌else◌}
 use Rattle.std.proofs.lemmas.Bool.{lt-ltb}
 use Rattle.std.proofs.lemmas.Option.{same_Some}

@@ -1,4 +1,5 @@
--- Lemmas on entries in the body of a container, one after another.
+-- Lemmas for src/cursor.rt: the first entry in a span of a container's body, a value (`IsValueIn`)
+-- or a pair with its key (`IsPairIn`).
 use Rattle.std.proofs.Common.{◌≡◌, ◌+◌, ◌-◌, ◌<◌, ◌≤◌, ℕ, zero, suc, Bool, true, false, Option, Some, None, IfNone, IfSome, List, [], ◌∷◌, ◌++◌, Ok, length, take, drop, get_or, refl, sym, ap, ◌∙◌, subst, arith, length-append}
 use Rattle.std.proofs.lemmas.List.{take_at, drop_at, take-append-drop, length-take-le}
 use Rattle.amqp_value_core.specs.Values.{Tree, scalar, short, long, octets, array, table, Trees, Entries}

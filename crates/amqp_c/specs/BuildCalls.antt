@@ -1,4 +1,5 @@
--- What each call that builds a container returns, when each fault is right, and what is left in the buffer.
+-- `PutsEntry`, `OpensContainer` and `ClosesContainer`: what each call that builds a container
+-- returns, when each fault is right, and what is left in the buffer.
 use Rattle.std.specs.Prelude.{ℕ, ◌≡◌, ◌≤◌, ◌^◌, List, length, ◌⊎◌, ℤ, Result, Ok, Err, IfErr, MatchResult}
 use Rattle.amqp_value_core.specs.Values.{Scalar}
 use Rattle.amqp_c.specs.declared.container.Container.{Container}

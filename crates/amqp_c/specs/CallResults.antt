@@ -1,4 +1,5 @@
--- What calls return, and what they leave at their pointers and in a buffer.
+-- What all calls share: result codes (`code_of`), and what is left at a pointer (`Gives`) and in a
+-- buffer (`with_bytes`).
 use Rattle.std.specs.Prelude.{ℕ, ℤ, pos, negsuc, Result, Ok, Err, ◌≡◌, ◌+◌, List, length, Option, Some, None, MatchResult, ◌++◌, take, drop, ◌<◌, ◌≤◌}
 use Rattle.amq_protocol_types.specs.declared.parsing.errors.Err.TheVariants.{Incomplete, Error, Failure}
 use Rattle.amq_protocol_types.specs.declared.parsing.errors.Needed.TheVariants.{Unknown, Size}

@@ -1,4 +1,5 @@
--- Containers that are put together in a buffer.
+-- The `Container` of an array or a table that is being built in a buffer, and where an entry can be
+-- put (`IsPlace`).
 use Rattle.std.specs.Prelude.{ℕ, ◌≡◌, ◌+◌, ◌-◌, ◌<◌, ◌≤◌, List, [], ◌++◌, ◌==◌, if◌then◌else◌, length, ◌⊎◌}
 use Rattle.amqp_value_core.specs.Bytes.{IsShort}
 use Rattle.amqp_value_core.specs.Grammar.{short_field}

@@ -1,4 +1,4 @@
--- What an entry holds of the bytes that it was read from, by spans of these.
+-- `IsEntry`: what an entry holds of the bytes that it was read from, by spans of these (`part`).
 use Rattle.std.specs.Prelude.{ℕ, ◌+◌, ◌-◌, ◌≤◌, List, take, drop, ◌≡◌, Bool, true, false, ◌⊎◌, ◌<◌, Some, [], ◌∷◌, length, Result, Ok, Err}
 use Rattle.amqp_value_core.specs.declared.types.amqp_type.AMQPType.{AMQPType}
 use Rattle.amqp_value_core.specs.declared.types.amqp_type.AMQPType.TheVariants as amqp

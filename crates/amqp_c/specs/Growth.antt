@@ -1,4 +1,5 @@
--- How what is written of a container grows.
+-- How a container in a buffer grows (`GrowsContainer`) by an entry that is put (`IsEntryPut`), or
+-- opened and closed (`IsOpened`, `IsClosed`).
 use Rattle.std.specs.Prelude.{ℕ, ◌≡◌, ◌+◌, ◌-◌, ◌<◌, ◌≤◌, ◌^◌, suc, true, List, [], ◌∷◌, length}
 use Rattle.std.specs.Int.{w32, to_be_bytes}
 use Rattle.amqp_value_core.specs.Values.{Tree, Trees, no_trees, tree, Entries, no_entries, entry}

@@ -1,4 +1,5 @@
--- What is put as the value of an entry: what a call is given, the value and its encoding.
+-- `Item`: what a call is given to put as the value of an entry, and the encoding that it puts
+-- (`IsPutEncoding`).
 use Rattle.std.specs.Prelude.{ℕ, ◌≡◌, None, List, [], ◌∷◌, length, ◌⊎◌, ◌<◌, ◌^◌, ◌++◌, take, if◌then◌else◌}
 use Rattle.amqp_value_core.specs.declared.types.amqp_type.AMQPType.{AMQPType}
 use Rattle.amqp_value_core.specs.Ids.{id_of}

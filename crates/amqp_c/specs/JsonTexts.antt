@@ -1,4 +1,5 @@
--- The call that writes JSON text without an allocator.
+-- `WritesOrderedJson`: what `amqpv_write_json` returns and writes, which can't allocate to sort
+-- keys.
 use Rattle.std.specs.Prelude.{ℕ, ◌≡◌, ℤ, List, length, false, Result, Err, MatchResult, ◌⊎◌}
 use Rattle.amqp_value_core.specs.Outcomes.{found}
 use Rattle.amqp_value_core.specs.Values.{Tree}

@@ -1,4 +1,5 @@
--- Looking up by a key or by an index, in what a cursor has left, whatever bytes these are.
+-- `LooksUp` and `LooksUpNth`: a look-up by a key or by an index, in what a cursor has left,
+-- whatever bytes these are.
 use Rattle.std.specs.Prelude.{ℕ, suc, ◌≡◌, ◌-◌, ◌<◌, ◌≤◌, List, [], ◌++◌, length, take, drop, Bool, true, false, if◌then◌else◌, Option, Some, None, IfSome, Result, Ok, IfOk, IfErr, ◌∷◌}
 use Rattle.std.specs.Option.{option_or}
 use Rattle.amqp_value_core.specs.Values.{Tree, Trees, Entries}

@@ -1,4 +1,5 @@
--- Looking a value up by a path, and what the call for it returns.
+-- `FindsPath`: what `amqpv_find` returns, which follows a path from an entry one step after another
+-- (`StepsLead`).
 use Rattle.std.specs.Prelude.{ℕ, ◌≡◌, List, [], ◌∷◌, length, Bool, false, ◌==◌, if◌then◌else◌, Option, Some, None, IfSome, Result, Ok, Err, IfOk, ℤ}
 use Rattle.amqp_value_core.specs.Values.{Tree, array, table}
 use Rattle.amqp_value_core.specs.Maps.{value_at}

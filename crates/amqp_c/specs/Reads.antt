@@ -1,4 +1,5 @@
--- Reading the value at the start of an input, measuring it, and whether it is encoded canonically.
+-- `ReadsAs`, `IsEntryOf`, `IsMeasured` and `TellsCanonical`: reading the value at the start of an
+-- input, measuring it, and whether it is encoded canonically.
 use Rattle.std.specs.Prelude.{ℕ, ◌≡◌, ◌+◌, ℤ, pos, List, length, Option, None, Result, Ok, Err, ◌≤◌, Bool, true, false, ◌++◌, drop, IfSome, MatchOption}
 use Rattle.amqp_value_core.specs.declared.types.amqp_type.AMQPType.TheVariants.{FieldTable}
 use Rattle.amqp_value_core.specs.Ids.{id_of}

@@ -1,4 +1,4 @@
--- Stepping through the body of a container by a cursor, and what the call for it returns.
+-- `StepsToNext`: what `amqpv_next` returns, which steps a cursor through the body of a container.
 use Rattle.std.specs.Prelude.{ℕ, ◌≡◌, ◌+◌, ◌<◌, ◌≤◌, List, ◌++◌, length, Option, Some, None, Result, Ok, ℤ, IfOk, IfErr}
 use Rattle.amqp_value_core.specs.Values.{Tree, Trees, no_trees, tree, Entries, no_entries, entry}
 use Rattle.amqp_value_core.specs.Grammar.{short_field, ArrayBody, TableBody}

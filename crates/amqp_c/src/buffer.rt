@@ -1,4 +1,5 @@
-//! Writing to a buffer: bytes at its start, and an entry after what a container has.
+//! Writes to the caller's buffer: `append` adds an entry after what a container has, for `put` and
+//! `nest`, and `put_at_start` writes bytes at the start, for amqp_c_alloc.
 
 ghost use Rattle.std.specs.Prelude.{◌≡◌, ◌+◌, ◌≤◌, ◌<◌, ◌^◌, ◌++◌, length, OnErr, MatchResult};
 ghost use Rattle.amqp_value_core.specs.Grammar.{short_field};

@@ -1,4 +1,5 @@
-//! Containers that are put together in a buffer.
+//! `Container` (`amqpv_container`): an array or a table that is being built in a buffer, and
+//! whether an entry with some key can be added to it.
 
 ghost use Rattle.std.specs.Prelude.{◌≡◌, ◌≤◌, ◌<◌, ◌^◌, ℕ, List, length, MatchBool, MatchResult};
 ghost use Rattle.amqp_c.specs.Entries.{IsContainerTag};

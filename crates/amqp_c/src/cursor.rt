@@ -1,4 +1,5 @@
-//! Stepping through a container.
+//! `Cursor` (`amqpv_cursor`): a position in an array or a table. `next` steps to the next entry;
+//! look-ups are in `lookup`.
 
 ghost use Rattle.std.specs.Prelude.{◌≡◌, ◌+◌, ◌<◌, ◌++◌, ℕ, List, length, drop, IfErr, IfOk, IfNone, IfSome, MatchOption};
 ghost use Rattle.amqp_value_core.specs.Values.{Tree, Trees, Entries};

@@ -1,5 +1,5 @@
-//! Why a call fails. The numbers are also in specs/CallResults.antt, which `code` is proved to return, and in
-//! include/amqp_values.h, whose values tests/c/stable.c holds.
+//! `Fault`: why a call fails. Its numbers are also in specs/CallResults.antt, which `code` is
+//! proved to return, and in include/amqp_values.h, whose values tests/c/stable.c holds.
 
 ghost use Rattle.std.specs.Prelude.{◌≡◌};
 ghost use Rattle.amqp_c.specs.CallResults.{header_fault, code_of};

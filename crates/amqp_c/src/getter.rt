@@ -1,4 +1,4 @@
-//! The integer of an entry.
+//! `as_int` and `as_uint`: the integer of an `Entry`, for `amqpv_as_int` and `amqpv_as_uint`.
 
 ghost use Rattle.std.specs.Prelude.{pos, MatchBool, MatchResult};
 ghost use Rattle.amqp_c.specs.Scalars.{IsSignedTag, IsUnsignedTag, IsInteger, RefusesInt, RefusesUint};

@@ -1,4 +1,5 @@
-//! Bytes to read, and how: a view of the value at their start, or why it isn't read.
+//! `Input` (`amqpv_input`): bytes, limits and flags. `view` reads the value at the start of the
+//! bytes, and `read_error` says why it isn't read.
 
 ghost use Rattle.std.specs.Prelude.{◌≡◌, ◌≤◌, ◌↔◌, ℕ, List, false, Err, IsNone, IfSome, length, MatchOption, MatchResult};
 ghost use Rattle.amqp_value_core.specs.Bytes.{IsBytes};

@@ -1,4 +1,5 @@
-//! From an encoding to JSON text, without an allocator.
+//! `put_json`, for `amqpv_write_json`: writes the JSON text of a value without allocating. The one
+//! that may allocate is in amqp_c_alloc.
 
 ghost use Rattle.std.specs.Prelude.{◌≡◌, false, length, Err, MatchResult};
 ghost use Rattle.amqp_c.specs.declared.fault.Fault.TheVariants.{Invalid};

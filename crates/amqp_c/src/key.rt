@@ -1,4 +1,4 @@
-//! Whether bytes can be a key.
+//! `is_key`, for `container`: whether bytes can be the key of an entry that is added to a table.
 
 ghost use Rattle.std.specs.Prelude.{◌≡◌, ◌<◌, ◌≤◌, ◌⊎◌, true, length, MatchBool};
 ghost use Rattle.amqp_value_core.specs.Bytes.{IsShort};

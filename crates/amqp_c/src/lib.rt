@@ -17,7 +17,8 @@
 //! input                    json, by a view of input                          JSON text in a buffer
 //! ```
 //!
-//! Tests are in tests/c, above all test_by_model.py and test_inline.py.
+//! Tests are in `tests/c`: `tests/c/test_by_model.py` compares each call with the reference
+//! implementation, and `tests/c/test_inline.py` does so with the header's inline functions.
 #![tactic(auto)]
 
 ghost use Rattle.std.specs.Prelude.{◌≡◌, Some, None, true, false, pos};

@@ -1,4 +1,5 @@
-//! Looking values up: by a key, by an index, and by a path of these.
+//! `find`, for `amqpv_find`: follows a path from an entry by a look-up for each `Step`, which is a
+//! key or an index.
 
 ghost use Rattle.std.specs.Prelude.{◌≡◌, ◌<◌, ◌++◌, ℕ, List, [], length, drop, Option, None, MatchBool, MatchOption, MatchResult};
 ghost use Rattle.amqp_value_core.specs.Grammar.{short_field};

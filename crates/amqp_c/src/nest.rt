@@ -1,4 +1,5 @@
-//! Containers in containers: an entry that is opened and closed.
+//! `open` and `close` begin and end an entry whose value is an array or a table, for `amqpv_open`
+//! and `amqpv_close`.
 
 ghost use Rattle.std.specs.Prelude.{◌≡◌, ℕ, List, OnErr, MatchResult, MatchBool, MatchOption};
 ghost use Rattle.amqp_value_core.specs.Grammar.{short_field};

@@ -1,4 +1,5 @@
-//! The encodings of values of fixed width.
+//! `Encoding`: the encoding of a value of fixed width, which `encoding_of` makes from a type tag,
+//! bits and a scale, for `put`.
 
 ghost use Rattle.std.specs.Prelude.{◌≡◌, ◌≤◌, ◌∷◌, length, take, MatchBool, MatchOption, MatchResult};
 ghost use Rattle.amqp_value_core.specs.declared.types.amqp_type.AMQPType.TheVariants as amqp;

@@ -1,4 +1,5 @@
-//! Why and where reading failed.
+//! `Problem` (`amqpv_problem`): where reading failed. `ReadError` has the `Fault` too, and is made
+//! from the first problem that amqp_in_place finds.
 
 ghost use Rattle.std.specs.Prelude.{◌≡◌};
 ghost use Rattle.amqp_c.specs.Inputs.{fault_of, missing_of, unknown_tag, header_lack, error_of};

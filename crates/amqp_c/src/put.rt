@@ -1,4 +1,5 @@
-//! Putting an entry: a value of fixed width, a string or a byte array, or an encoded value unchanged.
+//! `put_scalar`, `put_bytes` and `put_value` add an entry to a container: a value of fixed width, a
+//! long string or a byte array, or an encoded value, which is copied unchanged.
 
 ghost use Rattle.std.specs.Prelude.{◌≡◌, ◌≤◌, ◌∷◌, OnErr, MatchResult, MatchBool};
 ghost use Rattle.amq_protocol_types.specs.parsing.Headers.{extent};

@@ -1,4 +1,5 @@
-//! What is told of the value at the start of an input: its entry, its size, and whether it is encoded canonically.
+//! `read`, `peek`, `measure` and `is_canonical`: the entry of the value at the start of an input,
+//! its `Size` (`amqpv_size`), and whether it is encoded canonically.
 
 ghost use Rattle.std.specs.Prelude.{◌≡◌, true, false, None, Some, Ok, IfOk, MatchBool, MatchOption, MatchResult};
 ghost use Rattle.amqp_value_core.specs.Outcomes.{Outcome};

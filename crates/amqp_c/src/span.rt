@@ -1,4 +1,4 @@
-//! Bytes by position.
+//! `Span` (`amqpv_span`): bytes of an input or a buffer, by their offset and their number.
 
 ghost use Rattle.std.specs.Prelude.{◌≡◌, ◌+◌, ◌<◌, ◌≤◌, ◌^◌, length, MatchOption};
 ghost use Rattle.amqp_c.specs.Entries.{part, SpanIsIn, span_after, rest_after, last};

@@ -1,4 +1,5 @@
-//! What a call returns and leaves at its pointers.
+//! The end of each call: `store` and the functions like it write what is returned to the caller's
+//! pointers, and return the result code.
 
 ghost use Rattle.std.specs.Prelude.{◌≡◌, pos, IfOk, IfErr};
 ghost use Rattle.amqp_c.specs.CallResults.{return_code_of, code_of, return_code_if_any, ok_or_old, found_or_old, entry_or_old, cursor_or_old, length_of};

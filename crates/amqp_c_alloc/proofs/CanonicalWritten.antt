@@ -1,4 +1,5 @@
--- The canonical encoding of a value that was read, in the buffer.
+-- Lemmas on `IsCanonicalOf` and `IsCanonicalWritten`: bytes are the canonical encoding of the value
+-- that was read, and are in the buffer.
 use Rattle.std.proofs.Common.{◌≡◌, ◌+◌, ◌<◌, ◌≤◌, ◌^◌, ℕ, suc, Bool, true, false, Some, List, ◌∷◌, ◌++◌, length, take, drop, Result, Ok, Err, MatchResult, refl, sym, ap, ◌∙◌, subst, arith, inr, length-append, if◌then◌else◌}
 use Rattle.std.proofs.lemmas.List.{take_at}
 use Rattle.amqp_value_core.specs.declared.types.amqp_type.AMQPType.{AMQPType}

@@ -1,4 +1,5 @@
--- What was put into the buffer, and why nothing was.
+-- Lemmas on `IsJsonPut` and `IsPutOrRejected`: the JSON text, or the encoding of one, that is put
+-- into the buffer, and why nothing is.
 use Rattle.std.proofs.Common.{◌≡◌, ◌≤◌, ◌<◌, ◌^◌, ℕ, inr, None, List, length, Result, Ok, Err, MatchResult, sym, ap, ◌∙◌, subst, arith}
 use Rattle.std.specs.Prelude.{IfSome}
 use Rattle.std.specs.Str.{IsUtf8}

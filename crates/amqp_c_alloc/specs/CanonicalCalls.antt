@@ -1,4 +1,4 @@
--- The call that writes the canonical encoding.
+-- `WritesCanonical`: what `amqpv_canonical` returns, and what it writes.
 use Rattle.std.specs.Prelude.{ℕ, ◌≡◌, ◌+◌, ◌≤◌, ℤ, List, length, false, Result, Err, IfErr, MatchResult, if◌then◌else◌, ◌⊎◌}
 use Rattle.amqp_value_core.specs.declared.types.amqp_type.AMQPType.TheVariants.{FieldTable}
 use Rattle.amqp_value_core.specs.Values.{Tree}

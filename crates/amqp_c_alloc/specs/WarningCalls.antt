@@ -1,4 +1,5 @@
--- The call that looks for what a client or a stream queue may not accept.
+-- `GivesWarnings`: what `amqpv_warn` returns and writes, which looks for what a client or a stream
+-- queue may not accept.
 use Rattle.std.specs.Prelude.{ℕ, ◌≡◌, ◌<◌, ◌+◌, ◌-◌, ◌^◌, ℤ, min, Bool, true, false, if◌then◌else◌, [], ◌∷◌, length, Option, Some, None, is_some, Result, Ok, Err, MatchResult, ◌⊎◌}
 use Rattle.amqp_in_place.specs.declared.rabbitmq.warning.Warned.{Warned}
 use Rattle.amqp_in_place.specs.RabbitmqWarnings.{WarningPlace, first_repeated_key, first_key_not_utf8, first_empty_key, first_too_deep, first_decimal, in_untagged, passes_frame, AreInside}

@@ -1,4 +1,5 @@
-//! The canonical encoding of the value at the start.
+//! `canonical`, for `amqpv_canonical`: writes the canonical encoding of the value at the start of
+//! an input.
 
 ghost use Rattle.std.specs.Prelude.{◌≡◌, ◌<◌, ◌^◌, false, None, Err, length, IfSome, OnErr, MatchResult};
 ghost use Rattle.amqp_value_core.specs.Texts.{text, size, Fits};

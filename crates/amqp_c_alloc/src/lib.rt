@@ -4,6 +4,9 @@
 //! They allocate by C's `malloc`, `realloc` and `free` (the canonical encoding only if the value isn't encoded so
 //! already, a JSON text only if the keys of a table don't ascend), and free all of it. They keep no state, print
 //! nothing and never end the process. `include/amqp_values.h` declares them, and says how much stack they use.
+//!
+//! Tests are in `tests/c`: `tests/c/test_by_model.py` compares each call with the reference
+//! implementation, and `tests/c/memory.c` makes each allocation fail.
 #![tactic(auto)]
 
 ghost use Rattle.amqp_c_alloc.specs.CanonicalCalls.{WritesCanonical};

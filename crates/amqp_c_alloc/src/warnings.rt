@@ -1,4 +1,5 @@
-//! What RabbitMQ accepts in a value, and a client or a stream queue may not.
+//! `Warnings` (`amqpv_warnings`), for `amqpv_warn`: what RabbitMQ accepts in a value, and a client
+//! or a stream queue may not.
 
 ghost use Rattle.std.specs.Prelude.{◌≡◌, ◌≤◌, MatchResult};
 ghost use Rattle.amqp_c.specs.CallResults.{return_code_of};

@@ -1,3 +1,5 @@
+-- `amqpv_from_json` returns and stores what `put_encoding` gives: the clauses of the functions that
+-- it calls are all that `PutsOrRejects` asks.
 use Rattle.std.proofs.Common.{rules}
 use Rattle.amqp_c_alloc.proofs.amqpv_from_json.Goals as goal
 

@@ -1,3 +1,4 @@
+-- `append` writes an entry: its name, its head and its content are written one right after another.
 use Rattle.std.proofs.Common.{sym, ◌∙◌}
 use Rattle.amqp_c.proofs.Buffers.{named_table, named_other, appended}
 use Rattle.amqp_c.proofs.buffer.append.Goals as goal

@@ -1,3 +1,4 @@
+-- `write_ends` writes all the bytes: the first N and the last N cover any N to 2 * N bytes.
 use Rattle.std.proofs.Common.{◌+◌, ◌-◌, List, ℕ, length, refl, ap, ap₂, ◌∙◌}
 use Rattle.amqp_c.specs.CallResults.{with_bytes}
 use Rattle.amqp_c.proofs.Buffers.{with_bytes-ends}

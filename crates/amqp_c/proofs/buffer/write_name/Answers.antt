@@ -1,3 +1,4 @@
+-- `write_name` writes a key after its length: two adjacent writes are one write of both.
 use Rattle.std.proofs.Common.{◌+◌, ℕ, List, [], ◌∷◌, length, refl, ap, ◌∙◌, arith}
 use Rattle.amqp_c.specs.CallResults.{with_bytes}
 use Rattle.amqp_c.proofs.Buffers.{with_bytes-join}

@@ -1,3 +1,5 @@
+-- `first_of` gives the entry of the value at the start of the span: the one that `first` reads
+-- there, with its offsets moved by that of the span.
 use Rattle.std.proofs.Common.{List, ℕ, length, Ok, subst, sym}
 use Rattle.amqp_value_core.specs.Outcomes.{Outcome, found}
 use Rattle.amqp_c.specs.Entries.{GivesFirst, HeaderFaults, part, IsEntryAtStart, EntryIsIn}

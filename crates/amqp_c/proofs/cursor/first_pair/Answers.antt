@@ -1,3 +1,5 @@
+-- `first_pair` gives the entry of the first pair, or no pair is there: the key is after its length
+-- in one byte, and the value after the key.
 use Rattle.std.proofs.Common.{◌≡◌, ◌+◌, ◌<◌, ◌∷◌, drop, get_or, length, length-drop, ap, refl, arith}
 use Rattle.std.proofs.lemmas.Grind.{common_steps}
 use Rattle.amqp_c.specs.declared.span.Span.{Span}

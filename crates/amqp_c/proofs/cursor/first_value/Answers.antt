@@ -1,3 +1,4 @@
+-- `first_value` gives the entry of an array's first value: `first_of` reads it, and it has no key.
 use Rattle.std.proofs.Common.{refl}
 use Rattle.amqp_c.proofs.Steps.{value_given}
 use Rattle.amqp_c.proofs.cursor.first_value.Goals as goal

@@ -1,3 +1,5 @@
+-- `first` returns the entry of the value at the start, or a fault of its header: a type with
+-- content has that after a length, and `read_fixed` reads any other.
 use Rattle.std.proofs.Common.{◌≡◌, ◌+◌, ◌-◌, ℕ, true, false, List, length, refl, sym, ap, ◌∙◌, subst, arith, length-append}
 use Rattle.std.proofs.lemmas.Result.{err_from_is_err_and}
 use Rattle.amqp_value_core.specs.Bytes.{slice_bytes}

@@ -1,3 +1,5 @@
+-- `read_fixed` reads a value of fixed width, or more bytes are needed: its payload is what
+-- `read_number` reads after the type tag.
 use Rattle.std.proofs.Common.{List, ℕ, sym, subst, arith}
 use Rattle.std.proofs.lemmas.Result.{err_from_is_err_and}
 use Rattle.amqp_value_core.specs.Values.{scalar}

@@ -1,3 +1,5 @@
+-- `view_of_table` returns a view of the table, whose body follows its length, or none is read
+-- within the limits, since bytes aren't both read and rejected.
 use Rattle.amqp_value_core.specs.declared.types.amqp_type.AMQPType.TheVariants.{FieldTable}
 use Rattle.amq_protocol_types.specs.parsing.Untagged.{tagged}
 use Rattle.amqp_in_place.proofs.Canonicals.{bytes_all}

@@ -1,3 +1,5 @@
+-- `view_of_value` returns a view of the value, or none is read within the limits, since bytes
+-- aren't both read and rejected.
 use Rattle.amqp_in_place.proofs.Canonicals.{bytes_all}
 use Rattle.amqp_in_place.proofs.Refusals.{not_read}
 use Rattle.amqp_c.proofs.input.view_of_value.Goals as goal

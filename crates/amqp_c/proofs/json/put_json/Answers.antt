@@ -1,3 +1,5 @@
+-- `put_json` writes the JSON text, or keys don't ascend, or the buffer is too small: by what
+-- `write_json_of_view` returns for the value that is read.
 use Rattle.std.proofs.Common.{◌≤◌, length, refl, ap, inr, inl, arith}
 use Rattle.amqp_c.specs.declared.fault.Fault.TheVariants.{NoRoom}
 use Rattle.amqp_c.specs.Inputs.{limits, encoding}

@@ -1,3 +1,4 @@
+-- `has_no_high_bit`: eight bytes are ASCII if no high bit is set in the number that they make.
 use Rattle.std.proofs.Common.{ℕ, sym, ap, ◌∙◌}
 use Rattle.std.specs.Int.Bits.{bit_and}
 use Rattle.std.proofs.lemmas.Bool.{eqb-true}

@@ -1,3 +1,4 @@
+-- `is_short_ascii`: up to 16 bytes are ASCII if the first eight and the last eight are.
 use Rattle.std.proofs.Common.{arith}
 use Rattle.amqp_c.proofs.Ascii.{ends_are_ascii}
 use Rattle.amqp_c.proofs.key.is_short_ascii.Goals as goal

@@ -1,3 +1,5 @@
+-- `find` returns what the path leads to (`StepsLead`): the loop takes one step after another, until
+-- one finds nothing or fails.
 use Rattle.std.proofs.Common.{◌≡◌, ◌<◌, ◌≤◌, length, Option, Some, None, Ok, Err, ap, ◌∙◌, arith}
 use Rattle.std.proofs.lemmas.Grind.{common_steps}
 use Rattle.std.proofs.lemmas.Result.{err_from_is_err_and}

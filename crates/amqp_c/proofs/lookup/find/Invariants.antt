@@ -1,3 +1,4 @@
+-- Of the loop in `find`: the path leads from `from` to what the steps left lead to from `at`.
 use Rattle.std.proofs.Common.{Option, Result, length, drop}
 use Rattle.amqp_c.specs.declared.entry.Entry.{Entry}
 use Rattle.amqp_c.specs.declared.fault.Fault.{Fault}

@@ -1,3 +1,5 @@
+-- `place_of_index` returns where the value at the index begins: each step of the loop passes one
+-- value, and one fewer is before the one that is meant.
 use Rattle.std.proofs.Common.{◌≡◌, ◌<◌, length, None, refl, sym, arith}
 use Rattle.std.proofs.lemmas.Grind.{common_steps}
 use Rattle.amq_protocol_types.specs.parsing.Headers.{extent}

@@ -1,3 +1,4 @@
+-- Of the loop in `place_of_index`: the value at `index` in `values` is at `before` in `left`.
 use Rattle.std.proofs.Common.{ℕ, List, Option, length}
 use Rattle.amqp_c.specs.LookUps.{HasNth}
 use Rattle.amqp_c.proofs.LookUps.{IsEndOf}

@@ -1,3 +1,5 @@
+-- `place_of_key` returns where the pair with the key begins: the loop returns at the first, or
+-- keeps the last until no bytes are left.
 use Rattle.std.proofs.Common.{◌≡◌, ◌<◌, Bool, true, false, cond, length, Some, refl, sym, ap, ◌∙◌, arith}
 use Rattle.std.proofs.lemmas.Grind.{common_steps}
 use Rattle.std.specs.Cmp.Lexicographic.{bytes_decides}

@@ -1,3 +1,5 @@
+-- Of the loop in `place_of_key`: `at` is where the last pair with the key begins, among those
+-- before `left` (`SearchedTo`).
 use Rattle.std.proofs.Common.{length}
 use Rattle.amqp_c.proofs.LookUps.{IsEndOf, SearchedTo}
 use Rattle.amqp_c.proofs.lookup.place_of_key.Given as goal

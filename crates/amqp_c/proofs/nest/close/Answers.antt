@@ -1,3 +1,5 @@
+-- `close` closes the entry (`IsClosed`): with the length of the body before it, the body becomes an
+-- encoding, by which the container grows.
 use Rattle.std.proofs.Common.{◌≡◌, ◌<◌, ◌-◌, ◌^◌, List, ℕ, ap, ◌∙◌, arith, rules}
 use Rattle.std.specs.Int.{w32, to_be_bytes}
 use Rattle.amqp_c.specs.CallResults.{with_bytes}

@@ -1,3 +1,5 @@
+-- `is_open` tells whether the body is open there: between what `into` has and the body's length are
+-- a name that it may have and the body's type tag.
 use Rattle.std.proofs.Common.{◌-◌, arith}
 use Rattle.amqp_c.proofs.Growth.{is_open}
 use Rattle.amqp_c.proofs.nest.is_open.Goals as goal

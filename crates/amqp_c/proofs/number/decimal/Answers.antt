@@ -1,3 +1,5 @@
+-- `decimal` encodes the decimal of the scale and the bits, which fit 32 bits: the scale in a byte,
+-- then the bits in four.
 use Rattle.std.proofs.Common.{refl, ap, ◌∙◌}
 use Rattle.std.specs.Int.{w32, to_be_bytes}
 use Rattle.amqp_value_core.specs.Values.{decimal}

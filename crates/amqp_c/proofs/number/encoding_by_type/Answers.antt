@@ -1,3 +1,5 @@
+-- `encoding_by_type` encodes the number that the bits determine: they are converted to the type's
+-- width without loss, and written big-endian.
 use Rattle.std.proofs.Common.{ℕ, [], ◌∷◌, refl, ap, ◌∙◌, rules}
 use Rattle.std.specs.Int.{w8, w16, w32, cast_unsigned, to_be_bytes}
 use Rattle.std.proofs.lemmas.Int.{of_z-to_z}

@@ -1,3 +1,5 @@
+-- `is_scalar_tag`: a value of fixed width has the type tag if the tag's type has no content, and is
+-- written with this tag.
 use Rattle.std.proofs.Common.{◌∙◌, sym}
 use Rattle.amqp_c.proofs.Scalars.{same_id}
 use Rattle.amqp_c.proofs.number.is_scalar_tag.Goals as goal

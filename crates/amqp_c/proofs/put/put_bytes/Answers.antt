@@ -1,3 +1,5 @@
+-- `put_bytes` puts an entry with the string or byte array: type tag, length and bytes are its
+-- canonical encoding.
 use Rattle.std.proofs.Common.{◌≡◌, ◌<◌, ◌^◌, ℕ, List, ◌∷◌, ◌++◌, length, refl, ap, ◌∙◌, arith, rules}
 use Rattle.std.specs.Int.{w32, to_be_bytes}
 use Rattle.amqp_c.specs.Items.{byte_string}

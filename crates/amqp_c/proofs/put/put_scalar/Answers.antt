@@ -1,3 +1,5 @@
+-- `put_scalar` puts an entry with the value of fixed width: the parts of `encoding_of` are its
+-- canonical encoding.
 use Rattle.std.proofs.Common.{◌∷◌, take, ◌∙◌}
 use Rattle.amqp_value_core.specs.Values.{scalar}
 use Rattle.amqp_c.specs.Items.{fixed_width}

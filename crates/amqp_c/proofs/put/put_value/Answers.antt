@@ -1,3 +1,5 @@
+-- `put_value` puts an entry with the value that is read: the bytes that its header counts are all
+-- there, and are its encoding, after the type tag if the input lacks it.
 use Rattle.std.proofs.Common.{◌≡◌, ◌-◌, ◌++◌, None, length, take, refl, sym, ◌∙◌, subst, arith}
 use Rattle.std.proofs.lemmas.List.{length-take-le}
 use Rattle.amqp_c.specs.Inputs.{read_error}

@@ -1,3 +1,5 @@
+-- `first_table`: if the length or the body is cut, the fault is right for the table with its type
+-- tag, which lacks as many bytes.
 use Rattle.std.proofs.Common.{List, ℕ, refl, subst}
 use Rattle.std.proofs.lemmas.Result.{err_from_is_err_and}
 use Rattle.amqp_value_core.specs.declared.types.amqp_type.AMQPType.TheVariants.{FieldTable}

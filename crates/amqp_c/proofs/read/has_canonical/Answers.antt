@@ -1,3 +1,5 @@
+-- `has_canonical` tells whether the value is encoded canonically: the search for a canonical
+-- encoding, which returns its length, finds it or shows that there is none.
 use Rattle.std.proofs.Common.{◌+◌, true, false, sym, ◌∙◌}
 use Rattle.amqp_c.proofs.Reading.{told}
 use Rattle.amqp_c.proofs.read.has_canonical.Goals as goal

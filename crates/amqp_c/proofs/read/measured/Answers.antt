@@ -1,3 +1,5 @@
+-- `measured` returns the size of the value that is read, or none is read: what holds of the limits
+-- and bytes that are measured holds of the input.
 use Rattle.std.proofs.Common.{ℕ, true, false, List, sym, ◌∙◌}
 use Rattle.amq_protocol_types.specs.declared.parsing.within.Limits.{Limits}
 use Rattle.amqp_in_place.specs.ProblemResults.{FindsValue}

@@ -1,3 +1,5 @@
+-- `read` returns the entry if there is no problem: the bytes then hold all that the header counts,
+-- so `peek` has not failed.
 use Rattle.std.proofs.Common.{refl, sym, ◌∙◌, subst}
 use Rattle.std.specs.Option.{IfSome}
 use Rattle.amqp_in_place.specs.declared.problems.Rules.{Rules}

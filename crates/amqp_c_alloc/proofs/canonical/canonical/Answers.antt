@@ -1,3 +1,5 @@
+-- `canonical` writes the canonical encoding of the value that is read: the bytes at the start that
+-- are canonical, or else what `encode` writes for the value, which fits.
 use Rattle.std.proofs.Common.{◌≡◌, ◌-◌, ◌∙◌, ℕ, List, length, take, drop, length-drop, refl, ap₂, inl, inr, arith, rules, if◌then◌else◌}
 use Rattle.std.proofs.lemmas.Result.{err_from_is_err_and}
 use Rattle.std.proofs.lemmas.List.{take_all}

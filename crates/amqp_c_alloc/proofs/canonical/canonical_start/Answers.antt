@@ -1,3 +1,5 @@
+-- `canonical_start` returns nothing only if the input has no canonical encoding at its start: both
+-- searches look at the input's own bytes, with the type tag if it lacks that.
 use Rattle.std.proofs.Common.{◌≡◌, refl, sym}
 use Rattle.amqp_value_core.specs.declared.types.amqp_type.AMQPType.TheVariants.{FieldTable}
 use Rattle.amq_protocol_types.specs.parsing.Untagged.{tagged}

@@ -1,3 +1,5 @@
+-- `canonical_table` returns the canonical encoding of the table: the bytes that
+-- `canonical_table_len` counts are canonical after a table's type tag.
 use Rattle.std.proofs.Common.{◌+◌, refl, subst, arith}
 use Rattle.amqp_value_core.specs.declared.types.amqp_type.AMQPType.TheVariants.{FieldTable}
 use Rattle.amq_protocol_types.specs.parsing.Untagged.{tagged}

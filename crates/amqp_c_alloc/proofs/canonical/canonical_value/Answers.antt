@@ -1,3 +1,5 @@
+-- `canonical_value` returns the canonical encoding of the value: the bytes that `canonical_len`
+-- counts are canonical, and so the ones that are written for it.
 use Rattle.std.proofs.Common.{refl}
 use Rattle.amqp_in_place.proofs.Canonicals.{bytes_all}
 use Rattle.amqp_c_alloc.proofs.CanonicalWritten.{canonical_prefix}

@@ -1,3 +1,5 @@
+-- `put_encoding` puts the encoding of the value that the text means, or reports why and where the
+-- text is rejected, by what `encoding_of_json_within` returns.
 use Rattle.std.proofs.Common.{List, ℕ, length, min, ◌≡◌, Some, subst}
 use Rattle.amqp_json.specs.Conversions.{IsRefusedWithin, IsWithin}
 use Rattle.amqp_json.specs.Meaning.{most_levels, meant_within}

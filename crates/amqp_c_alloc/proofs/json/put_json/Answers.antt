@@ -1,3 +1,5 @@
+-- `put_json` puts the JSON text of the value that is read: written at once if it was measured to
+-- fit, or made by `json_of_view` if keys don't ascend.
 use Rattle.std.proofs.Common.{◌≡◌, string_bytes, refl, ap, inl, inr, arith, rules}
 use Rattle.amqp_c.specs.declared.fault.Fault.TheVariants.{NoRoom}
 use Rattle.amqp_c.specs.Inputs.{limits, encoding}

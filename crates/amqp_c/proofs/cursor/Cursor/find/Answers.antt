@@ -1,3 +1,5 @@
+-- `Cursor::find` (src/lookup.rt): none at the key, cut before or at it, or found, as the definition
+-- of a look-up has it, by the place that `place_of_key` returns.
 use Rattle.std.proofs.Common.{◌≡◌, ℕ, Option, Some, None, Ok, ap, ◌∙◌}
 use Rattle.std.proofs.lemmas.Result.{err_from_is_err_and}
 use Rattle.amqp_c.proofs.LookUps.{none_at_key, cut_before_key, cut_at_key, found_at_key}

@@ -1,3 +1,5 @@
+-- `Cursor::nth` (src/lookup.rt): none at the index, cut before or at it, or found, as the
+-- definition of a look-up has it, by the place that `place_of_index` returns.
 use Rattle.std.proofs.Common.{◌≡◌, ℕ, Option, Some, None, Ok, ap, ◌∙◌}
 use Rattle.std.proofs.lemmas.Result.{err_from_is_err_and}
 use Rattle.amqp_c.proofs.LookUps.{none_at_index, cut_before_index, cut_at_index, found_at_index}

@@ -1,3 +1,5 @@
+-- `Encoding::new` holds its type tag and its payload: the bytes of its number begin with the
+-- payload that the number was made from.
 use Rattle.std.proofs.Common.{◌∷◌, ◌∙◌, take, length, ap, rules}
 use Rattle.std.proofs.lemmas.Nat.{le_bytes_8}
 use Rattle.amqp_c.proofs.number.Encoding.new.Goals as goal
