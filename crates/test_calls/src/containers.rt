@@ -1,6 +1,7 @@
-//! Arrays and tables: `push ARRAY VALUE`, `insert TABLE KEY VALUE`, `place TABLE KEY VALUE`, `contains_key TABLE KEY`
-//! and `walk TABLE`; and how they are made: `from_values VALUES`, `from_map ENTRIES`, `from_pairs ENTRIES` and
-//! `from_entries ENTRIES`, an entry being `KEY:VALUE`.
+//! Requests on arrays and tables: `push ARRAY VALUE`, `insert TABLE KEY VALUE`,
+//! `place TABLE KEY VALUE`, `contains_key TABLE KEY` and `walk TABLE`; and on how they are made:
+//! `from_values VALUES`, `from_map ENTRIES`, `from_pairs ENTRIES` and `from_entries ENTRIES`, an
+//! entry being `KEY:VALUE`.
 
 use super::strings::not_copied;
 use super::values::{Word, made, short_string, value_of};

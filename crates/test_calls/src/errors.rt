@@ -1,5 +1,5 @@
-//! Texts of errors: `message BYTES` of the error that `parse_value` returns, `message_of ERROR` of an
-//! error by its name.
+//! Requests for texts of errors: `message_of ERROR`, of an error by its name; and `message BYTES`,
+//! of the error that `parse_value` returns, which `parse` answers by `message` of this module.
 
 use super::words::{bytes_of, kind_of, number, shown};
 use super::{Answer, Trouble};

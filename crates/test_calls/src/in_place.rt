@@ -1,4 +1,5 @@
-//! Reading in place: `CALL BYTES`.
+//! Requests to read in place: `CALL BYTES`, of `read_in_place`, `skip_value`, `canonical_len` and
+//! their variants, and of `json_of_encoding`. `lookups` has those on the value that is read.
 //!
 //! Each is answered without limits. Then it is asked with each small limit: a frame of some bytes more than the input,
 //! and then fewer, and a depth of a few levels, and then fewer. The answer names the limits at which it changes, as in

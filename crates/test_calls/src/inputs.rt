@@ -1,4 +1,5 @@
-//! Inputs: `input N BYTES BYTES` splits an input of two slices at N. The bytes in one slice have to be the same.
+//! Requests on `SplitInput`, an input of two slices: `input N BYTES BYTES` splits it at N. The
+//! bytes in one slice have to be the same.
 
 use super::words::{bytes_of, digits, number};
 use super::{Answer, Trouble};

@@ -1,6 +1,6 @@
-//! JSON: `json TEXT`, or `json_bytes BYTES` for a text of any bytes; `to_json VALUE`; `json_message BYTES`
-//! and `to_json_message VALUE` for the message of their error; and `json_of_encoding BYTES`, which is
-//! called with each small limit as the calls of `in_place` are.
+//! Requests to convert JSON: `json TEXT`, or `json_bytes BYTES` for a text of any bytes;
+//! `to_json VALUE`; `json_message BYTES` and `to_json_message VALUE` for the message of their
+//! error; and `json_of_encoding BYTES`, which `in_place` calls with each small limit.
 //!
 //! If two calls don't agree, or a text that was written isn't read back, that is shown after the answer.
 

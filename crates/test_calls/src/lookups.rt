@@ -1,5 +1,5 @@
-//! What a value in place holds: `iter BYTES [STEPS]`, `get BYTES KEY`, `get_path BYTES STEPS`, `repeated_key BYTES` and
-//! `view_getters BYTES`.
+//! Requests on a `ValueRef`, a value that is read in place: `iter BYTES [STEPS]`, `get BYTES KEY`,
+//! `get_path BYTES STEPS`, `repeated_key BYTES` and `view_getters BYTES`.
 //!
 //! Steps are `-` for none, or joined by `/`, each a position or a key.
 

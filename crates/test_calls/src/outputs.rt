@@ -1,4 +1,5 @@
-//! Outputs: `output WHERE CALLS` makes the calls one after another. The answer has that of each, and what was written.
+//! Requests on `Output`: `output WHERE CALLS` makes the calls one after another. The answer has
+//! that of each, and what was written.
 //!
 //! WHERE is a slice's length, `vec`, or `io:STEPS`. A call is `put:BYTES`, `make_room:N`, and of a buffer
 //! `reserve:N`, `fill:AT:BYTES` or `back_to:AT`.

@@ -1,5 +1,6 @@
-//! Strings: `try_new STRING`, `try_copy STRING`, `order STRING STRING`, `order_bytes BYTES BYTES`, `long_string BYTES`,
-//! `byte_array BYTES`, and `hash_decimal DECIMAL DECIMAL`.
+//! Requests on strings: `try_new STRING`, `try_copy STRING`, `order STRING STRING`,
+//! `long_string BYTES`, `byte_array BYTES` and `order_bytes BYTES BYTES`; and
+//! `hash_decimal DECIMAL DECIMAL`.
 
 use super::values::{Word, decimal_of, short_string};
 use super::words::{bytes_of, named, ok, plain, quoted, shown, text_of};

@@ -1,4 +1,5 @@
-//! What `gen_value` writes for values that `parse_value` read.
+//! `word_of` answers `wire`, `wire_as` and `wire_sizes`, for `parse`: what `gen_value` writes for a
+//! value that `parse_value` read.
 //!
 //! Each value is written to a vector and to a slice as long as the bytes that it was read from, and is read back.
 

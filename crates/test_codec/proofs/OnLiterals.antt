@@ -1,4 +1,5 @@
--- Which bytes of the worked examples are UTF-8, by computation.
+-- Which literals of src/worked/encodings.rt are UTF-8, by computing `is_utf8`: its tactics cite
+-- them.
 use Rattle.std.proofs.Common.{◌≡◌, refl, true, false, [], ◌∷◌}
 use Rattle.std.specs.Str.{is_utf8, chars}
 use lib.Utf8.{encode}

@@ -1,4 +1,5 @@
-//! The one error that every error of the crate becomes by `?`, and the texts of errors of JSON.
+//! Tests of `Error`, which every error of amq_protocol_types becomes by `?`, and of the texts of
+//! `JsonError` and `EncodeError`.
 
 use amq_protocol_types::generation::{SliceOutput, WriteContext, gen_value};
 use amq_protocol_types::parsing::{SliceInput, parse_value};

@@ -1,4 +1,4 @@
-//! Parsers over an input that is none of the crate's own.
+//! Tests of parsers over `Singles`, a `ParsableInput` that isn't one of the library's own.
 
 use amq_protocol_types::AMQPValue;
 use amq_protocol_types::parsing::traits::ParsableInput;

@@ -1,4 +1,5 @@
-//! Several generators through one context, and an output that notes what is asked of it.
+//! Tests of several generators through one `WriteContext`, and of what `gen_value` asks of
+//! `Recorder`, an `Output` that notes it.
 
 use amq_protocol_types::generation::*;
 use amq_protocol_types::parsing::{SliceInput, parse_value};

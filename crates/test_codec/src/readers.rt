@@ -1,4 +1,5 @@
-//! How many bytes a reader of values asks its source for: never more than the value still needs.
+//! Tests of how many bytes `Values::next_from` asks its reader for: never more than the value still
+//! needs.
 
 use amq_protocol_types::stream::{Limits, Values};
 use std::alloc::Global;

@@ -1,4 +1,4 @@
-//! Flags.
+//! Calls of `AMQPFlags`, and `parse_flags`, with a hundred thousand flags.
 
 use super::{Done, Unmade, done};
 use amq_protocol_types::flags::AMQPFlags;

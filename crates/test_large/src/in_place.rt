@@ -1,4 +1,5 @@
-//! Reading in place.
+//! Calls of amqp_in_place that allocate, `to_owned`, `repeated_key` and `warnings`, with a long
+//! string, a large array or a large table.
 
 use super::inputs::{LIMITS, array_body, bytes, encoding, table_body};
 use super::{Done, Unmade, done};

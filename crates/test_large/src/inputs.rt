@@ -1,4 +1,5 @@
-//! What calls are made with.
+//! What the other modules make calls with: a mebibyte of bytes or of text, many values, many
+//! entries.
 
 use super::Unmade;
 use amq_protocol_types::parsing::{SliceInput, parse_field_table};

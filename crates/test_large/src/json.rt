@@ -1,4 +1,4 @@
-//! JSON, of a long string.
+//! Calls of amqp_json, with a long string or its JSON text.
 
 use super::inputs::{LIMITS, MUCH, bytes, encoding, text};
 use super::{Done, Unmade, done};

@@ -2,7 +2,8 @@
 //! asks for a mebibyte of memory, or has a hundred thousand flags. Prints whether it was done or
 //! gave up. No contract says that there was memory.
 //!
-//! A method's name is after that of its type, as `rt check` has it.
+//! A method's name is after that of its type, as `rt check` has it. The file `stdin` has all names,
+//! and `stdout` has what must be printed.
 #![tactic(auto)]
 
 mod flags;

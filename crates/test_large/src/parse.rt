@@ -1,4 +1,4 @@
-//! Parsers.
+//! Calls of parsers, with a long string, a large array or a large table.
 
 use super::inputs::{LIMITS, SHORT, array_body, bytes, encoding, payload, table_body};
 use super::{Done, Unmade, done};

@@ -1,4 +1,4 @@
-//! Readers of values.
+//! `ValueReader::next` and `Values::next_from`, with a long string and with a large array.
 
 use super::inputs::{LIMITS, array_body, bytes, encoding};
 use super::{Done, Unmade, done};

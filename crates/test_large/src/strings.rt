@@ -1,4 +1,5 @@
-//! Strings. A short string has at most 255 bytes.
+//! Calls of `LongString` and `ByteArray` with a mebibyte, and of `ShortString` with 255 bytes,
+//! which is the most that it may have.
 
 use super::inputs::{MUCH, SHORT, bytes, text};
 use super::{Done, Unmade, done};

@@ -1,4 +1,4 @@
-//! Values, arrays and tables.
+//! Calls of `AMQPValue`, `FieldArray` and `FieldTable`, with many values or many entries.
 
 use super::inputs::{MANY, MUCH, SHORT, bytes, short_key_of, table, text, values};
 use super::{Done, Unmade, done};

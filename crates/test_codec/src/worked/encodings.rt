@@ -1,4 +1,5 @@
-//! Worked examples: what the definitions state of some bytes and of some values.
+//! Worked examples of encodings: above all what `compute_outcome` reads from some bytes, and what
+//! `text` writes for some values.
 //!
 //! Bytes are written as `hex` reads them: two digits a byte, type tags and strings between quotes.
 

@@ -1,4 +1,4 @@
-//! Worked examples: what some flags are packed to, and some bytes unpacked to.
+//! Worked examples of `pack` and `unpack`: flags as the bits of bytes, and back.
 
 ghost use Rattle.std.specs.Prelude.{◌≡◌, true, false, [], ◌∷◌, codes};
 ghost use Rattle.amqp_value_core.specs.Decode.{hex};

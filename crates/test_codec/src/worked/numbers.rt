@@ -1,4 +1,4 @@
-//! Worked examples: what the definitions state of some values in memory.
+//! A worked example of `view`: the `Tree` that stands for a negative number in memory.
 
 ghost use Rattle.std.specs.Prelude.{◌≡◌, negsuc};
 ghost use Rattle.amqp_value_core.specs.Values.{number, scalar};

@@ -1,3 +1,5 @@
+-- `a_large_table`: the value is written as these bytes, and read from them, by computation, with
+-- `is_utf8` unfolded.
 use Rattle.std.proofs.Common.{refl}
 use Rattle.std.specs.Str.{is_utf8, chars}
 use lib.Utf8.{encode}

@@ -1,3 +1,5 @@
+-- `by_the_grammar`: each outcome is the one that `compute_outcome` returns, which the grammar has
+-- too.
 use Rattle.std.proofs.Common.{rules}
 use Rattle.std.specs.Str.{is_utf8, chars}
 use lib.Utf8.{encode}

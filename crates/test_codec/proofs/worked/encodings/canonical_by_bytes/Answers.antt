@@ -1,3 +1,5 @@
+-- `canonical_by_bytes`: the table's text is canonical. The others aren't, since a canonical
+-- encoding has no alternate tag, no 7 for true, and no short string.
 use Rattle.std.proofs.Common.{◌≡◌, ℕ, List, [], ◌∷◌, rules, refl, subst, arith}
 use Rattle.std.specs.Str.{is_utf8, chars}
 use lib.Utf8.{encode}

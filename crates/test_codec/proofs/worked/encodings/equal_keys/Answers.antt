@@ -1,3 +1,5 @@
+-- `equal_keys`: of equal keys the last value stays. What is read is computed, and `Mean` takes the
+-- last value, and keys that ascend.
 use Rattle.std.proofs.Common.{refl, ap}
 use Rattle.std.specs.Str.{is_utf8, chars}
 use Rattle.std.specs.Prelude.{codes}

@@ -1,3 +1,4 @@
+-- `a_negative_number`: `view` is a fold, so it computes once the value is written as its variant.
 use Rattle.std.proofs.Common.{negsuc, ap, sym, ◌∙◌}
 use Rattle.amqp_value_core.specs.Values.{Tree, Trees, Entries}
 use Rattle.amqp_value_core.specs.View.{view, view_step, array_step, table_step}

@@ -1,3 +1,4 @@
+-- The closure in `put_two_numbers` only appends, since each of its two generators does.
 use Rattle.amq_protocol_types.proofs.Lengths.{write_appends, then_appends}
 use Rattle.test_codec.proofs.closures.fn.put_two_numbers.gen_with_len.Goals as goal
 
