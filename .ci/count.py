@@ -1,5 +1,5 @@
 #!/usr/bin/env python3
-"""Says how the steps of a run ended: .ci/count.py FOLDER BEGUN STEP..
+"""Says how the steps of .ci/steps.mk ended, by the logs that .ci/step wrote: .ci/count.py FOLDER BEGUN STEP..
 
 FOLDER has the file STEP.log of each, as .ci/step writes it. Of a step that failed the end is printed, with the path of its log. The
 last line has the counts, and names what WITHOUT skipped; the counts also stand alone on the line before.

@@ -1,4 +1,4 @@
-"""What is tested from outside. What the tests share with CI and with what is packed is in packaging."""
+"""Puts packaging/, whose modules the tests share with CI and with what is packed, on `sys.path`."""
 
 import sys
 from pathlib import Path

@@ -1,4 +1,8 @@
-"""Rows of crates/test_calls: REQUEST => ANSWER, a line each, and words of bytes in them."""
+"""Parses the rows of crates/test_calls/data, `REQUEST => ANSWER` (`rows`), and words that are bytes (`bytes_of`).
+
+The suites model, oracle and wire use it. tests/memory/calls.py says what the same requests may answer if an allocation
+fails; tests/c/calls.py has the names of the C API's functions.
+"""
 
 from collections.abc import Iterator
 from pathlib import Path

@@ -1,4 +1,4 @@
-"""What tests share that need no pytest: checks that are counted, what a file has, commands, programs, and these with little of a resource."""
+"""Helpers of tests and scripts that need no pytest: `run` a command, a program that is `built`, a script's `Checks`."""
 
 import resource
 import subprocess

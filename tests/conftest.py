@@ -1,4 +1,4 @@
-"""What all tests share: which are skipped, how random they are, what they note, whether they write files, amqp_show, and the library.
+"""Options and fixtures of all suites: --write, --seed, `program` (amqp_show), `library` (the C API) and others.
 
 The last line that a run prints is 'N passed, M failed'. A test that is skipped has shown nothing: it counts as failed, unless
 WITHOUT names what it needs.

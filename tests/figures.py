@@ -1,4 +1,4 @@
-"""Numbers, defaults and versions that pages and sources repeat: each is that of the place where it is made (tests/pages.py)."""
+"""`faults`, for tests/pages.py: numbers, defaults and versions that a page or source repeats and has wrong."""
 
 import re
 import subprocess

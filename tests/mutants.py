@@ -59,6 +59,7 @@ class Edit:
     def __init__(self, block: str) -> None:
         self.name, *lines = block.strip().split("\n")
         self.pairs: list[tuple[str, str, str]] = []
+        # what the block says after each word (in other functions `said` is what a check prints, or the arguments)
         said, self.fault = dict.fromkeys(("file:", "refused:", "clause:", "old:"), ""), ""
         for word, _, rest in (it.partition(" ") for it in lines):
             if word in said:
@@ -121,7 +122,7 @@ class Copy:
         return done.stdout + done.stderr
 
     def failed(self, said: str, path: str, reason: str) -> list[str]:
-        """The goals of a function that fail: those that the search left open, and those whose answer is refused."""
+        """The goals of a function that fail, by a check's output `said`: left open, or with a refused answer."""
         name, proofs = path.split("::")[-1], self.proofs(path)
         file = str(proofs.relative_to(self.folder) / "Answers.antt")
         found = re.findall("`(.*?)`", " ".join(re.findall(r"`search` did not prove ((?:`[^`]*`(?:, )?)+)", reason)))

@@ -1,4 +1,7 @@
-"""The Python package, built before the tests are read that import it: once, also if several processes run them."""
+"""`put_package` builds the Python package and puts it on `sys.path`, for the suites python and rabbitmq.
+
+It is built before the tests are read that import it: once, also if several processes run them.
+"""
 
 import os
 import shutil

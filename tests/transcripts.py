@@ -1,4 +1,4 @@
-r"""Cases of programs as transcripts: what is typed, and what a program then prints, as a README shows it.
+r"""Parses transcripts, *.t of tests/show and examples/c, into `cases`: what is typed, and what a program then prints.
 
     stream_no_hex
       $ echo 74 01 zz | amqp_show --stream --hex

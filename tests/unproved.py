@@ -1,8 +1,9 @@
-"""The steps of `make test`: they prove nothing, and need only the kit and Python's standard library.
+"""Runs a crate's tests or its program by `rt try`, without proofs, as a step of `make test`.
 
-`unproved.py tests CRATE` runs the tests of a crate (rt try --test). `unproved.py runs CRATE` runs a program over its file stdin and
-compares what it prints with its file stdout, and of amqp_show also the cases of tests/show. `make check` tests what needs the
-programs that the proofs leave: standard error, statuses, terminals, failed allocations, and the C API.
+It needs only the kit and Python's standard library. `unproved.py tests CRATE` runs the tests of a crate (rt try
+--test). `unproved.py runs CRATE` runs a program over its file stdin and compares what it prints with its file stdout,
+and of amqp_show also the cases of tests/show. `make check` tests what needs the programs that the proofs leave:
+standard error, statuses, terminals, failed allocations, and the C API.
 """
 
 import re

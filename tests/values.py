@@ -1,4 +1,7 @@
-"""What the Python package has for a value of the model, the model for one of the package, and errors of the package."""
+"""Turns values of the model into the Python package's (`python_of`) and back (`form`), and its errors into tuples.
+
+The suites python and rabbitmq use it.
+"""
 
 import struct
 from collections.abc import Callable

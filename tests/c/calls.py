@@ -1,4 +1,8 @@
-"""The calls of each library, as the header declares them: those that allocate are in a section of their own."""
+"""`CALLS`: the names of the functions of the C API, by library, as the header declares them, for three modules here.
+
+Those that allocate are in a section of the header of their own. tests/c_api.py calls the functions; tests/calls.py and
+tests/memory/calls.py are about the requests of crates/test_calls.
+"""
 
 import re
 

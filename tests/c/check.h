@@ -1,4 +1,7 @@
-/* What the programs that try the C API share: CHECK, by which they end, and allocations that are counted and fail. */
+/*
+ * What the programs share that test_programs.py runs: `CHECK`, which aborts if a condition doesn't hold, and `guarded`,
+ * memory that ends where a page begins that can't be accessed.
+ */
 #ifndef CHECK_H
 #define CHECK_H
 

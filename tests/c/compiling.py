@@ -1,4 +1,4 @@
-"""How C is compiled over the libraries of the C API, and run."""
+"""Compiles C over the libraries of the C API and runs it, for the tests in tests/c: `compiled`, `run`, `symbols`."""
 
 import re
 from pathlib import Path

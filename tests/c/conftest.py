@@ -1,4 +1,4 @@
-"""What the tests of the C API are given: the libraries, what is made of them, and a folder to work in."""
+"""Fixtures of tests/c: the built `libraries`, the `prefix` that they are installed in, and a `folder` to work in."""
 
 import shutil
 import tempfile

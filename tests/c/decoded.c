@@ -1,8 +1,10 @@
 /*
- * Decodes tables by librabbitmq, and prints them, so that what is before librabbitmq can be compared with nothing before it:
- * decoded [STACK [FRAME DEPTH OPTIONS]]. A line of standard input is a table without its type tag, in hexadecimal. Its line of output has the
- * status, how many bytes were taken, and the table. The thread has a stack of STACK bytes. With IS_LIMITED the program sets
- * the limits of what is before librabbitmq.
+ * Decodes tables by librabbitmq and prints them: decoded [STACK [FRAME DEPTH OPTIONS]]. test_before_librabbitmq.py runs
+ * it with libamqp_values_rabbitmq.so, which overrides librabbitmq's amqp_decode_table, and without it.
+ *
+ * A line of standard input is a table without its type tag, in hexadecimal. Its line of output has the status, how many
+ * bytes were taken, and the table. The thread has a stack of STACK bytes. With IS_LIMITED the program sets the limits
+ * of what is before librabbitmq.
  *
  * With BY_PLUGIN, the path of librabbitmq, that is loaded as a plug-in is, and decodes the headers of a message.
  */

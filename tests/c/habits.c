@@ -1,6 +1,6 @@
 /*
- * Does what a C programmer may do by habit, and what the header allows: each call has the result that its description leads
- * one to expect. Prints how many calls it made.
+ * Uses the C API as C programmers may do by habit and the header allows, for example with NULL for a problem: each call
+ * has the result that its description leads one to expect. test_programs.py runs it. Prints how many calls it made.
  */
 #include "check.h"
 

@@ -1,6 +1,6 @@
 /*
- * Uses the macros and inline functions of amqp_values.h in what every version of C and C++ from C99 and C++11 on compiles. It is
- * compiled with all warnings, and not run.
+ * Uses the macros and inline functions of amqp_values.h in code that each version of C from C99 and of C++ from C++11
+ * on has to compile. test_header.py compiles it with all warnings, and doesn't run it.
  */
 #include "amqp_values.h"
 

@@ -1,7 +1,7 @@
 /*
- * Calls the inline functions of amqp_values.h as the lines of standard input say, and prints what they return; the model is in
- * test_inline.py. Keys and bytes are hexadecimal digits after a `.`, and a key that is NULL is `-`. All that is passed is in
- * blocks of its size, so that sanitizers see each access outside.
+ * Calls the inline functions of amqp_values.h as the lines of standard input say, and prints what they return:
+ * test_inline.py writes the lines and judges the output. Keys and bytes are hexadecimal digits after a `.`, and a key
+ * that is NULL is `-`. All that is passed is in blocks of its size, so that sanitizers see each access outside.
  */
 #include "amqp_values.h"
 

@@ -1,7 +1,8 @@
 /*
- * Tries the calls of amqp_values.h at sizes that are real or at the limits of the format: a table of a million pairs with one
- * key, an array of a million values, a path through 100,000 arrays, and strings and bodies of 2^32 bytes. What is read ends
- * where a page begins that can't be accessed. Prints how many calls it made.
+ * Makes calls of amqp_values.h at sizes that are real or at the limits of the format: a table of a million pairs with
+ * one key, an array of a million values, a path through 100,000 arrays, and strings and bodies of 2^32 bytes.
+ * test_programs.py runs it. What is read ends where a page begins that can't be accessed. Prints how many calls it
+ * made.
  */
 #include "check.h"
 

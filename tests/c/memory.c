@@ -1,7 +1,8 @@
 /*
- * Tries the calls of amqp_values.h that write to a buffer, with buffers of every size up to what is needed and one more, and
- * with each allocation failing in turn. Each line of standard input is a call, its flags, what it is given, and what it has to
- * write: hexadecimal digits after a `.`. amqpv_warn, which writes a struct, has nothing there. Prints how many calls it made.
+ * Makes the calls of amqp_values.h that write to a buffer, with buffers of every size up to what is needed and one
+ * more, and with each allocation failing in turn. test_programs.py runs it: each line of standard input is a call, its
+ * flags, what it is given, and what it has to write: hexadecimal digits after a `.`. amqpv_warn, which writes a struct,
+ * has nothing there. Prints how many calls it made.
  *
  * Linked with -Wl,--wrap of malloc, realloc and free. All that is allocated has to be freed.
  */

@@ -1,8 +1,10 @@
 /*
- * Makes a call of amqp_values.h that recurses, on what standard input has after a digit, its flags: nested NAME DEPTH STACK. It
- * is made in a thread that has this many bytes of stack, after a page that can't be accessed. DEPTH is the limit. Prints `done`,
- * also if the innermost value isn't canonical or has an unknown type tag, or AMQPV_TOO_DEEP. tests/model/nesting.py has the
- * inputs and the stacks.
+ * Makes one call of amqp_values.h that recurses, in a thread with a stack of STACK bytes: nested NAME DEPTH STACK.
+ * test_programs.py runs it with the inputs and stacks of tests/model/nesting.py.
+ *
+ * Standard input has a digit, the call's flags, and then the input. Before the stack is a page that can't be accessed.
+ * DEPTH is the limit. Prints `done`, also if the innermost value isn't canonical or has an unknown type tag, or
+ * AMQPV_TOO_DEEP.
  */
 #include "check.h"
 

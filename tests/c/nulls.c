@@ -1,7 +1,7 @@
 /*
- * Tries NULL with a length of 0 for bytes, JSON, a key, steps and a buffer: each call of amqp_values.h returns and leaves what it
- * does with a pointer to no bytes. Prints how many calls it made. That NULL is allowed isn't proved: the proofs are of pointers
- * to something.
+ * Passes NULL with a length of 0 for bytes, JSON, a key, steps and a buffer: each call of amqp_values.h returns and
+ * leaves what it does with a pointer to no bytes. test_programs.py runs it. Prints how many calls it made. That NULL is
+ * allowed isn't proved: the proofs are of pointers to something.
  */
 #include "check.h"
 

@@ -1,4 +1,7 @@
-"""What installed pages have: commands, what these print, and the names of files."""
+"""Extracts from docs/C.md and other installed pages what tests try: commands, their output, C code, and names of files.
+
+test_examples.py, test_installed.py and test_packages.py use it. (tests/pages.py compares all pages with the sources.)
+"""
 
 import re
 from pathlib import Path

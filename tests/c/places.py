@@ -1,4 +1,7 @@
-"""What is installed is called so, and is used without anything of this repository or of the kit."""
+"""The `NAME` that the library is installed under, a `PATH` with only Debian's programs, and `files_in` a folder.
+
+The modules of tests/c use it that try what is installed without anything of this repository or of the kit.
+"""
 
 from pathlib import Path
 

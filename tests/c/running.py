@@ -1,4 +1,4 @@
-"""How an example ends."""
+"""`assert_as_transcript` runs a program of examples/c as a case has it, for test_examples.py and test_installed.py."""
 
 from typing import Any
 

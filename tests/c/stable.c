@@ -1,7 +1,7 @@
 /*
- * What a compiled program stands on, and so stays within 0.x: the sizes and offsets of structs, and the values of constants, on
- * processors of 64 bits. A line isn't changed or removed once it is in a release. The symbols are in packaging/amqp_values.map.
- * It is compiled, and not run.
+ * Asserts what compiled programs rely on (the ABI), which stays so within 0.x: the sizes and offsets of structs, and
+ * the values of constants, on processors of 64 bits. test_header.py compiles it, and doesn't run it. A line isn't
+ * changed or removed once it is in a release. The symbols are in packaging/amqp_values.map.
  */
 #include "amqp_values.h"
 

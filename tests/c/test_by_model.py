@@ -1,4 +1,7 @@
-"""Every call for C next to the model, on random bytes, structs, texts and orders of calls, and on what is at the limits."""
+"""All functions of the C API, by tests/c_api.py, against the reference implementation (tests/model).
+
+They are called on random bytes, structs, texts and orders of calls, and on what is at the limits.
+"""
 
 import re
 from collections import Counter

@@ -1,4 +1,4 @@
-"""The examples of examples/c, by the transcripts that have their names (tests/transcripts.py), and the C of docs/C.md.
+"""The programs of examples/c print what their transcripts have (tests/transcripts.py), and the C of docs/C.md runs.
 
 They are compiled by both compilers, and run on an old processor too, as qemu has it; with --built for aarch64, run by qemu.
 Standard error isn't compared, which sanitizers and processors of qemu write to.

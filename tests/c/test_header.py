@@ -1,6 +1,7 @@
-"""The header, which is compiled and not run.
+"""include/amqp_values.h compiles, misuse of its macros doesn't, and stable.c states its structs and constants.
 
-header.c uses it in each version of C and C++ from C99 to C23 and C++11 to C++23, by gcc and clang with all their warnings.
+Nothing is run. header.c uses it in each version of C and C++ from C99 to C23 and C++11 to C++23, by gcc and clang with
+all their warnings.
 stable.c states every struct's fields and every constant.
 """
 

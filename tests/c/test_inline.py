@@ -1,4 +1,4 @@
-"""The inline functions of the header, by inline.c under the sanitizers, next to the model."""
+"""The inline functions of the header, which inline.c calls under the sanitizers, against the model (tests/model)."""
 
 from pathlib import Path
 from random import Random

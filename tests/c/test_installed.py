@@ -1,4 +1,4 @@
-"""What `make install` puts into a folder, which needs nothing of this repository or of the kit.
+"""What `make install` puts into a folder is used from there, without anything of this repository or of the kit.
 
 Used are examples in C11 over the shared object, in C11 over the archive, one in C++17, one in Python, the symbols, the tool, and
 CMake's files, at usual places and at others. The commands of the installed page show what it has.

@@ -1,4 +1,4 @@
-"""What CMake and debian/ make of the C library, as someone who has only that uses it: pages, packages, a release.
+"""Installed pages, Debian's packages (debian/) and the archives of a release, as someone uses them who has only these.
 
 With --root a release is installed, used and removed in a fresh root, by tests/release.
 """

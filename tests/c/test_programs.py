@@ -1,4 +1,6 @@
-"""The programs of this folder, by what their heads state. Each prints how many calls it made.
+"""Compiles and runs habits.c, large.c, memory.c, nested.c, nulls.c and threads.c, whose heads say what each tries.
+
+All except nested.c print how many calls they made.
 
 nested.c makes the calls that recurse, on the stacks that docs/PROMISES.md names, and with the limits that the header recommends
 on the stacks that it names (tests/model/nesting.py), with --built for aarch64 too.

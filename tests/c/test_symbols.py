@@ -1,4 +1,4 @@
-"""The libraries' symbols.
+"""The symbols that the two libraries of the C API define, and those that they ask for.
 
 Each library has its calls and no other, as include/amqp_values.h declares them. The first asks only for `memcpy` and `memmove`,
 so it can't allocate, print or end the process, the second for `memset` and the three functions of

@@ -1,7 +1,8 @@
 /*
- * Eight threads make the calls of amqp_values.h at once, over bytes and an input that they share, and get what one thread got
- * before. Compiled with ThreadSanitizer, which sees what this program and the C library access, but not what the library
- * accesses by itself: tests/c/test_symbols.py checks that this has no variables. Prints how many calls were made.
+ * Eight threads make the calls of amqp_values.h at once, over bytes and an input that they share, and get what one
+ * thread got before. test_programs.py runs it with ThreadSanitizer, which sees what this program and the C library
+ * access, but not what the library accesses by itself: test_symbols.py checks that this has no variables. Prints how
+ * many calls were made.
  */
 #include "check.h"
 

@@ -1,1 +1,1 @@
-"""What calls take: instructions, memory, stack."""
+"""Tests that calls take no more instructions, memory and stack than table.txt has."""

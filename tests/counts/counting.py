@@ -1,4 +1,4 @@
-"""What each call takes over each input: counts.c makes it, by itself and under callgrind, which counts instructions.
+"""`taken` runs counts.c, by itself and under callgrind, and returns what each call takes over each input.
 
 bench/measure.py counts those of other libraries by the same runs of callgrind.
 """

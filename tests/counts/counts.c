@@ -1,5 +1,5 @@
 /*
- * Makes each call over each input, for tests/run counts: counts FILE..
+ * Makes each call whose cost is counted over each input, and prints what it takes; counting.py runs it: counts FILE..
  *
  * An input is the encoding of a table that isn't empty, or JSON text. Each call on each input prints a line: their names, what
  * the call returns, how many bytes it is given, how many values and levels are in these, how often it allocates, how many bytes

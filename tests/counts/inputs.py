@@ -1,4 +1,4 @@
-"""The inputs of calls whose cost is counted: a client's messages, tables of several sizes, and what makes calls hold memory."""
+"""`INPUTS` of counts.c, by name: a client's messages, tables of several sizes, and what makes calls hold memory."""
 
 from collections.abc import Iterator
 from typing import NamedTuple

@@ -1,4 +1,4 @@
-"""What each call takes, by table.txt: a call that takes more than its row fails. `--write` writes the table anew.
+"""No call takes more instructions, memory or stack than its row of table.txt allows. `--write` writes the table anew.
 
 The kit compiles the library, so a call takes the same instructions wherever the same kit builds it. A row lets it take 0.5 %
 more, which another kit may need; a change of a loop makes more. Allocations and the memory that is held don't depend on the

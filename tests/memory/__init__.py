@@ -1,1 +1,1 @@
-"""Memory that runs out, and large input."""
+"""Tests of programs with failing allocations, reads and writes, and with large input."""

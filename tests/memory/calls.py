@@ -1,4 +1,6 @@
-"""The rows of crates/test_calls, and what each request may be answered if one of its allocations fails.
+"""What each `Row` of crates/test_calls may answer if one of its allocations fails, for test_alloc_failures.py.
+
+(tests/calls.py parses the same rows for other suites; tests/c/calls.py has the names of the C API's functions.)
 
 The call whose allocation fails has to return an error of FAILED or MIXED, and leave all as it was. The other calls of the request have
 to return what they do anyhow: the parts of an answer, divided by "; ", and the answer given in another way, after " but ". A request

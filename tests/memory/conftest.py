@@ -1,4 +1,4 @@
-"""What fails the calls of the system, and how many it failed."""
+"""Fixtures of test_alloc_failures.py: `preloaded` (fail_alloc.c, compiled) and `failed` (how many calls failed)."""
 
 import subprocess
 from collections import Counter

@@ -1,10 +1,11 @@
 /*
- * Preloaded, it fails one allocation: the one whose number is FAIL_ALLOC, of those between the lines
- * `begin` and `end` on standard error, or of all if FAIL_ANYWHERE is set. It fails the call of read on
- * standard input whose number is FAIL_READ, and the call of write on standard output whose number is
- * FAIL_WRITE, with the error FAIL_WITH; if that is 0 the call moves nothing. If ONE_BYTE is set, no such
- * call moves more than one byte. At the end it writes the numbers of allocations, reads and writes, and of
- * bytes in all those allocations, to the descriptor COUNTS_TO.
+ * Preloaded into a program by failing.py, it makes allocations, reads or writes fail. It fails one
+ * allocation: the one whose number is FAIL_ALLOC, of those between the lines `begin` and `end` on
+ * standard error, or of all if FAIL_ANYWHERE is set. It fails the call of read on standard input whose
+ * number is FAIL_READ, and the call of write on standard output whose number is FAIL_WRITE, with the
+ * error FAIL_WITH; if that is 0 the call moves nothing. If ONE_BYTE is set, no such call moves more than
+ * one byte. At the end it writes the numbers of allocations, reads and writes, and of bytes in all those
+ * allocations, to the descriptor COUNTS_TO.
  *
  * If EACH_LINE is set, allocations are counted anew for each line on standard output, and one fails in each:
  * FAIL_ALLOC has a number for every line. Each line comes after its number of allocations and the number of

@@ -1,4 +1,4 @@
-"""Runs of the programs, as `rt ci` left them, in which calls of the system fail: fail_alloc.c is preloaded."""
+"""`Preloaded` runs a program with fail_alloc.c preloaded, which makes allocations, reads or writes fail."""
 
 import itertools
 import os

@@ -1,4 +1,4 @@
-"""Large input, and what the programs have to print of it."""
+"""Each `Run` of test_sizes.py: a program, its large input, and what it has to print of it."""
 
 import struct
 from collections.abc import Callable, Iterable

@@ -1,4 +1,4 @@
-"""The places at which the sources make up that memory ran out, may ask for more than there is, or pass on a call otherwise.
+"""`faults`, for tests/pages.py: code that makes up OutOfMemory although no allocation failed, or may request too much.
 
 No clause can state that an allocation failed. A body that returns OutOfMemory above a size keeps its contract, so its
 form is what is rejected: OutOfMemory, of whatever error, and AllocError are made by From<AllocError>, which `?` calls,

@@ -1,4 +1,4 @@
-"""Each allocation fails in turn, and each read and write, and what is returned then is judged.
+"""Makes each allocation, read and write of programs fail in turn (failing.py), and judges what they return (calls.py).
 
 Each request of crates/test_calls is made with its first allocation failing, then with its second, and so on. Only allocations of its
 calls count. The call whose allocation fails returns the error that calls.py has for it and leaves all unchanged, and all else is

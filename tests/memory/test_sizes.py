@@ -1,4 +1,4 @@
-"""The programs, as rt ci left them, at the sizes that a user has.
+"""test_calls, amqp_wire, examples and amqp_show, as `rt ci` left them, on large input, and on small stacks.
 
 No clause can state that memory sufficed, so a body that runs out of it above a size is proved. test_calls answers the rows of
 large.calls, in which calls that may run out of memory have 256 MiB, a million values or 250,000 pairs. A line of 512 MiB and

@@ -1,1 +1,4 @@
-"""A separate reader, writer and printer of values, which shares nothing with the crates."""
+"""The reference implementation in Python, called the model, by which other suites judge what is read and written.
+
+It shares no code with the crates.
+"""

@@ -1,4 +1,7 @@
-"""The format: the bytes that are read as a value, and those that are written, by docs/GRAMMAR.md. It shares nothing with the crates."""
+"""`read` and `write` of the model: the value that bytes encode, and its canonical encoding, by docs/GRAMMAR.md.
+
+It shares nothing with the crates.
+"""
 
 import struct
 from typing import Any

@@ -1,4 +1,4 @@
-"""Inputs of every kind: types, keys, strings, nesting, what was really sent, and damage to all of it."""
+"""`inputs`: encodings of every kind, captured and damaged ones too, for other suites; `value_of` makes a random one."""
 
 import json
 import random

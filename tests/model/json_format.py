@@ -1,6 +1,6 @@
-"""Which value a JSON text means, and which text is written for a value, by docs/JSON.md; and values and texts to try.
+"""`value_of_json` and `json_of` of the model: the value that a JSON text means, and a value's text, by docs/JSON.md.
 
-The reader and the writer share nothing with the crates.
+They share nothing with the crates. Below them is what makes values and texts to try.
 """
 
 import json

@@ -1,4 +1,4 @@
-"""What nesting takes of the stack: the table of docs/PROMISES.md, and the runs that hold it.
+"""How much stack nested input takes in each recursive call: the table of docs/PROMISES.md, and `checks` of its numbers.
 
 `checks` has those runs, and `recommended` those of the C API with the header's default limit, on the stack that it
 names. The page's table has a column for x86-64, and one for aarch64.

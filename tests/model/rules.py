@@ -1,4 +1,4 @@
-"""What of an encoding isn't read, or makes RabbitMQ close the connection, and what readers of one may trip over.
+"""`failure_of`: where an encoding is rejected, by this library or by RabbitMQ; `doubtful`: what readers may trip over.
 
 By docs/GRAMMAR.md and docs/INTEROP.md. It has a walk of its own, apart from the reader of encoding.py.
 """

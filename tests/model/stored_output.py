@@ -1,4 +1,4 @@
-"""Stored output of programs, by which the model is judged: python3 -m tests.model.stored_output
+"""Compares the model with stored output of amqp_wire and amqp_show: python3 -m tests.model.stored_output
 
 amqp_wire must print crates/amqp_wire/stdout, and amqp_show --encode what the cases of tests/show have. The model has to predict
 both. `make test` runs this, and compares the same files with what the programs print. tests/run model also runs it on each broken

@@ -1,4 +1,4 @@
-"""Tables to send to a broker, in the form of encoding.py, and what RabbitMQ makes of tables, predicted."""
+"""Tables to send to a broker (`random_table`, `odd_table`), and what each `Version` of RabbitMQ will make of them."""
 
 import struct
 from collections.abc import Callable, Iterable, Iterator

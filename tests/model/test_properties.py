@@ -1,4 +1,4 @@
-"""What holds of every value and of all bytes, by the model: reading and writing, prefixes, JSON, rules."""
+"""Properties of the model, by hypothesis: what it writes it reads back, also as JSON, and prefixes need more bytes."""
 
 import json
 from random import Random

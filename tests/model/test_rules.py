@@ -1,4 +1,4 @@
-"""Each rule of the model, broken once: the model that has it otherwise disagrees with a row.
+"""Tries mutants of the model: each breaks one rule, and has to disagree with a row.
 
 The rules are the lines of `mutants`, and of each type tag that it is one, and its width. The rows are those of worked.py, what
 programs have stored, and the test vectors.

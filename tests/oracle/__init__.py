@@ -1,1 +1,1 @@
-"""The Rust crate and this library, asked the same."""
+"""Tests that the Rust crate `amq-protocol-types` and this library answer the same requests alike (README.md)."""

@@ -1,4 +1,4 @@
-"""What the tests over the Rust crate are given: its folder, and how many requests."""
+"""Options of the tests in tests/oracle (--crate, --packages, --count), and the `driver`, which asks the Rust crate."""
 
 import time
 from pathlib import Path

@@ -1,4 +1,4 @@
-"""The Rust crate, asked by a driver that cargo builds."""
+"""Builds driver.rs over the Rust crate by cargo, and asks it (`Driver`). tests/rust finds the crate by it too."""
 
 import json
 import os

@@ -1,5 +1,6 @@
-//! What the Rust crate answers, in the form of `crates/test_calls`: standard input has requests, a line each, and
-//! standard output each with its answer. An answer that a request has already is replaced. Comments stay.
+//! Answers requests of `crates/test_calls` by the Rust crate; `crate.py` builds and runs it. Standard input has
+//! requests, a line each, and standard output each with its answer. An answer that a request has already is replaced.
+//! Comments stay.
 //!
 //! `--as-it-is` prints what differs from this library on purpose as the crate answers it.
 

@@ -1,4 +1,4 @@
-"""Random requests for both sides, in the form of crates/test_calls. What is random comes from a generator that is passed."""
+"""`request`: a random request of crates/test_calls, which test_answers.py puts to the Rust crate and this library."""
 
 import json
 from collections.abc import Callable

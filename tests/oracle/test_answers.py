@@ -1,4 +1,4 @@
-"""What the Rust crate answers, in the rows of crates/test_calls; and both it and this library to fresh requests."""
+"""The Rust crate answers stored requests as crates/test_calls/data has it, and fresh ones as this library does."""
 
 import os
 import re

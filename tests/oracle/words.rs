@@ -1,4 +1,5 @@
-//! The words of requests and answers, as `crates/test_calls` has them: bytes, strings, flags and values.
+//! Reads and prints the words of requests and answers for `driver.rs`, as `crates/test_calls` does: bytes, strings,
+//! flags and values.
 
 use amq_protocol_types::flags::AMQPFlags;
 use amq_protocol_types::*;

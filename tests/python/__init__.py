@@ -1,1 +1,1 @@
-"""The Python package of bindings/python, by the model and by what a user is promised."""
+"""Tests of the Python package in bindings/python, with its adapters and its wheel, without a broker."""

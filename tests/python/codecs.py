@@ -1,4 +1,4 @@
-"""The codecs that adapters put in place of clients' own, and the exceptions that each raises."""
+"""The `codec` of an adapter for a version of its client, and what it raises; test_codecs.py and watched.py use it."""
 
 from typing import Any
 

@@ -1,4 +1,4 @@
-"""The package, and which tests are tried."""
+"""Puts the package on the path for tests/python, and leaves out tests marked `whole` unless --random is given."""
 
 from typing import Any
 

@@ -1,4 +1,4 @@
-"""Objects whose own methods lie and raise, and classes of the package whose methods do."""
+"""`made`: random objects whose own methods lie and raise; test_worst_cases.py and watched.py pass them to calls."""
 
 from collections.abc import Callable, Iterator, Mapping, Sequence
 from datetime import datetime, timedelta, timezone, tzinfo

@@ -1,4 +1,4 @@
-"""The codecs of the adapters, of each version of a client, by the model: what applications get and send."""
+"""The codecs of adapters, without a broker: what applications get and send by each client (tests/rabbitmq/seen.py)."""
 
 import pickle
 from calendar import timegm

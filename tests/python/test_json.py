@@ -1,4 +1,4 @@
-"""JSON by the package, next to the model."""
+"""`to_json` and `from_json` of the Python package against the reference implementation (tests/model/json_format.py)."""
 
 import json
 import subprocess

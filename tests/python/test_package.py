@@ -1,4 +1,4 @@
-"""The package amqp_values, by the model."""
+"""`loads`, `dumps`, `find` and the classes of the Python package against the reference implementation (tests/model)."""
 
 import ast
 import copy

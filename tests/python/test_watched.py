@@ -1,4 +1,4 @@
-"""The package under sanitizers, and in the debug build of Debian's Python, which counts references."""
+"""Runs watched.py under sanitizers, and in the debug build of Debian's Python, which counts references."""
 
 import os
 import shutil

@@ -1,6 +1,6 @@
-"""Objects whose own methods lie, raise, and change what is written; then the stack, threads, memory and failing allocations.
+"""The Python package with objects whose methods lie, raise or change what is written, and with little stack or memory.
 
-watched.py writes hostile objects, under sanitizers.
+Threads and failing allocations are tried too. watched.py writes hostile objects under sanitizers.
 """
 
 import gc

@@ -1,4 +1,7 @@
-"""A wheel is tried by each Python that is found, by one of Debian 13, and by one for aarch64."""
+"""Tries a wheel, for test_wheel.py: by each Python that is found (`try_wheel`), by Debian 13's, and by one for aarch64.
+
+tests/rabbitmq and tests/vectors run the Python of a root of Debian by `python_in`.
+"""
 
 import os
 import shutil

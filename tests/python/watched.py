@@ -1,4 +1,6 @@
-"""Mutated tables and hostile objects, for an interpreter that watches: python3 -m tests.python.watched WHAT PACKAGE SEED COUNT
+"""Reads mutated tables and writes hostile objects by the package, in an interpreter that watches memory or references.
+
+test_watched.py runs it: python3 -m tests.python.watched WHAT PACKAGE SEED COUNT
 
 WHAT is `mutated`, which reads COUNT tables that are damaged, and writes what is read and a tenth as many hostile objects; or
 `references`, which does some of both again and again, and prints how many references more there are after a round, by

@@ -1,1 +1,1 @@
-"""The Python package, its adapters, and what comes before librabbitmq, with a running RabbitMQ and its clients."""
+"""Tests with a running RabbitMQ and its clients: the Python package, its adapters, and libamqp_values_rabbitmq.so."""

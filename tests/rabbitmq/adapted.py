@@ -1,7 +1,7 @@
-"""A client of Python, with its adapter or without: python3 -m tests.rabbitmq.adapted JOB CLIENT ADAPTER PORT
+"""Sends and reads tables by a client of Python, with its adapter or without; test_adapters.py runs it.
 
-ADAPTER is "with" or "without". It reads what to do as JSON, and prints as JSON what came of it. The Python of the Debian that
-has the client runs this.
+python3 -m tests.rabbitmq.adapted JOB CLIENT ADAPTER PORT, where ADAPTER is "with" or "without". It reads what to do as
+JSON, and prints as JSON what came of it. The Python of the Debian that has the client runs this.
 """
 
 import asyncio

@@ -1,4 +1,4 @@
-"""A RabbitMQ in a fresh folder, on free ports of 127.0.0.1, that ends with the process that started it."""
+"""`Broker`: a RabbitMQ in a fresh folder, on free ports of 127.0.0.1, that ends with the process that started it."""
 
 import ctypes
 import json

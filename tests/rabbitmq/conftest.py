@@ -1,4 +1,4 @@
-"""The broker, which all tests share, in the versions that --rabbitmq or a module names, and the Python package."""
+"""Options and fixtures of the tests in tests/rabbitmq: the `broker`, a `connection` to it, and Python's clients."""
 
 import json
 import os

@@ -1,4 +1,4 @@
-"""Tables that the Python package writes for the broker, and what it finds in those that come from it, as values of the model."""
+"""Helpers: tables that the Python package writes for the broker (`built`), and what it reads in others (`value_at`)."""
 
 import time
 from collections.abc import Callable

@@ -1,6 +1,7 @@
-"""What applications of Python's clients see of a table, and what they mean by one, by the model and each client's manual.
+"""Predicts what an application gets of a table by a Python client (`seen`), and what the client sends (`meant`).
 
-With the adapters each version sees and means that; without them it does, except for the rows of docs/PYTHON.md.
+It follows the model and each client's manual. With the adapters each version sees and means that; without them it does,
+except for the rows of docs/PYTHON.md.
 """
 
 import struct

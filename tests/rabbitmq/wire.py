@@ -1,4 +1,4 @@
-"""A small connection of AMQP 0-9-1: frames, methods, content headers. Field tables stay bytes, with their type tag F.
+"""`Connection`, a small client of AMQP 0-9-1: frames, methods, headers. Field tables stay bytes, with their type tag F.
 
 On the wire a table has no type tag: `bare` removes it, and `Arguments.table` adds it.
 """

@@ -1,1 +1,1 @@
-"""The Rust crates over the C API, and the drop-in."""
+"""Tests of bindings/rust: the crates amqp-values-sys and amqp-values, and the drop-in for `amq-protocol-types`."""

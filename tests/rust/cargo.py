@@ -1,4 +1,4 @@
-"""Cargo, which is called without a network, for packages that are made here."""
+"""Calls `cargo` without a network, and makes a `package` of a program in this folder, for the tests in tests/rust."""
 
 import json
 import os

@@ -1,4 +1,4 @@
-//! A consumer over the Rust crate: client [CHOICE]
+//! A consumer over the Rust crate, which `test_client.py` builds over the crate and over the drop-in: client [CHOICE]
 //!
 //! It takes tables from standard input as the headers of messages, on a thread of 2 MiB, and prints a line for each: whether it
 //! takes or rejects the message, and its headers. CHOICE is what a refused table becomes.

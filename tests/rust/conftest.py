@@ -1,4 +1,4 @@
-"""What the tests of the Rust side are given."""
+"""Options and fixtures of tests/rust: the Rust crate (`rust`), the `drop_in`, and the C API's `archive`."""
 
 import shutil
 from pathlib import Path

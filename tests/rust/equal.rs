@@ -1,4 +1,4 @@
-//! Whether the drop-in answers as the Rust crate does: equal COUNT SEED
+//! Compares the drop-in with the Rust crate on random inputs, for `test_drop_in.py`: equal COUNT SEED
 //!
 //! Each input is parsed with and without its type tag, from one slice and from two. Only a claim above the limit may be answered otherwise:
 //! by an error, and not by waiting for it. The last line is how many answers were equal, how many were such claims, and how

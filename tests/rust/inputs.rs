@@ -1,4 +1,4 @@
-//! Random inputs.
+//! Random inputs for `equal.rs` and `values.rs`: `input` makes an encoding, often changed or cut.
 
 /// Random numbers, the same of the same seed (splitmix64).
 pub struct Dice(u64);

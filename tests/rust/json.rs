@@ -1,5 +1,5 @@
-//! Prints what the calls for JSON of `amqp-values` return for each line of standard input, `CALL DEPTH HEX`: what is written, in
-//! hexadecimal; or the error.
+//! Prints, for `test_json.py`, what the JSON calls of `amqp-values` return for each line of standard input: what is
+//! written, in hexadecimal, or the error. A line is `CALL DEPTH HEX`.
 
 use amqp_values::{Limits, from_json, table_from_json, table_to_json, to_json};
 use std::io::{Result, stdin};

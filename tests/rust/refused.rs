@@ -1,4 +1,4 @@
-//! What the drop-in does with tables and arrays beyond the limits.
+//! Tests of what the drop-in does with tables and arrays beyond the limits; `test_drop_in.py` runs them.
 
 mod halves;
 

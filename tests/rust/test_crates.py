@@ -1,9 +1,9 @@
-"""The crates over the C API, amqp-values-sys and amqp-values, of which neither needs another package.
+"""The crates amqp-values-sys and amqp-values over the C API: their own tests, lints and examples, and values.rs.
 
-amqp-values-sys links the archive of its folder, or of the one that AMQP_VALUES_LIB_DIR names. The tests of both pass, also by
-the oldest compiler that they are for, if it is there as Debian has it, and clippy and rustdoc have no warning. Their examples
-end as those in C. values.rs: on random inputs amqp-values reads, measures, finds and writes as the Rust crate does; on samples
-under valgrind and the address sanitizer.
+Neither needs another package. amqp-values-sys links the archive of its folder, or of the one that AMQP_VALUES_LIB_DIR
+names. The tests of both pass, also by the oldest compiler that they are for, if it is there as Debian has it, and
+clippy and rustdoc have no warning. Their examples end as those in C. values.rs: on random inputs amqp-values reads,
+measures, finds and writes as the Rust crate does; on samples under valgrind and the address sanitizer.
 """
 
 import re

@@ -1,4 +1,4 @@
-"""The examples of README.md and of the guides, which return the count of a message's first death, agree.
+"""The examples of README.md and the guides that return the count of a message's first death agree, in each language.
 
 There is one in Rattle, and there are several in C, Rust and Python. All get the same headers, tables without their type tag:
 those of vectors/real-world.json, which a broker and its clients sent, and some in which a key comes twice, that are malformed, or

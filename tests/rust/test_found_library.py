@@ -1,4 +1,7 @@
-"""Which libamqp_values.a bindings/rust/drop_in.py takes, for a crate that has only what it edits."""
+"""Which libamqp_values.a bindings/rust/drop_in.py puts into the drop-in: the newest that was built, or the one named.
+
+The crate has only what the script edits.
+"""
 
 import os
 import shutil

@@ -1,4 +1,4 @@
-"""JSON by amqp-values, as json.rs calls it, next to the model."""
+"""JSON by the crate amqp-values, which json.rs calls, against tests/model/json_format.py."""
 
 from collections import Counter
 from collections.abc import Iterator

@@ -1,4 +1,4 @@
-"""The Rust sources, and the declarations of the C API in them: what needs no Rust crate, and nothing that is built."""
+"""The Rust sources, without building them: their layout, and that they declare and state what the C header does."""
 
 import re
 from collections.abc import Iterator

@@ -1,4 +1,4 @@
-//! Whether the crate `amqp-values` reads and writes as the Rust crate does: values COUNT SEED
+//! Compares the crate `amqp-values` with the Rust crate on random inputs, for `test_crates.py`: values COUNT SEED
 //!
 //! Each input is read with and without its type tag. What is read is compared value by value, measured, looked up by every key
 //! and by a path, and built again. Only a claim above the limit may be answered otherwise: by an error, and not by waiting for

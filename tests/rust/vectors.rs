@@ -1,5 +1,5 @@
-//! Prints what `amqp-values` reads of each line of standard input, `value HEX` or `table HEX`: JSON in which each value is
-//! under its type tag, and how many bytes are left; or the error.
+//! Prints, for `test_vectors.py`, what `amqp-values` reads of each line of standard input, `value HEX` or `table HEX`:
+//! JSON in which each value is under its type tag, and how many bytes are left; or the error.
 
 use amqp_values::{Limits, ValueRef, read, read_table};
 use std::io::{Result, stdin};

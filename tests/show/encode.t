@@ -1,4 +1,4 @@
-# From JSON to an encoding.
+# `amqp_show --encode`: from JSON to an encoding, and what is said of JSON that has none.
 
 encode_deepest
   $ amqp_show --encode --depth 127 <<'END'

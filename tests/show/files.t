@@ -1,4 +1,4 @@
-# Files, and what can't be read.
+# Files that amqp_show is given by name, and those that can't be read.
 
 files
   $ amqp_show --hex queue_arguments.hex missing.hex no_id.hex

@@ -1,4 +1,4 @@
-# Input in hexadecimal.
+# `amqp_show --hex`: input in hexadecimal, what is wrong with it, and dumps that it doesn't read.
 
 hexadecimal_forms
   $ amqp_show --hex <<'END'

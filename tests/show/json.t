@@ -1,4 +1,4 @@
-# Values as JSON.
+# `amqp_show --json`: values as JSON.
 
 json
   $ amqp_show --hex --json client_properties.hex x_death.hex queue_arguments.hex each_type.hex not_canonical.hex

@@ -1,4 +1,4 @@
-# The limits `--max-bytes` and `--depth`.
+# The limits of amqp_show, `--max-bytes` and `--depth`, and values beyond them.
 
 depth
   $ echo 4100000006 56 4100000000 | xxd -r -p | amqp_show --depth 1

@@ -1,4 +1,4 @@
-# Values that something inside them makes malformed: each failure, with all that is read.
+# What amqp_show prints of values that something inside them makes malformed: each failure, with all that is read.
 
 unknown_tag
   $ amqp_show --hex unknown_id.hex

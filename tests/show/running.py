@@ -1,4 +1,4 @@
-"""How amqp_show ends: its output may be a terminal, a device that is full, or a pipe that nobody reads."""
+"""`ending` runs amqp_show as a case has it: output may be a terminal, a full device, or a pipe that nobody reads."""
 
 import os
 import pty

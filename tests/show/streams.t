@@ -1,4 +1,4 @@
-# Values one after another.
+# `amqp_show --stream`: values one after another.
 
 stream
   $ echo 7401 4600000007 01617401 016256 | xxd -r -p | amqp_show --stream

@@ -1,4 +1,4 @@
-# Tables without their type tag, with `--table` and without it.
+# Tables without their type tag, which `amqp_show --table` reads, and what is said of them without `--table`.
 
 table
   $ echo 00000007 0161 7401 0162 56 | xxd -r -p | amqp_show --table

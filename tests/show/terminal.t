@@ -1,4 +1,4 @@
-# Standard output that is a terminal: colours, and what isn't written to it.
+# amqp_show when standard output is a terminal (colours, and what isn't written to it), a full device or a closed pipe.
 
 tree_on_terminal
   $ echo 460000000a 0161 56 0161 56 0162 4900 | xxd -r -p | amqp_show >/dev/tty

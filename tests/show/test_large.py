@@ -1,4 +1,4 @@
-"""Large and deep values: amqp_show shows a MiB in a second and little memory, and a stream of any length in as much."""
+"""amqp_show on large and deep values: a MiB takes at most 3 seconds and 100 MB, and a stream of 46 MB at most 20 MB."""
 
 import os
 import resource

@@ -1,4 +1,4 @@
-# Input that ends inside the value: all that is there is shown.
+# Input that ends inside the value: amqp_show shows all that is there, and how many bytes are missing.
 
 truncated_number
   $ echo 4600000009 0161 490000 | xxd -r -p | amqp_show

@@ -1,4 +1,4 @@
-# The command line.
+# The command line of amqp_show: its help, its version, and arguments that it rejects.
 
 help
   $ amqp_show --help

@@ -1,4 +1,4 @@
-# Values as a tree and as parts: what of each type is printed, quoting, and what isn't canonical.
+# What amqp_show prints of values of each type, as a tree and as parts (`--bytes`): quoting, and what isn't canonical.
 
 every_type
   $ amqp_show --hex each_type.hex

@@ -1,1 +1,1 @@
-"""The vectors for any codec (vectors/): their form, this library on each of them, and the scores of other codecs."""
+"""Tests of the test vectors (vectors/): their form, tests/model on each case, and the scores of other codecs."""

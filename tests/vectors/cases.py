@@ -1,4 +1,4 @@
-"""The cases of vectors/, and what each says of this library."""
+"""`CASES`: each `Case` of vectors/, and what this library and RabbitMQ must make of it, for this suite and others."""
 
 import json
 from pathlib import Path

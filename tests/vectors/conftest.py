@@ -1,4 +1,4 @@
-"""Which tests are tried."""
+"""Leaves test_go.py out, and says so, if Go or Debian's package of its client isn't installed."""
 
 import shutil
 

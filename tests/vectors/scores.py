@@ -1,4 +1,4 @@
-"""Scores of codecs over vectors/: what the runner prints, a row of docs/INTEROP.md, and vectors/implementations.json."""
+"""`assert_scores`: a codec's outcomes over vectors/ are those in docs/INTEROP.md and vectors/implementations.json."""
 
 import json
 import re

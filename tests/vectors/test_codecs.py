@@ -1,6 +1,7 @@
-"""The scores of codecs, which docs/INTEROP.md and vectors/implementations.json have: tests/run vectors -k codecs --write
+"""The scores of librabbitmq and of Python's clients over vectors/: tests/run vectors -k codecs --write
 
-The runner of vectors/ runs each by its adapter. Those of Python are Debian 12's and Debian 13's.
+docs/INTEROP.md and vectors/implementations.json have them. The runner of vectors/ runs each by its adapter. Those of
+Python are Debian 12's and Debian 13's.
 """
 
 import ctypes

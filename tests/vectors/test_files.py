@@ -1,4 +1,4 @@
-"""The files of vectors/: their form, and the model on each case."""
+"""The files of vectors/: their form, by vectors/schema.json, and the model (tests/model) on each case."""
 
 import json
 import re

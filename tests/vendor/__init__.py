@@ -1,1 +1,1 @@
-"""The crates in another repository."""
+"""Tests that crates can be copied into another repository."""

@@ -1,5 +1,7 @@
-"""The crates in another repository, as CALLING.md of amq_protocol_types says: its table has what each crate needs, and its program and
-commands print what it has, nothing proved."""
+"""Copies the crates into another repository as crates/amq_protocol_types/CALLING.md says, and runs its program there.
+
+The page's table has what each crate needs, and its program and commands print what the page has. Nothing is proved.
+"""
 
 import re
 import subprocess

@@ -1,1 +1,1 @@
-"""The page of bindings/web, in a browser, next to amqp_show."""
+"""Tests of the page of bindings/web in a browser, against what amqp_show prints."""

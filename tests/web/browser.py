@@ -1,4 +1,4 @@
-"""Chromium with the page in it, as a person has it, by Debian's driver."""
+"""`Browser`: Chromium with the page in it, as a person has it, by Debian's driver; the tests in tests/web use it."""
 
 import json
 from collections.abc import Callable, Iterator, Sequence

@@ -1,4 +1,4 @@
-"""The page, and a browser with it."""
+"""Fixtures of the tests in tests/web: the `page`, which packaging/web.py makes, and a `browser` with it."""
 
 import subprocess
 import sys

@@ -1,4 +1,4 @@
-"""What amqp_show prints of inputs, as the page has to read them: another program, in another language."""
+"""`wanted`: what the page has to read of inputs, by what amqp_show prints of them; the tests in tests/web use it."""
 
 import re
 import subprocess

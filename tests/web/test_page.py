@@ -1,4 +1,4 @@
-"""What the page reads, next to amqp_show; and of hexadecimal, next to the stored cases of amqp_show."""
+"""What the page reads of inputs is what amqp_show prints of them; it reads hexadecimal as tests/show has it."""
 
 import html
 import re

@@ -1,4 +1,4 @@
-"""docs/page.png, which README.md and docs/SHOW.md show: the page with headers of which a length is wrong.
+"""docs/page.png, which README.md and docs/SHOW.md show, is a picture of the page on headers with a wrong length.
 
 Each run makes the picture, and compares the words on it with docs/page.txt; pixels depend on fonts. `tests/run web --write
 -k picture` puts both into docs/.

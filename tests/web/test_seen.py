@@ -1,4 +1,4 @@
-"""What is seen of the page, and how it is used."""
+"""What a person sees on the page, and how it is used: pointing, keys, links, copies, dropped files, another browser."""
 
 import os
 import subprocess

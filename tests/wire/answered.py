@@ -1,4 +1,4 @@
-"""What test_calls answers, as `rt ci` left it."""
+"""`answers`: what the program test_calls, as `rt ci` left it, answers to requests; the tests in tests/wire use it."""
 
 import subprocess
 from collections.abc import Iterator

@@ -1,4 +1,4 @@
-"""How many random inputs are tried."""
+"""The option --count of test_json.py: how many random values are tried as JSON."""
 
 import pytest
 

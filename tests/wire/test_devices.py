@@ -1,4 +1,4 @@
-"""amqp_wire, and examples as it prints a stream, as `rt ci` left them, if what they read from or write to fails.
+"""amqp_wire and `examples stream`, as `rt ci` left them, when what they read from or write to fails.
 
 tests/run memory/alloc-failures makes calls of the system fail; here the devices do. If a read or a write fails, the exit status
 and standard error report it, and standard output has a part of what a run writes if nothing fails. If standard error fails too,

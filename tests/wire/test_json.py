@@ -1,4 +1,4 @@
-"""JSON by test_calls, as `rt ci` left it, against the model: tests/run wire --count 20000 tries more.
+"""JSON by test_calls, as `rt ci` left it, against tests/model/json_format.py: tests/run wire --count 20000 tries more.
 
 Of each random value the text that is written for its encoding is compared, and of each text the encoding of the value that it
 means, or the error: Syntax or NotAValue, the byte, and the mismatch.

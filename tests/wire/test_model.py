@@ -1,4 +1,4 @@
-"""amqp_wire, as `rt ci` left it, against the model."""
+"""amqp_wire, as `rt ci` left it, against the model (tests/model), on damaged and random encodings."""
 
 from collections import Counter
 from collections.abc import Iterator
