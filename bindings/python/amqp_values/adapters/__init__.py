@@ -3,6 +3,7 @@
 Each has `install()`, to be called before a connection is opened, and `uninstall()`. What isn't read comes as `Refused`.
 """
 
-from amqp_values.adapters.shared import Headers, IncompatibleClient, Refused, UntestedVersion
+from amqp_values.adapters.headers import Headers, Refused
+from amqp_values.adapters.shared import IncompatibleClient, UntestedVersion
 
 __all__ = ["Headers", "IncompatibleClient", "Refused", "UntestedVersion"]

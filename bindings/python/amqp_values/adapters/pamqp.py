@@ -1,4 +1,4 @@
-"""The codec of pamqp, and so of aiormq and aio-pika, in place of its own: `install()` and `uninstall()`.
+"""Puts this package's codec in place of pamqp's, and so of aiormq's and aio-pika's: `install()` and `uninstall()`.
 
 If a message has no encoding, aiormq waits for ever, or from 6.8 on counts confirms wrongly afterwards. With this adapter it raises
 what pamqp does, before it sends anything.
@@ -18,8 +18,9 @@ from pamqp import commands, frame
 from pamqp.header import ContentHeader
 
 from amqp_values import Error, LongString, Timestamp
-from amqp_values.adapters.self_check import Frame, header_frame, start_frame, table_in
-from amqp_values.adapters.shared import Client, Codec, Headers, Places
+from amqp_values.adapters.frames import Frame, header_frame, start_frame, table_in
+from amqp_values.adapters.headers import Headers
+from amqp_values.adapters.shared import Client, Codec, Places
 
 
 class Undecoded(bytearray):

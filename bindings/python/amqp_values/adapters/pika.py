@@ -1,4 +1,4 @@
-"""The codec of pika, in place of its own: `install()` and `uninstall()`."""
+"""Puts this package's codec in place of pika's own: `install()` and `uninstall()`."""
 
 from decimal import Decimal
 from typing import Any
@@ -8,7 +8,7 @@ from pika import exceptions, frame, spec
 from pika.compat import long
 
 from amqp_values import Encoded, Error, dumps
-from amqp_values.adapters.self_check import Frame, header_frame, start_frame, table_in
+from amqp_values.adapters.frames import Frame, header_frame, start_frame, table_in
 from amqp_values.adapters.shared import Client, Codec
 
 

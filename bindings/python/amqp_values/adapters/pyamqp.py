@@ -1,4 +1,4 @@
-"""The codec of py-amqp, and so of kombu and Celery, in place of its own: `install()` and `uninstall()`."""
+"""Puts this package's codec in place of py-amqp's, and so of kombu's and Celery's: `install()` and `uninstall()`."""
 
 import re
 from collections.abc import Callable, Iterable
@@ -13,7 +13,7 @@ from amqp.basic_message import Message
 from amqp.exceptions import FrameSyntaxError
 
 from amqp_values import Error
-from amqp_values.adapters.self_check import Frame, header_payload
+from amqp_values.adapters.frames import Frame, header_payload
 from amqp_values.adapters.shared import Client, Codec
 
 

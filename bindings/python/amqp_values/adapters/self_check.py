@@ -1,21 +1,31 @@
-"""The self-check of `install`: by the client's own frames, probes give the same with the adapter as without it."""
+"""The self-check of `install`: `differences` compares what a client reads and writes with its adapter and without."""
 
 from collections.abc import Callable, Iterator
 from datetime import datetime
 from decimal import Decimal
-from typing import TYPE_CHECKING, Any, NamedTuple
+from typing import Any, Protocol
 
 from amqp_values import Error
+from amqp_values.adapters.frames import Frame
+from amqp_values.adapters.headers import Headers, Refused
 
-if TYPE_CHECKING:
-    from amqp_values.adapters.shared import Client
 
+class CheckedClient(Protocol):
+    """What the self-check uses of a `Client` (`shared.py`, which imports this file)."""
 
-class Frame(NamedTuple):
-    """A frame of a client that has a table: what the client reads it as, and the bytes that it writes for one."""
+    otherwise: tuple[str, ...]
 
-    read: Callable[[bytes], Any]
-    write: Callable[[Any], bytes]
+    def frames(self) -> dict[str, Frame]:
+        ...
+
+    def relays(self) -> dict[str, Callable[[Any], bytes]]:
+        ...
+
+    def unread(self, problem: Error) -> Exception:
+        ...
+
+    def unwritten(self, problem: Exception, table: Any) -> Exception:
+        ...
 
 
 def of(*pairs: tuple[bytes, bytes]) -> bytes:
@@ -48,7 +58,7 @@ WRITTEN = {
 DEEP, CUT = deep(33), b"\0\0\1\0\1kV"
 
 
-def probed(client: "Client") -> dict[str, str]:
+def probed(client: CheckedClient) -> dict[str, str]:
     """What a client reads and writes for each probe in each frame."""
     found = {}
     for name, frame in client.frames().items():
@@ -70,10 +80,8 @@ def raised(call: Callable[[], object]) -> Exception | None:
     return None
 
 
-def broken_promises(client: "Client") -> Iterator[str]:
+def broken_promises(client: CheckedClient) -> Iterator[str]:
     """What the adapter promises and doesn't keep with this client."""
-    from amqp_values.adapters.shared import Headers, Refused
-
     frames = client.frames()
     writers = {**{name: it.write for name, it in frames.items()}, **client.relays()}
     whole = of(*((name.encode(), it) for name, it in READ.items() if name not in client.otherwise))
@@ -94,34 +102,8 @@ def broken_promises(client: "Client") -> Iterator[str]:
                 yield f"{what} in a {name} raises {error!r}, not {type(wanted).__name__}"
 
 
-def differences(client: "Client", before: dict[str, str]) -> Iterator[str]:
+def differences(client: CheckedClient, before: dict[str, str]) -> Iterator[str]:
     """What differs with the adapter in place from what was probed before."""
     after = probed(client)
     yield from (f"{name} was {it} and is {after[name]}" for name, it in before.items() if after[name] != it)
     yield from broken_promises(client)
-
-
-# Raw frames that clients read: of the header of a message, and of the method Connection.Start.
-
-
-def raw_frame(kind: int, payload: bytes) -> bytes:
-    return bytes([kind, 0, 1]) + len(payload).to_bytes(4, "big") + payload + b"\xce"
-
-
-def header_payload(table: bytes) -> bytes:
-    """The payload of a content header whose only property is its headers."""
-    return b"\0\x3c" + bytes(10) + b"\x20\0" + table
-
-
-def header_frame(table: bytes) -> bytes:
-    return raw_frame(2, header_payload(table))
-
-
-def start_frame(table: bytes) -> bytes:
-    """The frame of a Connection.Start with these server properties."""
-    return raw_frame(1, b"\0\x0a\0\x0a\0\x09" + table + bytes(8))
-
-
-def table_in(frame: bytes, before: int) -> bytes:
-    """The table that ends a frame's payload, after some of the payload's bytes."""
-    return frame[7 + before : -1]
