@@ -1,4 +1,4 @@
-/* Counts requests for memory, and the most bytes at once, in a program that this is preloaded into. */
+/* Counts requests for memory, and the most bytes at once, in bench/driver.rs: bench/lanes.py preloads this into it. */
 #include <malloc.h>
 #include <stdint.h>
 #include <stddef.h>

@@ -1,4 +1,7 @@
-"""The sides that bench/measure.py times, each built and started as a process that takes the commands of bench/driver.rs."""
+"""`sides` builds and starts what bench/measure.py times, as processes that take the commands of bench/driver.rs.
+
+A lane is a side and an operation, as `crate.read`: the Rust crate reading.
+"""
 
 import argparse
 import json

@@ -1,4 +1,4 @@
-"""The tables that bench/measure.py prints, and docs/SPEED.md and bench/RESULTS.md with them in place of their own."""
+"""`Pages` prints the tables of bench/measure.py, and writes them into docs/SPEED.md and bench/RESULTS.md."""
 
 import re
 import sys

@@ -1,4 +1,4 @@
-"""What each side has to read and write before bench/measure.py times anything."""
+"""`right_lanes` and others check that each lane reads and writes what it should, before bench/measure.py times it."""
 
 import sys
 from collections.abc import Iterable, Sequence

@@ -1,8 +1,8 @@
-"""Python's clients as sides of bench/measure.py, by themselves and with their adapters, and the package: it takes the commands of driver.rs.
+"""Python's clients, alone and with their adapters, and the package, as sides of bench/measure.py.
 
-Each client that is installed has a side, and one more with its adapter. An input is a table with its type tag. What is read is
-right if it is what an application has by tests/rabbitmq/seen.py, which shares nothing with the package, and what is written
-if the model reads it as that again.
+It takes the commands of driver.rs. Each client that is installed has a side, and one more with its adapter. An input
+is a table with its type tag. What is read is right if it is what an application has by tests/rabbitmq/seen.py, which
+shares nothing with the package, and what is written if the model reads it as that again.
 """
 
 import sys

@@ -1,4 +1,4 @@
-"""What is built, and from which copy: a copy of the repository, the archives of the C API, and what they make."""
+"""`build_archive` proves and builds a crate's static library; `shared_object` links those of the C API, for tests."""
 
 import fcntl
 import os

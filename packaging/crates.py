@@ -1,4 +1,4 @@
-"""The crates of a repository: what each uses, and what rattle is given for it."""
+"""`Crates`: what each crate uses, by crates.txt, and the arguments that `rattle` is given for it."""
 
 import subprocess
 from os import PathLike

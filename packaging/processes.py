@@ -1,4 +1,4 @@
-"""Processes that a script starts, which end with it."""
+"""`end_on_signals` and `end_descendants`, by which a script that is interrupted ends the processes that it started."""
 
 import ctypes
 import os

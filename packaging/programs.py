@@ -1,4 +1,4 @@
-"""The programs that packaging and bench call: they are looked for before anything is proved, and have to end well."""
+"""`require` looks for the programs that packaging and bench call, before anything is proved. `run` runs one."""
 
 import shutil
 import subprocess

@@ -1,4 +1,4 @@
-// The bytes that a text in hexadecimal spells, in the forms that amqp_show --hex takes.
+// `readHexadecimal`: the bytes that a text in hexadecimal spells, in the forms that amqp_show --hex takes.
 
 // What may be between bytes; bytes; and how much of one may come before a digit that is missing.
 const BETWEEN = /(?:[ \n\t\f\r,:]|#[^\n]*)*/y, BYTES = /(?:0[xX]|\\x)?(?:[\da-fA-F]{2})+/y;

@@ -1,4 +1,4 @@
-// The module of the proved code: its memory, where structs of amqp_values.h come before the bytes, and its calls.
+// `Module` calls the proved code, in WebAssembly; in its memory structs of amqp_values.h come before the bytes.
 import { AMQPV } from "./header.js";
 
 // Where things are that calls take: an entry, a problem, a length, two inputs (of all bytes, and of ten), the ten,

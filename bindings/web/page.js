@@ -1,4 +1,4 @@
-// What is seen: the tree and the bytes, what is said of them, and what they are taken from.
+// Shows what was read: draws the tree and the bytes, and handles what is typed, clicked and dropped.
 import { AMQPV } from "./header.js";
 import { readHexadecimal } from "./hexadecimal.js";
 import { Module } from "./module.js";

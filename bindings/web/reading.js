@@ -1,4 +1,4 @@
-// What the module reads of some bytes, as rows, also of malformed and of cut bytes.
+// `read` has a `Module` read some bytes, and returns them as `Rows`, also if they are malformed or cut.
 import { AMQPV } from "./header.js";
 
 // Of a row: it isn't decoded; only its type tag is, or its key; its table has the key already; its payload is cut.

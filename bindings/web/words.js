@@ -1,4 +1,4 @@
-// What is read, in the words of amqp_show.
+// The texts for what `read` returned, in the words of amqp_show: lines of the tree, problems, outcome and JSON.
 import { AMQPV, NAMES } from "./header.js";
 import { AGAIN, BARE, CUT, REST, isContainer, isCounted, isTruncated } from "./reading.js";
 

@@ -1,3 +1,5 @@
+# Runs of check_headers.c, by tests/c/test_examples.py: headers that it accepts, warns of or rejects.
+
 accepted
   $ echo '00000006 01 61 56 01 62 56   # a: Void, b: Void' | check_headers
   no warnings

@@ -1,3 +1,5 @@
+# Runs of count_deaths.c, by tests/c/test_examples.py: one death, two, and a truncated key.
+
 once
   $ count_deaths <<'END'
   > 00000026                                         # headers, of 38 bytes

@@ -1,4 +1,4 @@
-/* Reading bytes as a person writes them: hexadecimal digits, with spaces, and comments after `#`. */
+/* `read_hexadecimal`, for the examples: reads digits as a person writes them, with spaces, and comments after `#`. */
 #ifndef HEXADECIMAL_H
 #define HEXADECIMAL_H
 

@@ -1,3 +1,5 @@
+# Runs of json.c, by tests/c/test_examples.py: encodings to JSON and back, and what is rejected.
+
 back
   $ json back <<'END'
   > { "b": 1,

@@ -1,3 +1,5 @@
+# Runs of print_value.c, by tests/c/test_examples.py: values of every type, and what is rejected.
+
 cut
   $ echo '41 00000003 74   # one of the three bytes of the body has come' | print_value
   2 more bytes are needed

@@ -1,3 +1,5 @@
+# Runs of read_stream.c, by tests/c/test_examples.py: streams of whole, cut and too large tables.
+
 cut
   $ printf '\0\0\0\x05\x01a' | read_stream
   the input ends inside a table

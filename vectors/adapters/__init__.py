@@ -1,1 +1,1 @@
-"""Adapters: a function from bytes to a dict for each codec."""
+"""Adapters for run.py, a module for each codec: its `decode` takes the bytes of a table, and returns a dict."""

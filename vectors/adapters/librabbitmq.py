@@ -1,4 +1,7 @@
-"""librabbitmq's reader of tables, by ctypes. It returns all values of a repeated key, of which the last is taken here."""
+"""`decode` for run.py, by librabbitmq's reader of tables and ctypes.
+
+librabbitmq returns all values of a repeated key; the last is taken here.
+"""
 
 import ctypes
 import struct

@@ -1,4 +1,4 @@
-"""pamqp's own reader of tables, which aiormq and aio-pika use."""
+"""`decode` for run.py, by pamqp's own reader of tables, which aiormq and aio-pika use."""
 
 from typing import Any
 

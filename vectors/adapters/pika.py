@@ -1,4 +1,4 @@
-"""pika's own reader of tables."""
+"""`decode` for run.py, by pika's own reader of tables."""
 
 from typing import Any
 

@@ -1,4 +1,6 @@
-"""Codecs by a program that reads a table from standard input, prints it as JSON, and ends with status 1 if it rejects it.
+"""`decoder` makes a `decode` of a program, which reads a table from standard input and prints it as JSON.
+
+The program ends with status 1 if it rejects the table.
 
 Numbers, null, Booleans and arrays are JSON's own. Else an object's only key says what is under it.
 """

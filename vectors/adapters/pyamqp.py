@@ -1,4 +1,4 @@
-"""py-amqp's own reader of tables."""
+"""`decode` for run.py, by py-amqp's own reader of tables."""
 
 from typing import Any
 

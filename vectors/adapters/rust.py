@@ -1,4 +1,4 @@
-"""The Rust crate amq-protocol-types, by rust.rs, built with it."""
+"""`decode` for run.py, by the crate amq-protocol-types. RUST_ADAPTER is the path of the program, built from rust.rs."""
 
 from adapters.program import decoder
 

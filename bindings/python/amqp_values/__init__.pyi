@@ -1,3 +1,4 @@
+# Signatures of `amqp_values`, for type checkers and editors. tests/python/test_package.py compares them with `help`.
 from collections.abc import Mapping
 from datetime import datetime
 from decimal import Decimal

@@ -1,4 +1,4 @@
-"""What of the extension only adapters use."""
+"""`Codec`, the part of the extension `_native` that only adapters use. `__init__.pyi` has signatures of the rest."""
 
 from typing import Any
 

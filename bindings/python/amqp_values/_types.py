@@ -1,4 +1,4 @@
-"""The error, and the classes of the types that Python hasn't."""
+"""`Error`, and classes for types that Python lacks, as `ShortInt`, `Float` and `Timestamp`. `_native` imports them."""
 
 from __future__ import annotations
 

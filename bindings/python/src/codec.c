@@ -1,4 +1,4 @@
-/* The type whose methods are in place of a client's own calls, so that a table is read or written by one call. */
+/* The type Codec, whose `read` and `write` adapters put in place of a client's own functions (adapters/shared.py). */
 #include "values.h"
 
 typedef struct {

@@ -1,4 +1,4 @@
-/* The exceptions: Error, in words, and TypeError. */
+/* Raises the extension's exceptions: `raise_error` and others an Error, with its text, and `raise_type` a TypeError. */
 #include "values.h"
 
 void raise_error(const State *state, const char *kind, size_t offset, size_t missing, const char *format, ...) {

@@ -1,4 +1,4 @@
-/* JSON of values, and values of JSON. */
+/* `json_of` makes JSON of a value that was read, and `encoding_of_json` makes the encoding of a JSON text. */
 #include "values.h"
 
 /* How many bytes the JSON of a value has at most for each byte of its encoding. */

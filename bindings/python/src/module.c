@@ -1,4 +1,4 @@
-/* The module: its functions, their arguments and options, and what it imports. */
+/* The module amqp_values._native: its functions, their arguments and options, and what it imports. */
 #include "values.h"
 
 #include <string.h>

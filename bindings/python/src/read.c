@@ -1,4 +1,4 @@
-/* Objects for values that are read. */
+/* `read_entry` has the C API read a value, and `build` makes the Python object for it, as `loads` returns it. */
 #include "values.h"
 
 #include <stdio.h>

@@ -1,4 +1,4 @@
-/* What the files of the extension share. */
+/* What the C files of the extension share: State, Options, Reader, and the functions that one file calls in another. */
 #ifndef VALUES_H
 #define VALUES_H
 

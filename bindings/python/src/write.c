@@ -1,4 +1,4 @@
-/* The bytes of values, in a buffer that grows. */
+/* `written` makes the bytes of a Python object in a buffer that grows, as `dumps` returns them. */
 #include "values.h"
 
 #include <string.h>

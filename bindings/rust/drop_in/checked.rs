@@ -1,5 +1,6 @@
-//! A module that drop_in.py adds to amq-protocol-types (`crate` is that crate): it checks arrays and tables within the limits
-//! of the process before its parser sees them.
+//! `parse_container` checks an array or a table within the limits of the process, then parses it.
+//!
+//! drop_in.py puts this module into a copy of the crate amq-protocol-types; `crate` is that copy.
 
 use crate::{
     FieldArray, FieldTable, ShortShortUInt,

@@ -1,6 +1,7 @@
-//! Limits on the arrays and tables that are parsed, and what becomes of a table beyond them.
+//! `Limits` on the arrays and tables that are parsed, and what becomes of a table beyond them.
 //!
-//! They are of the process, since the parsers take none; those of `amqp-values/src/limits.rs` are a call's.
+//! They are of the process, since the parsers take none; those of `amqp-values/src/limits.rs` are a
+//! call's. drop_in.py puts this module into a copy of the crate amq-protocol-types.
 
 use crate::{AMQPValue, FieldTable, ShortString};
 use std::sync::{PoisonError, RwLock};

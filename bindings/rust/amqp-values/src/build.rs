@@ -1,3 +1,5 @@
+//! `TableBuilder` and `ArrayBuilder`, which write values into a buffer of the caller.
+
 use crate::calls::{Body, Built, LENGTH};
 use crate::{ValueRef, WriteError};
 use amqp_values_sys::{AMQPV_ARRAY, AMQPV_TABLE};

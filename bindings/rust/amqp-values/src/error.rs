@@ -1,3 +1,5 @@
+//! `Error`, its `Problem` and `ProblemKind`, and `WriteError`, with their texts.
+
 use core::fmt;
 
 /// Why bytes aren't read.

@@ -1,3 +1,5 @@
+//! `ArrayValues` and `TablePairs`, the iterators over an array and a table that were read.
+
 use crate::calls::{cursor, key_of, next};
 use crate::{ArrayRef, TableRef, ValueRef};
 use amqp_values_sys::{amqpv_cursor, AMQPV_ARRAY, AMQPV_TABLE};

@@ -1,3 +1,5 @@
+//! `to_json` and `from_json`, and the same for tables without their type tag.
+
 use crate::{calls, Error, Limits, Problem, ProblemKind};
 use amqp_values_sys::{AMQPV_TABLE, AMQPV_UNTAGGED};
 use std::string::String;

@@ -1,5 +1,5 @@
-//! Limits that each call of this crate takes. Those of `drop_in/limits.rs` are of the process, and those of Rattle
-//! (`amq_protocol_types::stream::Limits`) have no number of values.
+//! `Limits`, which each call of this crate takes, and `Measure`. `drop_in/limits.rs` has those of a
+//! process; those of Rattle (`amq_protocol_types::stream::Limits`) have no number of values.
 
 /// Limits on a value that is read or checked, with all that it contains.
 ///

@@ -1,3 +1,5 @@
+//! Look-up in what was read: `get` by one key or position, and `get_path` by `PathStep`s.
+
 use crate::calls::find;
 use crate::{ArrayRef, TableRef, ValueRef};
 use amqp_values_sys::{AMQPV_ARRAY, AMQPV_TABLE};

@@ -1,3 +1,5 @@
+//! `read`, which checks a value within limits and returns it, and `check`, which only checks it.
+
 use crate::{calls, Error, Limits, Measure, TableRef, ValueRef};
 use amqp_values_sys::AMQPV_UNTAGGED;
 

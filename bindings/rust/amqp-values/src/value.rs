@@ -1,3 +1,5 @@
+//! `ValueRef`, a value in the bytes that it was read from, with `ArrayRef` and `TableRef`.
+
 use crate::calls::{bytes_of, LENGTH};
 use amqp_values_sys as sys;
 use core::str;

@@ -1,4 +1,4 @@
-//! What is built is read again.
+//! Tests of `TableBuilder`: what it builds is read again.
 
 use amqp_values::{read, read_table, DecimalValue, Limits, TableBuilder, TableRef, ValueRef, WriteError};
 

@@ -1,4 +1,4 @@
-//! JSON of values, and values of JSON. `tests/rust/json.rs` compares both with a model.
+//! Tests of `to_json` and `from_json`. `tests/rust/json.rs` compares both with a model.
 
 use amqp_values::{from_json, table_from_json, table_to_json, to_json, Error, Limits, Problem, ProblemKind};
 

@@ -1,4 +1,4 @@
-//! What is read, and what isn't.
+//! Tests of `read` and `check`, of look-ups in what was read, and of `rabbitmq`.
 
 use amqp_values::{
     check, check_table, from_json, rabbitmq, read, read_table, table_from_json, table_to_json, to_json, DecimalValue,
