@@ -49,7 +49,7 @@ pub mod Decided
 pub mod Getters
 -- which value a JSON value is
 pub mod Json
--- ---- what only proofs and worked examples use
+-- ---- what only amqp_wire, laws, proofs and worked examples use
 
 -- the outcomes as a function; law `outcome_computes`
 pub mod Decode
