@@ -6,7 +6,7 @@ use Rattle.std.proofs.lemmas.Bool.{cases_lt, lt-ltb, le-ltb}
 use Rattle.std.specs.Prelude.{MatchOption}
 use Rattle.amqp_value_core.specs.Layouts.{Layout}
 use Rattle.amqp_value_core.specs.Outcomes.{counted, lack_of, Reading, lack, found, more, no_byte, no_tag, needs_more, at_start, not_at_start, RawHeavy, Heavy}
-use Rattle.amqp_value_core.proofs.GrammarLaws.{counted-append, header_extent_of, header_extent_of-whole, header_extent_of-append, wire_of, lack-raw, prefix_within}
+use Rattle.amqp_value_core.proofs.GrammarLaws.{counted-append, payload_extent_of, payload_extent_of-whole, payload_extent_of-append, wire_of, lack-raw, prefix_within}
 use Rattle.amq_protocol_types.specs.parsing.Headers.{extent_of, extent_at, extent, wanted_at, wanted, IsWholeValue}
 use Rattle.amqp_value_core.specs.declared.types.amqp_type.AMQPType.{AMQPType}
 use Rattle.amqp_value_core.specs.Ids.{kind}
@@ -25,16 +25,16 @@ pub extent_known : (w : Width) (b : List ℕ) → byte_len w ≤ length b → ex
 extent_known w b known = rw (le-ltb (length b) (byte_len w) known) refl
 
 -- if the length field is complete, a payload's least extent is its extent
-pub whole_extent : (o : Option Layout) (w : Width) (b : List ℕ) (n : ℕ) → header_extent_of o w b ≡ n → n ≤ length b → extent_of o w b ≡ n
+pub whole_extent : (o : Option Layout) (w : Width) (b : List ℕ) (n : ℕ) → payload_extent_of o w b ≡ n → n ≤ length b → extent_of o w b ≡ n
 whole_extent (Some f) w b n e le = e
 whole_extent None w b n e le = extent_known w b (omega arith) ∙ e
 
 -- so more bytes don't change it
 pub raw_extent-whole : (o : Option Layout) (w : Width) (b t : List ℕ) → lack_of o w b ≡ 0 → extent_of o w (b ++ t) ≡ extent_of o w b
 raw_extent-whole o w b t whole =
-    let reached = header_extent_of-whole o w b whole in
-    whole_extent o w (b ++ t) (header_extent_of o w b) (header_extent_of-append o w b t whole) (omega (arith, reached, length-append b t))
-    ∙ sym (whole_extent o w b (header_extent_of o w b) refl reached)
+    let reached = payload_extent_of-whole o w b whole in
+    whole_extent o w (b ++ t) (payload_extent_of o w b) (payload_extent_of-append o w b t whole) (omega (arith, reached, length-append b t))
+    ∙ sym (whole_extent o w b (payload_extent_of o w b) refl reached)
 
 -- more bytes don't make it smaller
 pub raw_extent-le : (o : Option Layout) (w : Width) (b t : List ℕ) → extent_of o w b ≤ extent_of o w (b ++ t)

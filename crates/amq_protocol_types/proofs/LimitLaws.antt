@@ -9,7 +9,7 @@ use Rattle.amqp_value_core.specs.Texts.{text}
 use Rattle.amqp_value_core.specs.Bytes.{IsBytes}
 use Rattle.amqp_value_core.specs.Outcomes.{found, length_field, Reading, more, unknown, malformed, StillWaits, with_more}
 use Rattle.amqp_value_core.proofs.Bytes.{bytes_before}
-use Rattle.amqp_value_core.proofs.GrammarLaws.{wire_of, prefix_within, bounded_wire, wire_found_within, text_within, text_again, depth_within, bounds, injective, extent-raw, outcome_holds, outcome_is, within_holds, one_outcome_within, more_bytes_within, deep_enough}
+use Rattle.amqp_value_core.proofs.GrammarLaws.{wire_of, prefix_within, bounded_wire, wire_found_within, text_within, text_again, depth_within, bounds, injective, payload_extent-raw, outcome_holds, outcome_is, within_holds, one_outcome_within, more_bytes_within, deep_enough}
 use Rattle.amq_protocol_types.specs.declared.parsing.within.Limits.{Limits}
 use Rattle.amq_protocol_types.specs.parsing.Refusals.{Refusal}
 use Rattle.amq_protocol_types.specs.parsing.Headers.{raw_extent, extent_at, extent, wanted_at, wanted}
@@ -28,7 +28,7 @@ use Rattle.amq_protocol_types.proofs.MissingBytes.{wanted_more, extent-append}
 -- the least extent of what begins with an encoding is the encoding's length
 pub wire_extent : (w t : List ℕ) (v : Tree) → Wire w v → extent (w ++ t) ≡ length w
 wire_extent _ t _ (wire c type b v k p) =
-    let raw : raw_extent type (b ++ t) ≡ length b = whole_extent (fixed type) (length_field type) (b ++ t) (length b) (extent-raw type b t v p) (omega (arith, length-append b t)) in
+    let raw : raw_extent type (b ++ t) ≡ length b = whole_extent (fixed type) (length_field type) (b ++ t) (length b) (payload_extent-raw type b t v p) (omega (arith, length-append b t)) in
     ap (λ o. extent_at o (b ++ t)) k ∙ ap suc raw
 
 -- a canonical encoding that keeps to the limits is read within them

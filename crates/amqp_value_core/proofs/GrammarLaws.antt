@@ -41,6 +41,6 @@ pub use Rattle.amqp_value_core.proofs.Reading.{array_body_within, table_body_wit
 pub use Rattle.amqp_value_core.proofs.TextDepth.{text_within, text_again, depth_within}
 pub use Rattle.amqp_value_core.proofs.Agreement.{within_holds, within_is}
 -- how many bytes a header counts, and how many are missing
-pub use Rattle.amqp_value_core.proofs.Headers.{first_within, fields_lack_cut, fields_lack_known, frame_lack_cut, frame_lack_known, counted-append, extent-raw, lack-raw, length-wire}
-pub use Rattle.amqp_value_core.proofs.Headers.{extent_of as header_extent_of, extent_of-whole as header_extent_of-whole, extent_of-append as header_extent_of-append}
+pub use Rattle.amqp_value_core.proofs.Headers.{first_within, fields_lack_cut, fields_lack_known, frame_lack_cut, frame_lack_known, counted-append, payload_extent-raw, lack-raw, length-wire}
+pub use Rattle.amqp_value_core.proofs.Headers.{payload_extent_of, payload_extent_of-whole, payload_extent_of-append}
 pub use Rattle.amqp_value_core.proofs.Nests.{nesting-le, body_nesting-le, pairs_nesting-le, wire_of, raw_of, body_of, pairs_of, wire_within, raw_within, body_within, pairs_within}

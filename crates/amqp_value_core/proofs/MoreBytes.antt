@@ -7,15 +7,15 @@ use Rattle.amqp_value_core.specs.Ids.{kind}
 use Rattle.amqp_value_core.specs.Grammar.{Wire, Raw}
 use Rattle.amqp_value_core.specs.Outcomes.{Reading, found, more, unknown, malformed, lack, RawOutcomeBy, OutcomeBy, no_byte, no_tag, needs_more, at_start, not_at_start, Outcome, RawOutcome, with_more, StillWaits}
 use Rattle.amqp_value_core.proofs.Bytes.{prefix_inside}
-use Rattle.amqp_value_core.proofs.Headers.{extent, extent-whole, extent-append, extent-raw, lack-whole, lack-append}
+use Rattle.amqp_value_core.proofs.Headers.{payload_extent, payload_extent-whole, payload_extent-append, payload_extent-raw, lack-whole, lack-append}
 use Rattle.amqp_value_core.proofs.Outcomes.{NeedsMoreOr, PrefixBy, raw_from_cases, raw_to_cases, raw_whole_by, value_to_raw, raw_to_value}
 
 -- a payload at the start of a joined list is in its first part, if that is a complete
 -- length-prefixed field
 raw_inside : (type : AMQPType) (s t b rest : List ℕ) (v : Tree) → lack type s ≡ 0 → Raw type b v → s ++ t ≡ b ++ rest → s ≡ b ++ drop (length b) s
 raw_inside type s t b rest v whole p e =
-    let same : extent type s ≡ length b = sym (extent-append type s t whole) ∙ (ap (extent type) e ∙ extent-raw type b rest v p) in
-    prefix_inside s t b rest e (omega (arith, same, extent-whole type s whole))
+    let same : payload_extent type s ≡ length b = sym (payload_extent-append type s t whole) ∙ (ap (payload_extent type) e ∙ payload_extent-raw type b rest v p) in
+    prefix_inside s t b rest e (omega (arith, same, payload_extent-whole type s whole))
 
 -- if n bytes are missing, that is the outcome
 pub NeedsMoreOr-more : (n : ℕ) (P : Type 0) → 0 < n → NeedsMoreOr n P (more n)

@@ -22,7 +22,7 @@ use Rattle.amqp_value_core.specs.Outcomes.{Reading, found, more, unknown, malfor
 use Rattle.amqp_value_core.specs.Decode.{Meaning, framed, raw_outcome_by, outcome_by, values_by, is_short, is_key, pairs_onto, meaning}
 use Rattle.amqp_value_core.proofs.Bytes.{bytes_after, bytes_take, bytes_drop, byte_at}
 use Rattle.amqp_value_core.proofs.Tables.{put_mean}
-use Rattle.amqp_value_core.proofs.Headers.{extent_of-whole}
+use Rattle.amqp_value_core.proofs.Headers.{payload_extent_of-whole}
 use Rattle.amqp_value_core.proofs.Outcomes.{NeedsMoreOr, NeedsMoreOr-weaker}
 use Rattle.amqp_value_core.proofs.Found.{by_kind, by_layout, by_lack, by_meaning, and_others, and_pairs, and_key}
 
@@ -66,7 +66,7 @@ framed_ends depth mean type b means bytes whole =
     let after = drop (byte_len w) b in
     let n = counted w b in
     let s = take n after in
-    let enough = extent_of-whole None w b whole in
+    let enough = payload_extent_of-whole None w b whole in
     let wide : length l ≡ byte_len w = length-take (byte_len w) b ∙ omega (arith, enough) in
     let counts : n ≡ length s = omega (arith, enough, length-take n after, length-drop (byte_len w) b) in
     let is : b ≡ (l ++ s) ++ drop n after =
@@ -79,7 +79,7 @@ by_layout_ends : (depth : ℕ) (mean : Meaning) (type : AMQPType) (b : List ℕ)
     → (f : Option Layout) → fixed type ≡ f → lack_of f (length_field type) b ≡ 0 → PrefixOrError (RawWithin depth type) b (by_layout f mean type b)
 by_layout_ends depth mean type b means bytes None is whole = framed_ends depth mean type b means bytes whole
 by_layout_ends depth mean type b means bytes (Some f) is whole =
-    let field = extent_of-whole (Some f) (length_field type) b whole in
+    let field = payload_extent_of-whole (Some f) (length_field type) b whole in
     (take f.width b, fixed_within depth type f (take f.width b) is (length-take f.width b ∙ omega arith), sym (take-append-drop f.width b))
 
 -- reading a payload

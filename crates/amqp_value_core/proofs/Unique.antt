@@ -6,13 +6,13 @@ use Rattle.amqp_value_core.specs.Ids.{kind}
 use Rattle.amqp_value_core.specs.Layouts.{Layout, fixed}
 use Rattle.amqp_value_core.specs.Grammar.{short_field, long_field, Wire, wire, Raw, raw_fixed, raw_short, raw_long, raw_octets, raw_array, raw_table, ArrayBody, no_values, value, TableBody, no_pairs, pair}
 use Rattle.amqp_value_core.proofs.Bytes.{same_prefixes, one_held}
-use Rattle.amqp_value_core.proofs.Headers.{extent, extent-raw}
+use Rattle.amqp_value_core.proofs.Headers.{payload_extent, payload_extent-raw}
 use Rattle.amqp_value_core.proofs.Tables.{one_mean}
 
 -- two payloads of one type at the start of a list are one
 one_raw_prefix : (type : AMQPType) (b c x y : List ℕ) (v u : Tree) → Raw type b v → Raw type c u → b ++ x ≡ c ++ y → (b ≡ c) × (x ≡ y)
 one_raw_prefix type b c x y v u p q e =
-    same_prefixes b c x y (sym (extent-raw type b x v p) ∙ (ap (extent type) e ∙ extent-raw type c y u q)) e
+    same_prefixes b c x y (sym (payload_extent-raw type b x v p) ∙ (ap (payload_extent type) e ∙ payload_extent-raw type c y u q)) e
 
 -- two encodings at the start of a list are one
 pub one_prefix : (w u x y : List ℕ) (v z : Tree) → Wire w v → Wire u z → w ++ x ≡ u ++ y → (w ≡ u) × (x ≡ y)
