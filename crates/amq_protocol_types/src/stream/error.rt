@@ -6,8 +6,9 @@ use std::alloc::AllocError;
 use std::io;
 use thiserror::Error;
 
-/// Why a reader of values returned none. Clauses state what it means for the bytes that came for
-/// readers whose model has their bytes, as a slice's has, and tests show it for others.
+/// Why a reader of values returned none. What each variant means for the bytes that came is proved
+/// for readers in memory, such as slices, and tested for others by the rows of
+/// `crates/test_calls/data/stream.calls`.
 #[derive(Clone, Debug, PartialEq, Drop, Error)]
 pub enum StreamError {
     /// The input is no value within the limits. The reader of values has failed for good.
