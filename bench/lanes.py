@@ -15,7 +15,7 @@ from collections.abc import Sequence
 from pathlib import Path
 
 from building import archive, build_archive
-from crates import TOP, Crates, kit
+from dependencies import TOP, Crates, kit
 from programs import end_if_failed, run
 from wheels import PYTHON, compile_package
 

@@ -40,7 +40,7 @@ sys.path += [str(ROOT), str(ROOT / "packaging")]
 import counted  # noqa: E402
 import picture  # noqa: E402
 import ten  # noqa: E402
-from crates import TOP, said_by  # noqa: E402
+from dependencies import TOP, said_by  # noqa: E402
 from lanes import BEGIN, OUT, RUST_CRATE, Lanes, load, note, preloaded, python_sides, sides  # noqa: E402
 from page import RESULTS, SPEED, Pages  # noqa: E402
 from right import TASKS, compare, right_lanes, right_python, right_tasks  # noqa: E402

@@ -18,7 +18,7 @@ from contextlib import contextmanager
 from pathlib import Path
 
 from building import C_API, COMPILERS, X86_64, build_archive
-from crates import Crates
+from dependencies import Crates
 from processes import end_on_signals
 from programs import end_if_failed, require
 

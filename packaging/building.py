@@ -8,7 +8,7 @@ import tempfile
 from collections.abc import Collection, Iterable
 from pathlib import Path
 
-from crates import TOP, Crates, kit, said_by
+from dependencies import TOP, Crates, kit, said_by
 
 # The crates of the C API: those that don't allocate, and those that do. The second uses the first as a library.
 C_API = ("amqp_c", "amqp_c_alloc")

@@ -27,7 +27,7 @@ import tempfile
 from pathlib import Path
 
 from building import C_API, WASM64, X86_64, archive, build_archive
-from crates import TOP, Crates, kit
+from dependencies import TOP, Crates, kit
 from processes import end_on_signals
 from programs import end_if_failed, require, run
 

@@ -10,7 +10,7 @@ from collections.abc import Iterator, Sequence
 from pathlib import Path
 
 from building import AARCH64, C_API, COMPILERS, MALLOC, X86_64, archive, build_archive
-from crates import TOP, Crates, said_by
+from dependencies import TOP, Crates, said_by
 
 PACKAGE, INCLUDE, LIBRARY = TOP / "bindings/python", TOP / "include", "libamqp_values.a"
 # Debian's Python, by which the package is built.

@@ -7,7 +7,7 @@ fails; tests/c/calls.py has the names of the C API's functions.
 from collections.abc import Iterator
 from pathlib import Path
 
-from crates import TOP
+from dependencies import TOP
 
 DATA = TOP / "crates/test_calls/data"
 

@@ -7,7 +7,7 @@ from pathlib import Path
 from typing import Any
 
 from building import is_up_to_date
-from crates import Crates
+from dependencies import Crates
 
 Words = Sequence[str | Path]
 Done = subprocess.CompletedProcess[str]

@@ -13,7 +13,7 @@ from typing import Any, TypeVar
 
 import pytest
 from building import shared_object
-from crates import TOP, Crates
+from dependencies import TOP, Crates
 from hypothesis import settings
 from processes import end_descendants, end_on_signals
 

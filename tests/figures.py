@@ -6,7 +6,7 @@ from collections.abc import Iterator
 from pathlib import Path
 
 import picture
-from crates import TOP
+from dependencies import TOP
 
 HEADER, SPEED, INTEROP, CONTRIBUTING = "include/amqp_values.h", "docs/SPEED.md", "docs/INTEROP.md", "CONTRIBUTING.md"
 VERIFICATION, ANSWERS = "docs/VERIFICATION.md", "crates/test_calls/data/rust.calls"

@@ -18,7 +18,7 @@ from pathlib import Path
 TOP = Path(__file__).resolve().parent.parent
 sys.path += [str(TOP), str(TOP / "packaging")]
 
-from crates import kit  # noqa: E402
+from dependencies import kit  # noqa: E402
 from processes import end_on_signals  # noqa: E402
 
 from tests.checks import Checks  # noqa: E402

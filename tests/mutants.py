@@ -37,7 +37,7 @@ from pathlib import Path
 
 TOP = Path(__file__).resolve().parent.parent
 sys.path.append(str(TOP / "packaging"))
-from crates import Crates, kit, said_by  # noqa: E402
+from dependencies import Crates, kit, said_by  # noqa: E402
 
 CACHE = Path(os.environ.get("XDG_CACHE_HOME") or Path.home() / ".cache") / "maolkint-mutants"
 # What a check reads of a crate, and of the library of each crate below it (without the proofs of functions).
@@ -177,7 +177,12 @@ class Copy:
 def key_of(crates: Crates, crate: str) -> str:
     """A hash of all that the checks of a crate's mutants read."""
     found = hashlib.sha256(f"{said_by('rt', 'version')} {crates.lines[crate]}".encode())
-    paths = [Path(__file__), TOP / "packaging/crates.py", crates.top / "HANDLES", crates.folder(crate) / "mutants"]
+    paths = [
+        Path(__file__),
+        TOP / "packaging/dependencies.py",
+        crates.top / "HANDLES",
+        crates.folder(crate) / "mutants",
+    ]
     paths += [crates.folder(crate) / it for it in PARTS]
     paths += [crates.library(name) / it for name in crates.needed(crate)[:-1] for it in OF_LIBRARY]
     for path in paths:

@@ -11,7 +11,7 @@ from functools import partial
 from pathlib import Path
 
 import pytest
-from crates import Crates
+from dependencies import Crates
 from wheels import build_package
 
 # The folder that has the package, in the environment of the processes that run tests side by side.

@@ -21,7 +21,7 @@ from typing import NamedTuple
 TOP = Path(__file__).resolve().parent.parent
 sys.path[:0] = [str(TOP), str(TOP / "packaging"), str(TOP / "bench")]
 
-from crates import Crates  # noqa: E402
+from dependencies import Crates  # noqa: E402
 
 from tests import figures  # noqa: E402
 from tests.memory import made_up  # noqa: E402

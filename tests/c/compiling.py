@@ -5,7 +5,7 @@ from pathlib import Path
 from typing import Any
 
 from building import C_API, MALLOC, archive
-from crates import TOP, Crates
+from dependencies import TOP, Crates
 
 from tests.checks import Done as Done
 from tests.checks import Words as Words

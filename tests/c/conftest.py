@@ -9,7 +9,7 @@ from pathlib import Path
 
 import pytest
 from building import AARCH64, C_API, build_archive
-from crates import TOP
+from dependencies import TOP
 
 from tests.c.compiling import C, CRATES, assert_well, run
 

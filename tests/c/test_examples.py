@@ -11,7 +11,7 @@ from typing import NamedTuple
 
 import pytest
 from building import AARCH64, COMPILERS
-from crates import TOP
+from dependencies import TOP
 
 from tests.c.compiling import EXAMPLES, FLAGS, LINKED, OF_AARCH64, C, Words, compiled, printed
 from tests.c.pages import PRINTED, program_of_page

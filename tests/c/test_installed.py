@@ -14,7 +14,7 @@ from pathlib import Path
 from typing import Any
 
 import pytest
-from crates import TOP
+from dependencies import TOP
 
 from tests.c.calls import CALLS
 from tests.c.conftest import installed

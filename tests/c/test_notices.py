@@ -7,7 +7,7 @@ from pathlib import Path
 
 import pytest
 from building import C_API, archive
-from crates import TOP, Crates, kit
+from dependencies import TOP, Crates, kit
 
 from tests.c.places import NAME
 

@@ -9,7 +9,7 @@ import shutil
 from datetime import datetime, timezone
 from pathlib import Path
 import pytest
-from crates import TOP
+from dependencies import TOP
 
 from tests.c.calls import CALLS
 from tests.c.compiling import Words, assert_well, printed, run, version

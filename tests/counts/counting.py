@@ -10,7 +10,7 @@ from pathlib import Path
 from typing import NamedTuple
 
 from building import C_API, MALLOC, archive, build_archive
-from crates import TOP, Crates
+from dependencies import TOP, Crates
 
 from tests.checks import Words, assert_well, run
 from tests.counts.inputs import INPUTS

@@ -18,7 +18,7 @@ from statistics import mean
 from typing import NamedTuple
 
 import pytest
-from crates import TOP
+from dependencies import TOP
 
 from tests.counts.counting import OfCall, Taken, grown, taken
 from tests.counts.inputs import INPUTS

@@ -10,7 +10,7 @@ whose calls don't return the same error is judged by its words: each has to be o
 import re
 from typing import NamedTuple
 
-from crates import TOP
+from dependencies import TOP
 
 CALLS = "test_calls"
 READ = "value raw_value short_string long_string byte_array field_array field_table flags".split()

@@ -8,7 +8,7 @@ from functools import cache
 from pathlib import Path
 from typing import NamedTuple
 
-from crates import TOP
+from dependencies import TOP
 
 from tests.checks import built
 from tests.transcripts import Ending, cases

@@ -6,7 +6,7 @@ from functools import cache, partial
 from itertools import repeat
 from typing import NamedTuple
 
-from crates import TOP
+from dependencies import TOP
 
 LARGE, MANY = 256 << 20, 1_000_000
 WIDE = ["--max-bytes", "4294967295"]

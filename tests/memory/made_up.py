@@ -12,7 +12,7 @@ Nor can a clause state with which error a reader or a writer of std failed: the 
 import re
 from collections.abc import Iterator
 
-from crates import TOP
+from dependencies import TOP
 
 # How the crates begin that are tests, or programs that provoke such errors.
 LEFT_OUT = ("test_",)

@@ -23,7 +23,7 @@ from pathlib import Path
 from typing import NamedTuple
 
 import pytest
-from crates import TOP
+from dependencies import TOP
 
 from tests.checks import within
 from tests.memory.calls import CALLS, Row, numbers, rows

@@ -23,7 +23,7 @@ from threading import Thread
 from typing import IO
 
 import pytest
-from crates import TOP
+from dependencies import TOP
 
 from tests.checks import built, within
 from tests.memory.large import RUNS, Pieces, Run

@@ -5,7 +5,7 @@ import random
 import struct
 from collections.abc import Iterator, Sequence
 
-from crates import TOP
+from dependencies import TOP
 
 from tests.model.encoding import TYPES, field
 

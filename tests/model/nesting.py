@@ -19,7 +19,7 @@ from functools import lru_cache, partial
 from pathlib import Path
 from typing import NamedTuple
 
-from crates import TOP
+from dependencies import TOP
 
 from tests.checks import within
 from tests.model.inputs import nested

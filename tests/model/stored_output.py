@@ -10,7 +10,7 @@ import sys
 from collections.abc import Iterator
 from typing import Any
 
-from crates import TOP
+from dependencies import TOP
 
 from tests.checks import Checks
 from tests.model import encoding, json_format

@@ -1,4 +1,7 @@
-"""Properties of the model, by hypothesis: what it writes it reads back, also as JSON, and prefixes need more bytes."""
+"""Properties of the model, by hypothesis: what it writes it reads back, also as JSON, and prefixes need more bytes.
+
+Problems, and the places of values in an encoding, agree with what is read.
+"""
 
 import json
 from random import Random

@@ -7,7 +7,7 @@ import subprocess
 from pathlib import Path
 from typing import NamedTuple
 
-from crates import TOP
+from dependencies import TOP
 
 HERE, OUT = TOP / "tests/oracle", TOP / "out/oracle"
 # Debian's Rust packages.

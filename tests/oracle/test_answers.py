@@ -9,7 +9,7 @@ from pathlib import Path
 from random import Random
 
 import pytest
-from crates import TOP
+from dependencies import TOP
 
 from tests.calls import DATA, rows
 from tests.checks import built, run

@@ -1,7 +1,7 @@
 """The Rust crate on each case of vectors/, and its scores (--write writes them)."""
 
 import pytest
-from crates import TOP
+from dependencies import TOP
 
 from tests.oracle.crate import build
 from tests.rabbitmq.broker import PYTHON

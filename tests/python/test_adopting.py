@@ -6,7 +6,7 @@ from typing import Any
 import pika.data
 import pytest
 from amqp_values.adapters import pika as adapter
-from crates import TOP
+from dependencies import TOP
 from pika import frame, spec
 
 from tests.model.encoding import field

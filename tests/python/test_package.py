@@ -18,7 +18,7 @@ from typing import Any
 import amqp_values as own
 import pytest
 from amqp_values._native import Codec
-from crates import TOP
+from dependencies import TOP
 from hypothesis import given
 from hypothesis import strategies as st
 

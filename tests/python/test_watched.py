@@ -6,7 +6,7 @@ import subprocess
 from pathlib import Path
 
 import pytest
-from crates import TOP, Crates
+from dependencies import TOP, Crates
 from wheels import PYTHON, build_package
 
 # How many damaged tables are read: by CI, and before a release.

@@ -7,7 +7,7 @@ from pathlib import Path
 
 import pytest
 from building import AARCH64, X86_64
-from crates import TOP, Crates
+from dependencies import TOP, Crates
 from wheels import INCLUDE, PACKAGE, PROCESSORS, PYTHON, Words, make_wheel, put_library, ran, wrong_symbols
 
 from tests.conftest import WITHOUT

@@ -19,7 +19,7 @@ from typing import Any
 
 import amqp_values as own
 import pytest
-from crates import TOP
+from dependencies import TOP
 
 from tests.model.encoding import field
 from tests.model.inputs import damaged, nested, value_of

@@ -10,7 +10,7 @@ from random import Random
 from typing import Any, NamedTuple
 
 import pytest
-from crates import TOP
+from dependencies import TOP
 
 from tests.model.tables import VERSIONS, Version
 from tests.package import BUILT, put_package

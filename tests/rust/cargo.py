@@ -8,7 +8,7 @@ from collections.abc import Sequence
 from pathlib import Path
 from typing import NamedTuple
 
-from crates import TOP
+from dependencies import TOP
 
 from tests.checks import Done
 from tests.checks import assert_well as assert_well

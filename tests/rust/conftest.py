@@ -4,7 +4,7 @@ import shutil
 from pathlib import Path
 
 import pytest
-from crates import TOP
+from dependencies import TOP
 
 from tests.oracle.crate import named, packages_for
 from tests.rust.cargo import COPIES, CRATES, OUT, RUST, TRIPLE, Given

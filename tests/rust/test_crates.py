@@ -11,7 +11,7 @@ import subprocess
 from pathlib import Path
 
 import pytest
-from crates import TOP
+from dependencies import TOP
 
 from tests.rust.cargo import COPIES, CRATES, NAMED_BY, OF_DEBIAN, OLDEST, PACKAGES, RUST, TARGET, TRIPLE, Given
 from tests.rust.cargo import assert_well, cargo, copied, count_of_tests, last_line, package, run

@@ -13,7 +13,7 @@ from collections.abc import Iterator
 from pathlib import Path
 
 import pytest
-from crates import TOP
+from dependencies import TOP
 
 from tests.rust.cargo import HERE, NAME, OUT, PACKAGES, PROFILES, TRIPLE, VERSION, Given
 from tests.rust.cargo import assert_well, client, copied, count_of_tests, last_line, package

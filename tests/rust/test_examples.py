@@ -13,7 +13,7 @@ from typing import NamedTuple
 
 import pytest
 from building import SOURCES
-from crates import TOP, Crates
+from dependencies import TOP, Crates
 from wheels import PYTHON, compile_package
 
 from tests.model.encoding import field

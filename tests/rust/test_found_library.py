@@ -8,7 +8,7 @@ import shutil
 from pathlib import Path
 
 import pytest
-from crates import TOP
+from dependencies import TOP
 
 from tests.checks import Done, run
 from tests.rust.cargo import CRATES, RUST, TRIPLE

@@ -5,7 +5,7 @@ from collections.abc import Iterator
 from pathlib import Path
 
 import pytest
-from crates import TOP
+from dependencies import TOP
 
 from tests.rust.cargo import CRATES, DROP_IN, HERE, PACKAGES, RUST, assert_well, run
 

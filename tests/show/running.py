@@ -10,7 +10,7 @@ from pathlib import Path
 from threading import Thread
 from typing import Any
 
-from crates import TOP
+from dependencies import TOP
 
 from tests.transcripts import Case, Ending, Output
 

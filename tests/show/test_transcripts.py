@@ -12,7 +12,7 @@ from collections.abc import Iterator
 from pathlib import Path
 
 import pytest
-from crates import TOP
+from dependencies import TOP
 
 from tests.show.running import CRATE, ending, fill
 from tests.transcripts import Case, Ending, cases, rewritten

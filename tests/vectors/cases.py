@@ -4,7 +4,7 @@ import json
 from pathlib import Path
 from typing import Any, NamedTuple
 
-from crates import TOP
+from dependencies import TOP
 from comparing import bytes_of
 
 VECTORS = TOP / "vectors"

@@ -6,7 +6,7 @@ import subprocess
 from collections.abc import Mapping
 from typing import NamedTuple
 
-from crates import TOP
+from dependencies import TOP
 
 from tests.vectors.cases import CASES, IMPLEMENTATIONS, VECTORS, none_of
 

@@ -6,7 +6,7 @@ from pathlib import Path
 
 import jsonschema
 import pytest
-from crates import TOP
+from dependencies import TOP
 
 from tests.model.json_format import json_of
 from tests.model.encoding import Unread, extent, read, write

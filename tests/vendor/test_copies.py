@@ -8,7 +8,7 @@ import subprocess
 from pathlib import Path
 
 import pytest
-from crates import TOP, Crates
+from dependencies import TOP, Crates
 
 PAGE = TOP / "crates/amq_protocol_types/CALLING.md"
 SECTION = PAGE.read_text().partition("\n## In another repository\n")[2].partition("\n## ")[0]

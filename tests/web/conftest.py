@@ -6,7 +6,7 @@ from collections.abc import Iterator
 from pathlib import Path
 
 import pytest
-from crates import TOP
+from dependencies import TOP
 
 from tests.web.browser import Browser, opened
 

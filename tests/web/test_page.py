@@ -8,7 +8,7 @@ from pathlib import Path
 from random import Random
 
 import pytest
-from crates import TOP
+from dependencies import TOP
 
 from tests.model.encoding import field
 from tests.model.inputs import captured, inputs, untagged

@@ -7,7 +7,7 @@ Each run makes the picture, and compares the words on it with docs/page.txt; pix
 from base64 import b64encode
 from pathlib import Path
 
-from crates import TOP
+from dependencies import TOP
 
 from tests.model.encoding import field
 from tests.web.browser import Browser
