@@ -9,6 +9,7 @@ crate uses only what is below it, and no module one that uses it. No source make
 commands that pages show.
 """
 
+import ast
 import re
 import subprocess
 import sys
@@ -400,13 +401,16 @@ CITED = re.compile(r"\b(?:(crate|self|super(?:::super)*)::|Rattle\.(\w+)\.)((?:\
 PASSED_ON = re.compile(r"(?m)^pub(?:\(crate\))? use [\w:.]*(?:\{[^}]*\})?")
 # What has to be defined by each other: an array and a table have values, and a value may be either.
 RECURSIVE = {("src/types/field_array", "src/value"), ("src/types/field_table", "src/value")}
+# The modules in Python, and the folders that they are imported from, as pyproject.toml has it, and the package's.
+PYTHON = [f"{it}/**/*.py" for it in ("bench", "bindings", "packaging", "tests", "vectors")]
+IMPORTED_FROM = ("", "bench/", "packaging/", "vectors/", "bindings/python/")
 
 
 def wrong_figure() -> Iterator[str]:
     """Yields the crates that the figure of CONTRIBUTING.md has otherwise than crates.txt, or not above what they use."""
     crates, layers, layer = Crates(), dict[str, int](), 0
     for number, line in enumerate(read(TOP / CONTRIBUTING).splitlines(), 1):
-        found = re.fullmatch(rf"(\d?) +({WORD})((?: +{WORD})*)", line)
+        found = re.fullmatch(rf"(\d?) +({WORD})((?: +{WORD})*)(?: +#.*)?", line)
         if found and (name := found[2]) in crates.below:
             layers[name] = layer = int(found[1] or layer)
             if {*crates.needed(*found[3].split())} != {*crates.needed(*(below := crates.below[name]))}:
@@ -453,10 +457,25 @@ def uses_in(crate: str) -> dict[str, dict[str, str]]:
     return found
 
 
+def imported() -> dict[str, dict[str, str]]:
+    """What each module in Python imports of the others, each with the file and line."""
+    modules = {it.relative_to(TOP).with_suffix("").as_posix(): it for it in files(*PYTHON)}
+    found = {it: dict[str, str]() for it in modules}
+    for own, path in modules.items():
+        for it in ast.walk(ast.parse(read(path))):
+            of = f"{it.module}." if isinstance(it, ast.ImportFrom) else ""
+            names = [f"{of}{each.name}" for each in it.names] if isinstance(it, ast.Import | ast.ImportFrom) else []
+            for name in (each for name in names for each in (name, of.rstrip("."))):
+                for used in (f"{root}{name.replace('.', '/')}" for root in IMPORTED_FROM):
+                    if used in modules:
+                        found[own].setdefault(used, f"{path.relative_to(TOP)}:{it.lineno}")
+    return found
+
+
 def circular() -> Iterator[str]:
     """Yields the modules that use, even indirectly, a module that uses them, each circle once."""
-    for crate in Crates().below:
-        uses, told = uses_in(crate), set[str]()
+    for uses in (*map(uses_in, Crates().below), imported()):
+        told = set[str]()
         for own in uses:
             ways, todo = dict[str, list[str]](), [[own]]
             for way in todo:
