@@ -1,4 +1,7 @@
-"""`Client`, the base of each adapter, the `Codec` that its `install` puts in place, and `Places`, which undoes that."""
+"""`Client`, the base of each adapter, the `Codec` that its `install` puts in place, and `Places`, which undoes that.
+
+It imports no client: only the adapter of a client does.
+"""
 
 import sys
 import warnings
