@@ -14,7 +14,8 @@ anew and says so. tests/web drives the page in Chromium, with both modules: inpu
 prefix of three captured ones give the same tree, failure, outcome, notes and JSON as amqp_show prints. It and the page share no
 code but the crates below.
 
-The crates are proved first or, with --built, what `rt ci` has left here is taken.
+The crates are proved first, each once, and what `make` has proved isn't proved again. With --built, what `rt ci` has left here
+is taken.
 """
 
 import argparse
@@ -26,6 +27,7 @@ import re
 import tempfile
 from pathlib import Path
 
+from archives import prove
 from building import C_API, WASM64, X86_64, archive, build_archive
 from dependencies import TOP, Crates, kit
 from processes import end_on_signals
@@ -49,9 +51,11 @@ LOWERING = ("--enable-memory64", "--enable-bulk-memory", "--memory64-lowering", 
 def modules(crates: Crates, is_built: bool) -> list[bytes]:
     """The module whose addresses have 64 bits, and the one whose have 32."""
     name = C_API[0]
+    if not is_built:
+        prove(crates, [it for it in crates.needed(name) if it not in crates.static])
     # what the first build has proved isn't proved again for the second
     for target in (X86_64, WASM64):
-        end_if_failed("web", f"lib{name}.a for {target}", build_archive(crates, name, is_built, target))
+        end_if_failed("web", f"lib{name}.a for {target}", build_archive(crates, name, True, target))
     with tempfile.TemporaryDirectory(prefix="web-") as folder:
         wide, narrow = Path(folder) / "64.wasm", Path(folder) / "32.wasm"
         link = (f"{kit()}/bin/rattle-link", "--target", WASM64, "--toolchain", f"{kit()}/toolchain")

@@ -229,6 +229,16 @@ def test_missing_program_is_named_before_any_proof(tmp_path: Path, script: str, 
     assert not proved.exists()
 
 
+def test_page_is_made_of_what_make_has_proved(tmp_path: Path) -> None:
+    for it in ("env", "git", "python3", "wasm-opt"):
+        (tmp_path / it).symlink_to(f"/usr/bin/{it}")
+    (tmp_path / "rt").write_text(f'#!/bin/sh\necho "$*" >>{tmp_path}/asked\nexit 1\n')
+    (tmp_path / "rt").chmod(0o755)
+    assert run([TOP / "packaging/web.py", tmp_path / "page"], env={"PATH": str(tmp_path)}).returncode
+    # (rt lib proves in the checkout, over what is kept there; rt ci in a copy, from nothing)
+    assert (tmp_path / "asked").read_text().split() == ["lib"]
+
+
 def test_tests_say_that_they_need_the_kit(tmp_path: Path) -> None:
     done = run([TOP / "tests/run", "c"], env={"PATH": PATH, "TMPDIR": str(tmp_path)})
     assert done.returncode
