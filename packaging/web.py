@@ -1,21 +1,19 @@
 #!/usr/bin/env python3
-"""Makes the page that shows a field table, one file of everything: packaging/web.py [--built] [PATH]
+"""Makes the page that shows a field table, one file that holds everything: packaging/web.py [--built] [PATH]
 
-PATH (else `out/web/amqp.html`) has the scripts and the style of bindings/web, what amqp_values.h numbers and names, and the
-calls of the C API that don't allocate as two modules of WebAssembly, in base64. Rattle's compiler makes the first, with
-addresses of 64 bits, and is trusted as for other targets. Of it `wasm-opt --memory64-lowering` of Debian's binaryen makes the
-second, with 32 bits, for browsers without the other; that isn't proved, but tested. A policy in the page allows just these
-scripts and this style, by their SHA-256, and nothing of a network.
+PATH (else `out/web/amqp.html`) has the scripts and the style of bindings/web, the numbers and names of amqp_values.h, and
+the calls of the C API that don't allocate, as two WebAssembly modules in base64. Rattle's compiler makes the first, with
+64-bit addresses, and is trusted as for other targets. `wasm-opt --memory64-lowering` of Debian's binaryen makes the second
+of it, with 32-bit addresses, for browsers that lack the other. The second isn't proved, but tested. A policy in the page
+allows these scripts and this style, by their SHA-256, and no request.
 
-What reads: the page draws what amqpv_read, amqpv_next, amqpv_peek, amqpv_is_canonical and amqpv_write_json return, which are
-proved. The scripts aren't. They read only hexadecimal, set a cursor of amqpv_next to what a cut container has, and have
-amqpv_peek read a lone number. The module allocates nothing. If it ends, as by a stack that is too small, the page makes it
-anew and says so. tests/web drives the page in Chromium, with both modules: inputs of every kind, 2,000 random tables and every
-prefix of three captured ones give the same tree, failure, outcome, notes and JSON as amqp_show prints. It and the page share no
-code but the crates below.
+The page draws what amqpv_read, amqpv_next, amqpv_peek, amqpv_is_canonical and amqpv_write_json return. They are proved, and
+the scripts aren't. The scripts read only hexadecimal, set a cursor of amqpv_next to what a cut container has, and have
+amqpv_peek read a lone number. The module allocates nothing. If it ends, for example since a stack is too small, the page
+makes it anew and says so. tests/web drives the page in Chromium, with both modules.
 
-The crates are proved first, each once, and what `make` has proved isn't proved again. With --built, what `rt ci` has left here
-is taken.
+The crates are proved first, each once, and what `make` has proved isn't proved again. With --built, what `rt ci` has left
+here is taken.
 """
 
 import argparse

@@ -1,4 +1,4 @@
--- What reading from a `std::io::Read` results in.
+-- Definitions for reading values one after another from a `std::io::Read`.
 
 -- calls of a source, one after another
 pub mod Sources

@@ -136,7 +136,7 @@ abbrev pub IsTold : Input → Result Bool Fault → Type 0
 IsTold input (Ok b) = (read_error Reading input ≡ None) × IsEncodedSo b input
 IsTold input (Err f) = IsReadFault Reading input f
 
--- the result: 0 if it is so, 1 if not
+-- the result: 0 if it is canonical, 1 if not
 abbrev pub code_if_told : Result Bool Fault → ℤ
 code_if_told (Ok true) = pos 0
 code_if_told (Ok false) = pos 1

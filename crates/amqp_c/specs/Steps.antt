@@ -73,7 +73,7 @@ StepsIn s c (Some x) = IsCursorStep s c x.0 x.1
 abbrev pub IsCutEntry : List ℕ → Cursor → Type 0
 IsCutEntry s c = (c.tag ≡ array_tag → IsHeaded (part s c.left) → ⊥) × (c.tag ≡ table_tag → HasNoPair (part s c.left))
 
--- a fault is right: what was passed in isn't `valid`, or bytes are cut and it is so
+-- which faults are right: `Invalid` if `valid` doesn't hold, and `Cut` if `bad` does
 abbrev pub RefusedBy : Type 0 → Type 0 → Fault → Type 0
 RefusedBy valid bad Invalid = valid → ⊥
 RefusedBy valid bad Cut = bad

@@ -1,4 +1,8 @@
 -- The definitions by which contracts of this crate are stated.
+
+-- writing the canonical encoding
 pub mod CanonicalCalls
+-- from an encoding to JSON, and back
 pub mod JsonCalls
+-- what a client or a stream queue may not accept
 pub mod WarningCalls

@@ -79,7 +79,7 @@ none_rises (entry k v rs) left given = absurd given
 
 -- ---- values
 
--- what is so of the values that are left is so of all
+-- what holds of the values that are left holds of all
 abbrev pub ValuesGoOn : List ℕ → List ℕ → Type 0
 ValuesGoOn all left =
     (ValuesWritten AllAscend left → ValuesWritten AllAscend all)

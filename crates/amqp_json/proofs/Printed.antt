@@ -103,7 +103,7 @@ pub items_end : (a : List ℕ) (p : Place) (b : List ℕ) (q : Place) (c : List 
 items_end a p b q c r done target no_trees left step put puts e = subst (λ (ts : List Token). PutsTokens a p c r ts) e (tokens_more a b c p q r done (end_array ∷ []) put puts)
 items_end a p b q c r done target (tree v vs) left step put puts e = absurd step
 
--- ---- a table: S is so of the entries that are left, and R of those after the first
+-- ---- a table: S holds of the entries that are left, and R of those after the first
 
 pub pair_put : (S R : Entries → Type 0) (a : List ℕ) (p : Place) (b : List ℕ) (q : Place) (d : List ℕ) (m : Place) (c : List ℕ) (r : Place) (done target : List Token) (rest : Entries) (x : Bor (List ℕ) × ValueRef)
     → (S no_entries → ⊥) → ((k : List ℕ) (v : Tree) (es : Entries) → S (entry k v es) → (x.0.now ≡ k) × Denotes x.1 v × R es)

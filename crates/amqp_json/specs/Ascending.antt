@@ -23,7 +23,7 @@ abbrev mutual
   EntriesAscend no_entries = Unit {0}
   EntriesAscend (entry k v ps) = Ascends v × EntriesAscend ps
 
--- an encoding is at the start of s and `rest` after it; P is so of its value, as it is written
+-- an encoding is at the start of s and `rest` after it; P holds of its value, as it is written
 abbrev pub WrittenFirst : (Tree → Type 0) → List ℕ → List ℕ → Type 0
 WrittenFirst P s rest = (w : List ℕ) × (v : Tree) × (p : Wire w v) × (s ≡ w ++ rest) × P (written w v p)
 
@@ -36,7 +36,7 @@ OutOfOrder s rest = WrittenFirst (λ t. Ascends t → ⊥) s rest
 
 -- ---- for private clauses
 
--- P is so of the values in a body, and of the pairs in one, as they are written
+-- P holds of the values in a body, and of the pairs in one, as they are written
 abbrev pub ValuesWritten : (Trees → Type 0) → List ℕ → Type 0
 ValuesWritten P s = (vs : Trees) × (p : ArrayBody s vs) × P (values_written s vs p)
 

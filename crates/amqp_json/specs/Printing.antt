@@ -1,5 +1,5 @@
--- For private clauses of `src/printing`: `PutsBytes`, `PutsTokens` and `PutsJson`, text is put into
--- a buffer, and may be longer than that; and `Refer`, references to the entries of a table.
+-- For private clauses of `src/printing`: what is put into a buffer that may be too small
+-- (`PutsBytes`, `PutsTokens`, `PutsJson`), and references to a table's entries (`Refer`).
 use Rattle.std.specs.Prelude.{ℕ, ◌≡◌, ◌≤◌, List, ◌++◌, length, drop, ◌<◌, [], ◌∷◌}
 use Rattle.json.specs.Token.{Token}
 use Rattle.json.specs.Json.{Json}

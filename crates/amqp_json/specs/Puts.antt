@@ -19,14 +19,14 @@ abbrev pub IsKey : List ℕ → Key → Type 0
 IsKey k (Entry s) = (is_type_key k ≡ false) × (s.now ≡ entry_key k)
 IsKey k (Name s) = (is_type_key k ≡ true) × (s.now ≡ drop 1 k)
 
--- if no value has what was read, P is so; memory and size say nothing
+-- if no value has what was read, P holds; memory and size say nothing
 abbrev pub OnMismatch : JsonError → Type 0 → Type 0
 OnMismatch (Syntax at error) P = ⊥
 OnMismatch (TooDeep at) P = ⊥
 OnMismatch (NotAValue at mismatch) P = P
 OnMismatch e P = Unit {0}
 
--- an encoding of a value is put after the bytes that were there, and P is so of the value
+-- an encoding of a value is put after the bytes that were there, and P holds of the value
 abbrev pub PutsEncodingOf : (Tree → Type 0) → List ℕ → List ℕ → Type 0
 PutsEncodingOf P old new = (w : List ℕ) × (v : Tree) × (new ≡ old ++ w) × Wire w v × P v
 
@@ -77,7 +77,7 @@ abbrev pub next_token : Option (List ℕ) → Token
 next_token None = end_object
 next_token (Some k) = key k
 
--- P is so, at each depth, of what is read with a key before these tokens that is `$` and the name
+-- P holds, at each depth, of what is read with a key before these tokens that is `$` and the name
 abbrev pub IsNamed : List ℕ → List Token → (ℕ → (ℕ → Option (Members × List Token)) → Type 0) → Type 0
 IsNamed name ts P = (k : List ℕ) (depth : ℕ) → is_type_key k ≡ true → name ≡ drop 1 k → P depth (λ d. members_at d (key k ∷ ts))
 
