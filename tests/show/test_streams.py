@@ -5,8 +5,8 @@ import select
 import subprocess
 from pathlib import Path
 
-# Two values, and the first bytes of one that isn't complete; and the lines of the values.
-AWAITED, LINES = bytes.fromhex("56 7401 53000000 02"), b"null\ntrue\n"
+# What is written at once, and the lines of the values that are complete by then. Each ends inside a string of two bytes.
+PIECES = ((bytes.fromhex("56 7401 53000000 02"), b"null\ntrue\n"), (b"hi" + bytes.fromhex("53000000 02"), b'"hi"\n'))
 # How long a line may take on a busy machine.
 SECONDS = 60
 
@@ -17,10 +17,13 @@ def test_lines_before_more_comes(program: Path) -> None:
     pipe, nothing = subprocess.PIPE, subprocess.DEVNULL
     with subprocess.Popen(command, stdin=pipe, stdout=pipe, stderr=nothing) as process:
         assert process.stdin and process.stdout
-        process.stdin.write(AWAITED)
-        process.stdin.flush()
-        from_it, shown = process.stdout.fileno(), b""
-        while shown != LINES and select.select([from_it], [], [], SECONDS)[0] and (more := os.read(from_it, 99)):
-            shown += more
+        from_it = process.stdout.fileno()
+        for piece, lines in PIECES:
+            process.stdin.write(piece)
+            process.stdin.flush()
+            shown = b""
+            while shown != lines and select.select([from_it], [], [], SECONDS)[0] and (more := os.read(from_it, 99)):
+                shown += more
+            assert shown == lines
         process.stdin.close()
-        assert (shown, process.stdout.read()) == (LINES, b"")
+        assert process.stdout.read() == b""
