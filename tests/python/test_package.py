@@ -6,6 +6,7 @@ import doctest
 import inspect
 import pickle
 import re
+import sys
 from collections import ChainMap, OrderedDict, deque
 from collections.abc import Callable, Iterator
 from datetime import datetime, timedelta, timezone
@@ -319,6 +320,16 @@ def test_paths() -> None:
         assert error_of(lambda: own.find(data, "no", other)) is TypeError
     assert own_error(lambda: own.find(data, "\ud800")) == ("lone surrogate", 0, 0)
     assert own_error(lambda: own.find(data + b"V", "a")) == ("trailing bytes", len(data), 0)
+
+
+def test_a_default_keeps_its_references() -> None:
+    default = object()
+    # (more references than are lost here, so that they are counted before the object is freed)
+    kept, data = [default] * 9, own.dumps({"a": 1})
+    before = sys.getrefcount(default)
+    assert own.find(data, "x", default=default) is default
+    assert own.find(data, "a", 0, default=default) is default
+    assert sys.getrefcount(default) == before and len(kept) == 9
 
 
 def test_plain_types() -> None:
