@@ -152,13 +152,17 @@ static void list(void) {
     size_t length, places, count = 77;
     uint8_t *given = bytes(&length, 0);
     amqpv_input in = amqpv_value(given, length);
-    amqpv_entry outer, found;
+    amqpv_entry outer, found, behind;
     in.flags = (uint32_t)number();
     places = number();
-    amqpv_entry *entries = (amqpv_entry *)malloc(places * sizeof *entries);
+    /* the library writes the entries, which the sanitizer doesn't see: what is behind the last place is compared */
+    amqpv_entry *entries = (amqpv_entry *)malloc((places + 1) * sizeof *entries);
+    memset(&behind, 90, sizeof behind);
+    memcpy(&entries[places], &behind, sizeof behind);
     amqpv_result result = amqpv_peek(&in, &outer);
     result = result == AMQPV_OK ? amqpv_entries(&in, &outer, entries, places, &count) : result;
-    printf("%d %zu", result, count);
+    printf("%d %zu%s", result, count,
+           memcmp(&entries[places], &behind, sizeof behind) ? " and behind the last place" : "");
     for (size_t i = 0; (result == AMQPV_OK || result == AMQPV_NO_ROOM) && i < places && i < count; i++) {
         amqpv_result of_key = amqpv_get(&in, &outer, amqpv_key(&in, &entries[i]), entries[i].key.length, &found);
         printf(" %zu:%d:%zu", entries[i].value.offset, of_key, of_key == AMQPV_OK ? found.value.offset : 0);
