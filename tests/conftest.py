@@ -1,4 +1,4 @@
-"""Options and fixtures of all suites: --write, --seed, `program` (amqp_show), `library` (the C API) and others.
+"""Options and fixtures of all suites: --write, --seed, `program` (amqp_show) and others.
 
 The last line that a run prints is 'N passed, M failed'. A test that is skipped has shown nothing: it counts as failed, unless
 WITHOUT names what it needs.
@@ -12,12 +12,10 @@ from pathlib import Path
 from typing import Any, TypeVar
 
 import pytest
-from building import shared_object
-from dependencies import TOP, Crates
+from dependencies import TOP
 from hypothesis import settings
 from processes import end_descendants, end_on_signals
 
-from tests import c_api
 
 # What WITHOUT names, and lines that are printed at the end.
 WITHOUT = os.environ.get("WITHOUT", "").split()
@@ -140,14 +138,3 @@ def program(request: pytest.FixtureRequest) -> Path:
     path = Path(request.config.getoption("--program") or TOP / "crates/amqp_show/out/amqp_show").resolve()
     assert path.is_file(), "amqp_show isn't built: rt run in crates/amqp_show builds it"
     return path
-
-
-@pytest.fixture(scope="session")
-def library(request: pytest.FixtureRequest, tmp_path_factory: pytest.TempPathFactory) -> str:
-    """The path of the shared object of the C API, which c_api.py has loaded."""
-    path = request.config.getoption("--library")
-    if not path:
-        path, wrong = shared_object(Crates(), tmp_path_factory.mktemp("library"), request.config.getoption("--built"))
-        assert not wrong, wrong
-    c_api.load(str(path))
-    return str(path)

@@ -1,4 +1,7 @@
-"""Fixtures of tests/c: the built `libraries`, the `prefix` that they are installed in, and a `folder` to work in."""
+"""Fixtures of tests/c: the `library` that c_api.py calls, the built `libraries`, the `prefix` that they are installed in.
+
+`folder` is one to work in.
+"""
 
 import shutil
 import tempfile
@@ -8,9 +11,10 @@ from functools import partial
 from pathlib import Path
 
 import pytest
-from building import AARCH64, C_API, build_archive
-from dependencies import TOP
+from building import AARCH64, C_API, build_archive, shared_object
+from dependencies import TOP, Crates
 
+from tests.c import c_api
 from tests.c.compiling import C, CRATES, assert_well, run
 
 SANITIZERS = ["-fsanitize=address,undefined", "-fno-sanitize-recover=all"]
@@ -82,3 +86,14 @@ def made_for_aarch64(libraries: None, folder: Path) -> Path:
     for it in C_API:
         assert_well(build_archive(CRATES, it, True, AARCH64))
     return installed(folder / "aarch64", "--toolchain", str(TOP / "packaging/aarch64.cmake"))
+
+
+@pytest.fixture(scope="session")
+def library(request: pytest.FixtureRequest, tmp_path_factory: pytest.TempPathFactory) -> str:
+    """The path of the shared object of the C API, which c_api.py has loaded."""
+    path = request.config.getoption("--library")
+    if not path:
+        path, wrong = shared_object(Crates(), tmp_path_factory.mktemp("library"), request.config.getoption("--built"))
+        assert not wrong, wrong
+    c_api.load(str(path))
+    return str(path)

@@ -1,4 +1,4 @@
-"""All functions of the C API, by tests/c_api.py, against the reference implementation (tests/model).
+"""All functions of the C API, by tests/c/c_api.py, against the reference implementation (tests/model).
 
 They are called on random bytes, structs, texts and orders of calls, and on what is at the limits.
 """
@@ -11,8 +11,8 @@ from typing import Any
 
 import pytest
 
-from tests import c_api as calls
-from tests.c_api import ANY_KEYS, FIRST_KEY, INVALID, NONE, NOWHERE, OK, RABBITMQ, STREAMS, UNTAGGED
+from tests.c import c_api
+from tests.c.c_api import ANY_KEYS, FIRST_KEY, INVALID, NONE, NOWHERE, OK, RABBITMQ, STREAMS, UNTAGGED
 from tests.model.json_format import LEVELS, Rejected, json_of, some_value, text_for, texts, value_of_json
 from tests.model.encoding import COUNTED, SIGNED, TYPES, extent, field, is_utf8, lack, read, write
 from tests.model.inputs import inputs, nested, untagged, value_of
@@ -22,7 +22,7 @@ from tests.model.tables import first_problem, odd_table, parts, random_table, ra
 
 pytestmark = pytest.mark.usefixtures("library")
 # The result of a problem, by its kind in the model; what is cut at the start is AMQPV_MORE.
-RESULTS = {kind: result for result, kind in calls.KINDS.items() if result != calls.MORE}
+RESULTS = {kind: result for result, kind in c_api.KINDS.items() if result != c_api.MORE}
 Span = tuple[int, int]
 
 
@@ -57,13 +57,13 @@ def wanted_problem(data: bytes, flags: int, max_bytes: int, max_depth: int) -> t
     whole = b"F" * left_out + data
     if chr(whole[0]) in TYPES if whole else False:
         if extent(whole) > max_bytes:
-            return calls.TOO_LARGE, (0, 0, 0)
+            return c_api.TOO_LARGE, (0, 0, 0)
     problem = first_problem(whole, rules_of(flags), max_depth)
     if problem is None:
         return OK, None
     at, kind, tag = problem
     if at == 0 and kind == 3:
-        return calls.MORE, (0, lack(whole), 0)
+        return c_api.MORE, (0, lack(whole), 0)
     return RESULTS[kind], (max(0, at - left_out), 0, tag)
 
 
@@ -75,15 +75,15 @@ def sizes(data: bytes) -> tuple[int, int]:
     return 1 + sum(it for it, _ in inside), 1 + max((it for _, it in inside), default=0)
 
 
-def assert_read(data: bytes, flags: int = 0, max_bytes: int = calls.MAX_BYTES, max_depth: int = calls.MAX_DEPTH) -> int:
+def assert_read(data: bytes, flags: int = 0, max_bytes: int = c_api.MAX_BYTES, max_depth: int = c_api.MAX_DEPTH) -> int:
     """A value is read, measured, and found canonical or not, as the model has it."""
     limits, left_out = (flags, max_bytes, max_depth), flags & UNTAGGED
     result, problem = wanted_problem(data, *limits)
-    found, entry, why = calls.read(data, *limits)
+    found, entry, why = c_api.read(data, *limits)
     wanted = entry_of(data, -left_out) if result == OK else None
     assert (found, plain(entry), why) == (result, wanted, problem), (data.hex(), limits)
     assert_peeked(data, flags)
-    measured, is_canonical = calls.measure(data, *limits), calls.is_canonical(data, *limits)
+    measured, is_canonical = c_api.measure(data, *limits), c_api.is_canonical(data, *limits)
     by_reading, where = wanted_problem(data, flags & ~(ANY_KEYS | RABBITMQ), max_bytes, max_depth)
     if by_reading != OK:
         assert (measured, is_canonical) == ((by_reading, None, where), by_reading)
@@ -100,10 +100,10 @@ def assert_peeked(data: bytes, flags: int) -> None:
     left_out = flags & UNTAGGED
     whole, wanted = b"F" * left_out + data, None
     if whole and chr(whole[0]) not in TYPES:
-        result = calls.UNKNOWN_TAG
+        result = c_api.UNKNOWN_TAG
     else:
-        result, wanted = (calls.MORE, None) if lack(whole) else (OK, entry_of(data, -left_out))
-    found, entry = calls.peek(data, flags, 0, 0)
+        result, wanted = (c_api.MORE, None) if lack(whole) else (OK, entry_of(data, -left_out))
+    found, entry = c_api.peek(data, flags, 0, 0)
     assert (found, plain(entry)) == (result, wanted), (data.hex(), flags)
 
 
@@ -115,7 +115,7 @@ def test_inputs_of_every_kind(seed: int) -> None:
         others = make.choice([0, 0, ANY_KEYS, RABBITMQ, ANY_KEYS | RABBITMQ, FIRST_KEY, STREAMS])
         results[assert_read(data, flags | others)] += 1
         assert_written(data, flags, others=others)
-    assert results[OK] > 3000 and results[calls.MORE] and results[calls.TOO_LARGE]
+    assert results[OK] > 3000 and results[c_api.MORE] and results[c_api.TOO_LARGE]
 
 
 @pytest.mark.parametrize("flags", (0, ANY_KEYS, RABBITMQ, ANY_KEYS | RABBITMQ))
@@ -128,8 +128,8 @@ def test_problems(flags: int, seed: int) -> None:
         cut = data[: make.randrange(len(data))]
         assert_read(cut, flags, max_depth=2)
         assert_read(cut[1:], flags | UNTAGGED, make.choice([5, 20, 2**32 - 1]), make.choice([0, 1, 2, 2**32 - 1]))
-    only = {calls.NOT_FINITE} if flags & RABBITMQ else set() if flags else {calls.KEY_NOT_UTF8}
-    assert results == {OK, calls.UNKNOWN_TAG, calls.CUT, calls.KEY_CUT, calls.TOO_DEEP} | only
+    only = {c_api.NOT_FINITE} if flags & RABBITMQ else set() if flags else {c_api.KEY_NOT_UTF8}
+    assert results == {OK, c_api.UNKNOWN_TAG, c_api.CUT, c_api.KEY_CUT, c_api.TOO_DEEP} | only
 
 
 @pytest.mark.parametrize(
@@ -149,20 +149,20 @@ UNKNOWN = [1 << it for it in range(5, 32)]
 @pytest.mark.parametrize("data", (b"", b"V", b"z", b"F\0\0\0\0"))
 def test_flags(data: bytes) -> None:
     """A flag that isn't known comes before all else."""
-    entry = calls.Entry()
+    entry = c_api.Entry()
     for flags in [*UNKNOWN, *(it | 31 for it in UNKNOWN)]:
-        assert calls.read(data, flags) == (INVALID, None, None)
-        assert calls.peek(data, flags) == (INVALID, None)
-        assert calls.find(data, entry, [], flags) == (INVALID, None)
-        into = calls.Container()
-        assert calls.Buffer(0).put_value(into, b"x" * 300, data, flags) == INVALID
-        assert calls.measure(data, flags) == (INVALID, None, None)
-        assert calls.is_canonical(data, flags) == INVALID
-        assert calls.warn(data, flags, 9, 0, 9) == (INVALID, None)
-        for call in (calls.canonical, calls.to_json, calls.write_json):
+        assert c_api.read(data, flags) == (INVALID, None, None)
+        assert c_api.peek(data, flags) == (INVALID, None)
+        assert c_api.find(data, entry, [], flags) == (INVALID, None)
+        into = c_api.Container()
+        assert c_api.Buffer(0).put_value(into, b"x" * 300, data, flags) == INVALID
+        assert c_api.measure(data, flags) == (INVALID, None, None)
+        assert c_api.is_canonical(data, flags) == INVALID
+        assert c_api.warn(data, flags, 9, 0, 9) == (INVALID, None)
+        for call in (c_api.canonical, c_api.to_json, c_api.write_json):
             assert call(data, flags) == (INVALID, 0)
-        cursor = calls.Cursor((0, 0), ord("A"))
-        assert calls.step(data, cursor, flags)[0] == NONE
+        cursor = c_api.Cursor((0, 0), ord("A"))
+        assert c_api.step(data, cursor, flags)[0] == NONE
 
 
 # Steps and look-ups
@@ -185,7 +185,7 @@ def stepped(data: bytes, left: Span, tag: int) -> tuple[int, Any, Any]:
         at += 1 + data[at]
     head = data[at:end][:5]
     if at >= end or chr(head[0]) not in TYPES or len(head) < 5 and head[0] in b"SxAF" or at + extent(head) > end:
-        return calls.CUT, None, left
+        return c_api.CUT, None, left
     entry = entry_of(data, at, key)
     at += extent(head)
     return OK, entry, (at, end - at)
@@ -216,7 +216,7 @@ def looked_up(data: bytes, entry: Any, path: list[Any], first: bool) -> tuple[in
 
 def as_struct(entry: Any) -> Any:
     key, value, content, bits, tag, scale = entry
-    return calls.Entry(key, value, content, bits, tag, scale)
+    return c_api.Entry(key, value, content, bits, tag, scale)
 
 
 def some_span(make: Random, length: int) -> Span:
@@ -235,8 +235,8 @@ def assert_steps(data: bytes, left: Span, tag: int, flags: int) -> tuple[int, li
     """A cursor steps as the model does: the last result, and the entries before it."""
     found: list[Any] = []
     while True:
-        cursor, wanted = calls.Cursor(left, tag), stepped(data, left, tag)
-        result, it, rest = calls.step(data, cursor, flags)
+        cursor, wanted = c_api.Cursor(left, tag), stepped(data, left, tag)
+        result, it, rest = c_api.step(data, cursor, flags)
         assert (result, plain(it), rest) == (*wanted[:2], (wanted[2], tag)), (data.hex(), left, tag)
         if result != OK:
             return result, found
@@ -250,7 +250,7 @@ def test_steps_and_look_ups(seed: int) -> None:
     for _ in range(30_000):
         data, entry = some_bytes(make), None
         if make.random() < 0.7:
-            entry = calls.peek(data)[1]
+            entry = c_api.peek(data)[1]
         if entry is None:
             entry = *(some_span(make, len(data)) for _ in range(3)), make.getrandbits(64), make.choice(b"AFFFSx\0"), 0
         corrupted = some_span(make, len(data)), make.choice(b"AAFFFS")
@@ -260,11 +260,11 @@ def test_steps_and_look_ups(seed: int) -> None:
         keys = [b"", b"a", 0, 1, NOWHERE, "S", *(data[it[0][0] : sum(it[0])] for it in found), *range(len(found))]
         for _ in range(6):
             path, first = [make.choice(keys) for _ in range(make.randrange(4))], make.randrange(2)
-            result, it = calls.find(data, as_struct(entry), path, first * FIRST_KEY | make.choice([0, 2, 4]))
+            result, it = c_api.find(data, as_struct(entry), path, first * FIRST_KEY | make.choice([0, 2, 4]))
             wanted, to = looked_up(data, entry, path, first == 1)
             assert (result, plain(it)) == (wanted, plain(to)), (data.hex(), entry, path)
             finding.add(result)
-    assert stepping == {NONE, calls.CUT, INVALID} and finding == {OK, NONE, calls.CUT, INVALID}
+    assert stepping == {NONE, c_api.CUT, INVALID} and finding == {OK, NONE, c_api.CUT, INVALID}
 
 
 NUMBERS = [0, 1, 2, *(2**bits + it for bits in (7, 8, 15, 16, 31, 32, 63) for it in (-1, 0, 1)), 2**64 - 1]
@@ -275,11 +275,11 @@ def test_numbers() -> None:
     for tag in map(chr, range(256)):
         for bits in NUMBERS:
             signed, is_large = tag in "bsIl", bits >= 2**63
-            no_number = calls.OUT_OF_RANGE if tag in "bsIlBui" else calls.BAD_TAG
+            no_number = c_api.OUT_OF_RANGE if tag in "bsIlBui" else c_api.BAD_TAG
             result = OK if tag in "bsIlBui" and (signed or not is_large) else no_number
-            assert calls.as_number("as_int", tag, bits) == (result, bits - 2**64 * is_large if result == OK else None)
+            assert c_api.as_number("as_int", tag, bits) == (result, bits - 2**64 * is_large if result == OK else None)
             result = OK if tag in "bsIlBui" and not (signed and is_large) else no_number
-            assert calls.as_number("as_uint", tag, bits) == (result, bits if result == OK else None)
+            assert c_api.as_number("as_uint", tag, bits) == (result, bits if result == OK else None)
 
 
 # Building
@@ -291,7 +291,7 @@ class Written:
     def __init__(self, offset: int = 0, length: int = 0, tag: str = "A", any_keys: int = 0, inner: int = 0) -> None:
         self.offset, self.length, self.tag = offset, length, tag
         self.inner, self.any_keys, self.needed = inner, any_keys, 77
-        self.struct: Any = calls.Container((offset, length), ord(tag), inner, any_keys, 77)
+        self.struct: Any = c_api.Container((offset, length), ord(tag), inner, any_keys, 77)
 
     @property
     def end(self) -> int:
@@ -319,7 +319,7 @@ class Builder:
     """A buffer that is written to by calls, and by the model."""
 
     def __init__(self, capacity: int) -> None:
-        self.buffer, self.bytes, self.results = calls.Buffer(capacity), bytearray(b"\x33" * capacity), Counter[int]()
+        self.buffer, self.bytes, self.results = c_api.Buffer(capacity), bytearray(b"\x33" * capacity), Counter[int]()
 
     def append(self, into: Written, key: bytes, it: bytes, wrong: int) -> int:
         """What the model appends, and its result."""
@@ -327,12 +327,12 @@ class Builder:
         if not is_inside((into.offset, into.length), len(self.bytes)) or into.tag not in "AF" or into.inner:
             return INVALID
         if key if into.tag == "A" else len(key) > 255 or not into.any_keys and not is_utf8(key):
-            return calls.BAD_KEY
+            return c_api.BAD_KEY
         if wrong:
             return wrong
         if into.end + len(named + it) > len(self.bytes):
             into.needed = into.end + len(named + it)
-            return calls.NO_ROOM
+            return c_api.NO_ROOM
         self.bytes[into.end : into.end + len(named + it)] = named + it
         into.length += len(named + it)
         return OK
@@ -348,11 +348,11 @@ class Builder:
     def put(self, into: Written, key: bytes, tag: str, bits: int, scale: int = 0) -> int:
         is_fixed = tag in TYPES and tag not in COUNTED and tag not in "UL"
         it = encoding(tag, bits, scale) if is_fixed else None
-        wanted = self.append(into, key, it or b"", 0 if it else calls.OUT_OF_RANGE if is_fixed else calls.BAD_TAG)
+        wanted = self.append(into, key, it or b"", 0 if it else c_api.OUT_OF_RANGE if is_fixed else c_api.BAD_TAG)
         return self.check(self.buffer.put(into.struct, key, tag, bits, scale), wanted, into)
 
     def put_bytes(self, into: Written, key: bytes, tag: str, data: bytes) -> int:
-        wanted = self.append(into, key, field(tag.encode("latin-1"), data), 0 if tag in "Sx" else calls.BAD_TAG)
+        wanted = self.append(into, key, field(tag.encode("latin-1"), data), 0 if tag in "Sx" else c_api.BAD_TAG)
         return self.check(self.buffer.put_bytes(into.struct, key, tag, data), wanted, into)
 
     def put_value(self, into: Written, key: bytes, data: bytes, flags: int, max_depth: int = 9) -> int:
@@ -363,7 +363,7 @@ class Builder:
 
     def open(self, into: Written, key: bytes, tag: str) -> tuple[int, Written]:
         body, before = Written(7, 7, "x"), into.length
-        wanted = self.append(into, key, tag.encode("latin-1") + b"\0" * 4, 0 if tag in "AF" else calls.BAD_TAG)
+        wanted = self.append(into, key, tag.encode("latin-1") + b"\0" * 4, 0 if tag in "AF" else c_api.BAD_TAG)
         found = self.buffer.open(into.struct, key, tag, body.struct)
         if wanted == OK:
             body.offset, body.length, body.tag, body.any_keys, into.inner = into.end, 0, tag, into.any_keys, 1
@@ -426,8 +426,8 @@ def test_building(seed: int) -> None:
                 other.struct.inner = other.inner = make.choice([into.inner, 0, 1, 2, 255])
                 open_[open_.index(into)] = other
         results += builder.results
-    wanted = {OK, INVALID, calls.BAD_KEY, calls.BAD_TAG, calls.OUT_OF_RANGE, calls.NO_ROOM, calls.MORE, calls.CUT}
-    wanted |= {calls.UNKNOWN_TAG, calls.TOO_DEEP, calls.TOO_LARGE, calls.KEY_NOT_UTF8, calls.NOT_FINITE}
+    wanted = {OK, INVALID, c_api.BAD_KEY, c_api.BAD_TAG, c_api.OUT_OF_RANGE, c_api.NO_ROOM, c_api.MORE, c_api.CUT}
+    wanted |= {c_api.UNKNOWN_TAG, c_api.TOO_DEEP, c_api.TOO_LARGE, c_api.KEY_NOT_UTF8, c_api.NOT_FINITE}
     assert {*results} == wanted
 
 
@@ -445,11 +445,11 @@ def test_larger_buffer(seed: int) -> None:
     for _ in range(500):
         key, value = make.choice([it for it in KEYS[:4] if it]), value_of(make, 2)
         at = make.randrange(20)
-        into = calls.Container((0, at), ord("F"), 0, 0, 0)
-        assert calls.Buffer(at).put_value(into, key, value) == calls.NO_ROOM
+        into = c_api.Container((0, at), ord("F"), 0, 0, 0)
+        assert c_api.Buffer(at).put_value(into, key, value) == c_api.NO_ROOM
         assert into.needed == at + 1 + len(key) + len(value)
-        for size, result in ((into.needed - 1, calls.NO_ROOM), (into.needed, OK)):
-            assert calls.Buffer(size).put_value(calls.Container((0, at), ord("F"), 0, 0, 0), key, value) == result
+        for size, result in ((into.needed - 1, c_api.NO_ROOM), (into.needed, OK)):
+            assert c_api.Buffer(size).put_value(c_api.Container((0, at), ord("F"), 0, 0, 0), key, value) == result
 
 
 # The canonical encoding and JSON
@@ -457,20 +457,20 @@ def test_larger_buffer(seed: int) -> None:
 
 def assert_written(data: bytes, left_out: int, others: int = 0) -> None:
     """The canonical encoding and the JSON of a value, which means it, whatever other flags there are."""
-    flags, limits = left_out, (left_out | others, calls.MAX_BYTES, calls.MAX_DEPTH)
+    flags, limits = left_out, (left_out | others, c_api.MAX_BYTES, c_api.MAX_DEPTH)
     result, _ = wanted_problem(data, left_out, *limits[1:])
     if result != OK:
-        for call in (calls.canonical, calls.to_json, calls.write_json):
+        for call in (c_api.canonical, c_api.to_json, c_api.write_json):
             assert call(data, *limits) == (result, 0), data.hex()
         return
     value = read(b"F" * flags + data)[0]
     wanted, text = write(value), json_of(value).encode()
-    assert calls.canonical(data, *limits) == (OK, wanted[flags:]), data.hex()
-    assert calls.to_json(data, *limits) == (OK, text)
-    assert calls.write_json(wanted[flags:], *limits) == (OK, text)
-    assert calls.write_json(data, *limits) == ((OK, text) if ascends(b"F" * flags + data) else (calls.UNORDERED, 0))
+    assert c_api.canonical(data, *limits) == (OK, wanted[flags:]), data.hex()
+    assert c_api.to_json(data, *limits) == (OK, text)
+    assert c_api.write_json(wanted[flags:], *limits) == (OK, text)
+    assert c_api.write_json(data, *limits) == ((OK, text) if ascends(b"F" * flags + data) else (c_api.UNORDERED, 0))
     if text.count(b"[") + text.count(b"{") <= LEVELS:
-        assert calls.from_json(text) == (OK, wanted, None)
+        assert c_api.from_json(text) == (OK, wanted, None)
 
 
 def ascends(data: bytes) -> bool:
@@ -502,9 +502,9 @@ def meant(text: bytes, nesting: int) -> tuple[int, bytes | int, Any]:
         text.decode()
         return OK, write(value_of_json(text, min(nesting, LEVELS))), None
     except UnicodeDecodeError as why:
-        return calls.NOT_UTF8, 0, (why.start, 0, 0)
+        return c_api.NOT_UTF8, 0, (why.start, 0, 0)
     except Rejected as why:
-        wrong = {"": calls.NOT_JSON, "TooDeep": calls.TOO_DEEP}.get(why.mismatch, calls.NOT_A_VALUE)
+        wrong = {"": c_api.NOT_JSON, "TooDeep": c_api.TOO_DEEP}.get(why.mismatch, c_api.NOT_A_VALUE)
         return wrong, 0, (why.at, 0, 0)
 
 
@@ -515,7 +515,7 @@ def test_texts_that_may_mean_none(seed: int) -> None:
             at = make.randrange(len(text) + 1)
             text = text[:at] + make.choice([b"\x80", b"\xff", b"\xc3", b"\xed\xa0\x80"]) + text[at + 1 :]
         nesting = make.choice([*range(8), LEVELS, LEVELS + 1, 2**32 - 1])
-        found = calls.from_json(text, nesting)
+        found = c_api.from_json(text, nesting)
         assert found == meant(text, nesting), (text, nesting)
         results[found[0]] += 1
     assert len(results) == 5 and min(results.values()) > 25, results
@@ -527,16 +527,16 @@ def test_deep_texts(depth: int, nesting: int) -> None:
     """Brackets nest at most LEVELS deep, whatever the limit is; values may be deeper."""
     for form in ("A", "F", "AF"):
         data = nested(form, depth, b"V")
-        result, text = calls.to_json(data, 0, calls.MAX_BYTES, depth)
-        assert result == OK and isinstance(text, bytes) and calls.from_json(text, nesting) == meant(text, nesting)
-        assert calls.from_json(text[:-1], nesting) == meant(text[:-1], nesting)
+        result, text = c_api.to_json(data, 0, c_api.MAX_BYTES, depth)
+        assert result == OK and isinstance(text, bytes) and c_api.from_json(text, nesting) == meant(text, nesting)
+        assert c_api.from_json(text[:-1], nesting) == meant(text[:-1], nesting)
 
 
 def test_texts_with_other_spellings(seed: int) -> None:
     make = Random(seed)
     for _ in range(5000):
         value = read(value_of(make, 4))[0]
-        assert calls.from_json(text_for(make, value).encode()) == (OK, write(value), None)
+        assert c_api.from_json(text_for(make, value).encode()) == (OK, write(value), None)
 
 
 # Warnings
@@ -559,12 +559,12 @@ def test_warnings(seed: int) -> None:
             for left_out in (0, 1):
                 flags = left_out | make.choice([0, FIRST_KEY, ANY_KEYS, RABBITMQ]) | make.choice([0, STREAMS])
                 frame_max = make.choice([64, 64, 0])
-                result, found = calls.warn(data[left_out:], flags, 4, frame_max, levels)
+                result, found = c_api.warn(data[left_out:], flags, 4, frame_max, levels)
                 wanted = warnings_of(data, levels, frame_max, flags)
                 assert (result, found) == (OK, wanted), data.hex()
                 seen |= {name for name, it in wanted.items() if it is not None and it is not False}
                 seen |= set() if wanted["count"] else {""}
-    assert seen == {*calls.OFFSETS, "exceeds_frame", "count", ""}
+    assert seen == {*c_api.OFFSETS, "exceeds_frame", "count", ""}
 
 
 def test_much_memory() -> None:
@@ -574,15 +574,15 @@ def test_much_memory() -> None:
     text = "{" + "".join(f'"{it}":null,' for it in keys) + '"s":"' + "a" * 2**20 + '"}'
     wanted, in_order = write(read(data)[0]), json_of(read(data)[0]).encode()
     limits = 0, 2**32 - 1, 1
-    assert calls.canonical(data, *limits) == (OK, wanted)
-    assert calls.to_json(data, *limits) == (OK, in_order)
-    assert calls.write_json(wanted, *limits) == (OK, in_order)
-    assert calls.from_json(text.encode()) == (OK, wanted, None)
-    result, found = calls.warn(data, 0, 1, 0, 1)
+    assert c_api.canonical(data, *limits) == (OK, wanted)
+    assert c_api.to_json(data, *limits) == (OK, in_order)
+    assert c_api.write_json(wanted, *limits) == (OK, in_order)
+    assert c_api.from_json(text.encode()) == (OK, wanted, None)
+    result, found = c_api.warn(data, 0, 1, 0, 1)
     assert result == OK and found and found["count"] == 0
 
 
 def test_version() -> None:
     stated = re.search(r"(?m)^#define AMQPV_VERSION_NUMBER (\d+)", HEADER.read_text())
-    assert stated and calls.version() == int(stated[1])
+    assert stated and c_api.version() == int(stated[1])
     assert c_size_t(-1).value == NOWHERE

@@ -5,10 +5,10 @@ from random import Random
 
 import pytest
 
-from tests import c_api as calls
+from tests.c import c_api
 from tests.c.compiling import HERE, compiled, printed
 from tests.c.test_by_model import KEYS, NUMBERS, VALUES, encoding, is_inside, looked_up, stepped, wanted_problem
-from tests.c_api import INVALID, MAX_BYTES, MAX_DEPTH, OK
+from tests.c.c_api import INVALID, MAX_BYTES, MAX_DEPTH, OK
 from tests.model.encoding import TYPES, extent, field, is_utf8, lack
 from tests.model.inputs import value_of
 from tests.model.tables import odd_table
@@ -52,9 +52,9 @@ class Writer:
         named = bytes([len(name) % 256]) + name if in_table else b""
         is_key = len(name) < 256 and (self.any_keys or is_utf8(name)) if in_table else not name
         if self.result == OK and in_table and key is None:
-            self.result = calls.BAD_KEY
+            self.result = c_api.BAD_KEY
         if self.result == OK and (wrong or not is_key):
-            self.result = wrong if is_key or wrong == INVALID else calls.BAD_KEY
+            self.result = wrong if is_key or wrong == INVALID else c_api.BAD_KEY
         self.bytes += named + it if self.result == OK else b""
         return self.result == OK
 
@@ -65,7 +65,7 @@ class Writer:
         if not is_inside(key, len(data)) or not is_inside(value, len(data)):
             self.result = INVALID
         elif (key[0] > 0) != (self.open[-1][0] == "F"):
-            self.result = calls.BAD_KEY
+            self.result = c_api.BAD_KEY
         else:
             it, before = data[value[0] : sum(value)], self.any_keys
             by_reading = wanted_problem(it, flags & ~1 | is_untagged, MAX_BYTES, MAX_DEPTH)[0]
@@ -76,7 +76,7 @@ class Writer:
 
     def begin(self, key: bytes | None, tag: str) -> None:
         if self.result == OK and len(self.open) == MAX_DEPTH:
-            self.result = calls.TOO_DEEP
+            self.result = c_api.TOO_DEEP
         if self.append(key, tag.encode() + b"\0" * 4):
             self.open.append((tag, len(self.bytes)))
 
@@ -95,7 +95,7 @@ class Writer:
         if self.result != OK:
             return f"{self.result} 0 0 "
         if len(self.bytes) > self.capacity:
-            return f"{calls.NO_ROOM} {len(self.bytes)} {len(self.bytes)} "
+            return f"{c_api.NO_ROOM} {len(self.bytes)} {len(self.bytes)} "
         self.close(4)
         return f"0 {len(self.bytes)} 0 {self.bytes.hex()}"
 
@@ -114,7 +114,7 @@ def some_entry(make: Random, writer: Writer) -> str:
         result, found, left = stepped(data, (5, len(data) - 5), data[0])
         while result == OK:
             key, value = found[:2]
-            result, found, left = stepped(data, left, data[0]) if make.random() < 0.5 else (calls.NONE, None, left)
+            result, found, left = stepped(data, left, data[0]) if make.random() < 0.5 else (c_api.NONE, None, left)
     elif data[:1] == b"F" and make.random() < 0.5:
         data, value, step = data[1:], (0, len(data) - 1), 4
     if make.random() < 0.1:
@@ -140,7 +140,7 @@ def some_line(make: Random, writer: Writer) -> str:
     if what in ("int", "uint"):
         tag = make.choice("bsIlbsIlB" if what == "int" else "BuiBuil")
         is_type, it = tag in ("bsIl" if what == "int" else "Bui"), encoding(tag, bits, 0)
-        writer.append(key, it or b"", calls.BAD_TAG if not is_type else OK if it else calls.OUT_OF_RANGE)
+        writer.append(key, it or b"", c_api.BAD_TAG if not is_type else OK if it else c_api.OUT_OF_RANGE)
         return f"{line} {ord(tag)} {bits}"
     if what in ("array", "table"):
         writer.begin(key, ADDED[what])
@@ -181,11 +181,11 @@ def test_writer(inline: Program, seed: int) -> None:
             lines += [some_line(make, writer), "finish"]
             wanted.append(writer.finish())
     assert lines_of(inline, lines) == wanted
-    assert {OK, INVALID, calls.BAD_KEY, calls.BAD_TAG, calls.OUT_OF_RANGE, calls.NO_ROOM, calls.KEY_NOT_UTF8} <= results
+    assert {OK, INVALID, c_api.BAD_KEY, c_api.BAD_TAG, c_api.OUT_OF_RANGE, c_api.NO_ROOM, c_api.KEY_NOT_UTF8} <= results
 
 
 def test_levels_of_writer(inline: Program) -> None:
-    for levels, result in ((MAX_DEPTH - 1, OK), (MAX_DEPTH, calls.TOO_DEEP)):
+    for levels, result in ((MAX_DEPTH - 1, OK), (MAX_DEPTH, c_api.TOO_DEEP)):
         lines = ["begin 400 0", *["table .6b"] * levels, *["end"] * levels, "finish"]
         assert lines_of(inline, lines)[0].split()[0] == str(result)
 
@@ -193,11 +193,11 @@ def test_levels_of_writer(inline: Program) -> None:
 def converted(tag: str, bits: int, scale: int) -> str:
     """What is printed of an entry's conversions."""
     is_small, narrow = bits < 2**32, OK
-    truth = (OK, bits) if tag == "t" and bits < 2 else (calls.OUT_OF_RANGE if tag == "t" else calls.BAD_TAG, 77)
-    seconds = (OK, bits) if tag == "T" else (calls.BAD_TAG, 77)
-    result = (OK if is_small else calls.OUT_OF_RANGE) if tag == "D" else calls.BAD_TAG
+    truth = (OK, bits) if tag == "t" and bits < 2 else (c_api.OUT_OF_RANGE if tag == "t" else c_api.BAD_TAG, 77)
+    seconds = (OK, bits) if tag == "T" else (c_api.BAD_TAG, 77)
+    result = (OK if is_small else c_api.OUT_OF_RANGE) if tag == "D" else c_api.BAD_TAG
     decimal = (result, bits, scale) if result == OK else (result, 77, 77)
-    narrow = OK if tag == "d" or tag == "f" and is_small else calls.OUT_OF_RANGE if tag == "f" else calls.BAD_TAG
+    narrow = OK if tag == "d" or tag == "f" and is_small else c_api.OUT_OF_RANGE if tag == "f" else c_api.BAD_TAG
     return " ".join(map(str, (*truth, *seconds, *decimal, narrow)))
 
 
@@ -225,7 +225,7 @@ def test_places(inline: Program) -> None:
         key, content = is_inside((one, other), length), is_inside((other, one), length)
         key_at, at = one if length and key else -1, other if length and content else -1
         is_text = tag in b"Sx"
-        result = calls.BAD_TAG if not is_text else OK if at >= 0 else INVALID
+        result = c_api.BAD_TAG if not is_text else OK if at >= 0 else INVALID
         string = f"{result} {at} {one}" if result == OK else f"{result} 0 {length}"
         value = f"{key_at} {other if key_at >= 0 else 0} {flags & ~1}"
         return f"{key_at} {at if is_text else -1} {string} {value}"
@@ -238,11 +238,11 @@ def listed(data: bytes, flags: int, places: int) -> str:
     """What is printed of the entries of a container."""
     whole = b"F" * (flags & 1) + data
     if whole and chr(whole[0]) not in TYPES:
-        return f"{calls.UNKNOWN_TAG} 77"
+        return f"{c_api.UNKNOWN_TAG} 77"
     if lack(whole):
-        return f"{calls.MORE} 77"
+        return f"{c_api.MORE} 77"
     if whole[:1] not in (b"A", b"F"):
-        return f"{calls.BAD_TAG} 77"
+        return f"{c_api.BAD_TAG} 77"
     body = 5 - (flags & 1), extent(whole) - 5
     outer, left, found = ((0, 0), (0, 0), body, 0, whole[0], 0), body, []
     while True:
@@ -250,9 +250,9 @@ def listed(data: bytes, flags: int, places: int) -> str:
         if result != OK:
             break
         found.append(entry)
-    if result != calls.NONE:
+    if result != c_api.NONE:
         return f"{result} 77"
-    line = f"{OK if len(found) <= places else calls.NO_ROOM} {len(found)}"
+    line = f"{OK if len(found) <= places else c_api.NO_ROOM} {len(found)}"
     for it in found[:places]:
         of_key, there = looked_up(data, outer, [data[it[0][0] : sum(it[0])]], flags & 8 != 0)
         line += f" {it[1][0]}:{of_key}:{there[1][0] if of_key == OK else 0}"

@@ -16,7 +16,7 @@ from typing import Any
 import pytest
 from dependencies import TOP
 
-from tests.c.calls import CALLS
+from tests.c.declared import CALLS
 from tests.c.conftest import installed
 from tests.c.compiling import EXAMPLES, Done, Words, assert_well, printed, run, symbols, version
 from tests.c.pages import commands_of_linking

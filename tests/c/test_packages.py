@@ -11,7 +11,7 @@ from pathlib import Path
 import pytest
 from dependencies import TOP
 
-from tests.c.calls import CALLS
+from tests.c.declared import CALLS
 from tests.c.compiling import Words, assert_well, printed, run, version
 from tests.c.pages import commands_of_first, names_that_lack
 from tests.c.places import NAME, PATH, files_in

@@ -10,7 +10,7 @@ from pathlib import Path
 import pytest
 from building import AARCH64, archive
 
-from tests.c.calls import CALLS
+from tests.c.declared import CALLS
 from tests.c.compiling import ALLOCATING, CRATES, LIBRARIES, PLAIN, symbols
 
 OF_MALLOC = {"rattle_alloc", "rattle_realloc", "rattle_dealloc"}

@@ -4,7 +4,7 @@ from typing import Any
 
 import pytest
 
-from tests import c_api as calls
+from tests.c import c_api
 from tests.vectors.cases import CASES, PROBLEMS, Case, none_of
 
 pytestmark = pytest.mark.usefixtures("library")
@@ -13,21 +13,21 @@ NO_LIMIT = 2**32 - 1
 
 def found(it: Case) -> Any:
     """The result and the problem of reading, and what is written."""
-    limits = calls.UNTAGGED * it.is_table, NO_LIMIT, NO_LIMIT
-    result, _, problem = calls.read(it.data, *limits)
-    return result, problem, calls.canonical(it.data, *limits), calls.to_json(it.data, *limits)
+    limits = c_api.UNTAGGED * it.is_table, NO_LIMIT, NO_LIMIT
+    result, _, problem = c_api.read(it.data, *limits)
+    return result, problem, c_api.canonical(it.data, *limits), c_api.to_json(it.data, *limits)
 
 
 def wanted(it: Case) -> Any:
     if it.canonical is not None and it.json is not None:
-        return calls.OK, None, (calls.OK, it.canonical), (calls.OK, it.json.encode())
+        return c_api.OK, None, (c_api.OK, it.canonical), (c_api.OK, it.json.encode())
     if it.is_beyond_limits:
-        result, problem = calls.TOO_LARGE, (0, 0, 0)
+        result, problem = c_api.TOO_LARGE, (0, 0, 0)
     elif "missing" in it.result:
-        result, problem = calls.MORE, (0, it.result["missing"], 0)
+        result, problem = c_api.MORE, (0, it.result["missing"], 0)
     else:
         kind, at = PROBLEMS[it.result["error"]], it.result["offset"]
-        result = next(each for each, of in calls.KINDS.items() if of == kind and each != calls.MORE)
+        result = next(each for each, of in c_api.KINDS.items() if of == kind and each != c_api.MORE)
         problem = at, 0, it.data[at] if kind == 1 else 0
     return result, problem, (result, 0), (result, 0)
 

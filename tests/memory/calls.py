@@ -1,7 +1,5 @@
 """What each `Row` of crates/test_calls may answer if one of its allocations fails, for test_alloc_failures.py.
 
-(tests/calls.py parses the same rows for other suites; tests/c/calls.py has the names of the C API's functions.)
-
 The call whose allocation fails has to return an error of FAILED or MIXED, and leave all as it was. The other calls of the request have
 to return what they do anyhow: the parts of an answer, divided by "; ", and the answer given in another way, after " but ". A request
 whose calls don't return the same error is judged by its words: each has to be one of its answer, or of such an error.

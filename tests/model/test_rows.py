@@ -4,7 +4,7 @@ import re
 
 import pytest
 
-from tests.calls import bytes_of, stored
+from tests.rows import bytes_of, stored
 from tests.model.json_format import Rejected, json_of, value_of_json
 from tests.model.encoding import Unread, read, write
 

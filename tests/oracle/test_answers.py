@@ -11,7 +11,7 @@ from random import Random
 import pytest
 from dependencies import TOP
 
-from tests.calls import DATA, rows
+from tests.rows import DATA, rows
 from tests.checks import built, run
 from tests.oracle.crate import Driver
 from tests.oracle.inputs import request as made

@@ -3,7 +3,7 @@
 import subprocess
 from collections.abc import Iterator
 
-from tests.calls import rows
+from tests.rows import rows
 from tests.checks import built
 
 

@@ -4,8 +4,8 @@ from collections import Counter
 from collections.abc import Iterator
 from random import Random
 
-from tests.calls import bytes_of
-from tests.calls import stored as rows_of
+from tests.rows import bytes_of
+from tests.rows import stored as rows_of
 from tests.checks import built, run
 from tests.model.encoding import write
 from tests.model.stored_output import line

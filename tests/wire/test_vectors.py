@@ -2,7 +2,7 @@
 
 import re
 
-from tests.calls import bytes_of
+from tests.rows import bytes_of
 from tests.checks import built, run
 from tests.model.test_rows import JSON_OF_ENCODING, LONG
 from tests.vectors.cases import CASES, none_of

@@ -1,7 +1,7 @@
 """Parses the rows of crates/test_calls/data, `REQUEST => ANSWER` (`rows`), and words that are bytes (`bytes_of`).
 
 The suites model, oracle and wire use it. tests/memory/calls.py says what the same requests may answer if an allocation
-fails; tests/c/calls.py has the names of the C API's functions.
+fails.
 """
 
 from collections.abc import Iterator

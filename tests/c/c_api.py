@@ -1,8 +1,7 @@
-"""Calls the functions of the C API by ctypes, for the tests in tests/c, which import it as `calls`. `load` is first.
+"""Calls the functions of the C API by ctypes, for the tests in tests/c. `load`, which the fixture `library` calls, is first.
 
 What a call reads, and the buffer that it writes to, end where a page begins that can't be accessed. A function returns
-the call's result and what the call has set; a struct that is as it was before is None. tests/c/calls.py has only the
-names of the functions.
+the call's result and what the call has set; a struct that is as it was before is None.
 """
 
 import ctypes

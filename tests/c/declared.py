@@ -1,7 +1,6 @@
 """`CALLS`: the names of the functions of the C API, by library, as the header declares them, for three modules here.
 
-Those that allocate are in a section of the header of their own. tests/c_api.py calls the functions; tests/calls.py and
-tests/memory/calls.py are about the requests of crates/test_calls.
+Those that allocate are in a section of the header of their own. c_api.py calls the functions.
 """
 
 import re
