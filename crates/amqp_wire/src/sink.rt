@@ -1,4 +1,5 @@
-//! `Sink`: a writer that lines are written to, with clauses about its errors.
+//! `Sink`: a writer that lines are written to. Unlike `Write` it has clauses about its errors, as
+//! `Source` of amq_protocol_types has them of a reader.
 
 ghost use Rattle.std.specs.Prelude.{ℕ, List, Option, ⊤, IfOk, IfErr};
 ghost use Rattle.std.specs.Io.{WritesAtMost};
