@@ -1,7 +1,4 @@
-"""`decode` for run.py, by librabbitmq's reader of tables and ctypes.
-
-librabbitmq returns all values of a repeated key; the last is taken here.
-"""
+"""`decode` for run.py, by librabbitmq and ctypes. librabbitmq returns all values of a repeated key; the last is taken."""
 
 import ctypes
 import struct

@@ -1,6 +1,4 @@
-"""`decoder` makes a `decode` of a program, which reads a table from standard input and prints it as JSON.
-
-The program ends with status 1 if it rejects the table.
+"""`decoder` makes a `decode` of a program, which prints a table as JSON, or ends with status 1 if it rejects the table.
 
 Numbers, null, Booleans and arrays are JSON's own. Else an object's only key says what is under it.
 """
