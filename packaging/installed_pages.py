@@ -1,5 +1,5 @@
 #!/usr/bin/env python3
-"""Copies pages as they are installed, without what is only about the sources: packaging/pages.py FOLDER PAGE..
+"""Copies pages as they are installed, without what is only about the sources: packaging/installed_pages.py FOLDER PAGE..
 
 Left out is what is between the marks `of the sources` and `end`, and links to pages that aren't installed, except their text.
 """

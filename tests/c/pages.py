@@ -82,7 +82,7 @@ key: Void
 
 
 def program_of_page(page: str) -> str:
-    """A program of all blocks of C of docs/C.md."""
+    """A program of all blocks of C of a page, as docs/C.md has them."""
     blocks = re.findall(r"(?ms)^```c\n(.*?)^```", page)
     files = [it.replace('#include "amqp_values.h"\n', "") for it in blocks if it.startswith("#include")]
     bodies = [it for it in blocks if not it.startswith("#include")]

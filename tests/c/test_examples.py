@@ -1,4 +1,4 @@
-"""The programs of examples/c print what their transcripts have (tests/transcripts.py), and the C of docs/C.md runs.
+"""The programs of examples/c print what their transcripts have (tests/transcripts.py), and the C of C.md and ADOPTING runs.
 
 They are compiled by both compilers, and run on an old processor too, as qemu has it; with --built for aarch64, run by qemu.
 Standard error isn't compared, which sanitizers and processors of qemu write to.
@@ -67,9 +67,9 @@ def test_case(build: Build, way: str, name: str, case: Case) -> None:
 
 
 def test_page(libraries: None, sanitizers: list[str], tmp_path: Path) -> None:
-    """Every block of docs/C.md is compiled and run."""
+    """Every block of C in docs/C.md and docs/ADOPTING.md is compiled and run."""
     source = tmp_path / "page.c"
-    source.write_text(program_of_page((TOP / "docs/C.md").read_text()))
+    source.write_text(program_of_page("".join((TOP / "docs" / it).read_text() for it in ("C.md", "ADOPTING.md"))))
     assert printed([compiled(source, tmp_path / "page", options=sanitizers)]) == PRINTED
 
 
