@@ -1,4 +1,4 @@
-// The texts for what `read` returned, in the words of amqp_show: lines of the tree, problems, outcome and JSON.
+// The texts for what `read` returned, in the words of amqp_show. (packaging/web.py makes header.js of amqp_values.h.)
 import { AMQPV, NAMES } from "./header.js";
 import { AGAIN, BARE, CUT, REST, isContainer, isCounted, isTruncated } from "./reading.js";
 
