@@ -1,4 +1,4 @@
-"""The programs of examples/c print what their transcripts have (tests/transcripts.py), and the C of C.md and ADOPTING runs.
+"""The programs of examples/c print what their transcripts have (tests/transcripts.py), and the C of two pages runs.
 
 They are compiled by both compilers, and run on an old processor too, as qemu has it; with --built for aarch64, run by qemu.
 Standard error isn't compared, which sanitizers and processors of qemu write to.
