@@ -36,7 +36,8 @@ uninstall: ## remove what was installed last
 	@sed -n 's|^\(.*/amqp_values\)/.*|$(DESTDIR)\1|p' /dev/null $(MANIFESTS) | sort -u \
 	    | while read -r it; do [ ! -d "$$it" ] || find "$$it" -depth -type d -empty -delete; done
 
-# `built` is there only if a build ended well, and is as old as its begin: what changed since is built again.
+# `built` is there only if a build ended well, and is as old as its begin: what changed since is built again. It has the version of
+# CMake that is needed.
 SOURCES := $(shell find CMakeLists.txt CHANGELOG.md LICENSE THIRD-PARTY HANDLES crates.txt debian/changelog include c docs \
     examples/c packaging crates/amqp_c_alloc/malloc.c -type f -not -name '*.pyc') \
     $(shell find crates/*/src crates/*/specs crates/*/proofs)
@@ -48,8 +49,25 @@ $(OUT)/lib/built $(OUT)/aarch64/built: FLAGS = -DAMQP_SHOW=OFF
 $(OUT)/aarch64/built: TARGET = $(AARCH64)
 $(OUT)/aarch64/built: FLAGS += --toolchain packaging/aarch64.cmake
 
-$(OUT)/build/built $(OUT)/lib/built $(OUT)/aarch64/built: $(SOURCES)
+# What these targets call besides what all builds need: what is missing is named before anything is proved.
+NEEDED_dist = aarch64-linux-gnu-gcc aarch64-linux-gnu-ar dpkg-parsechangelog
+NEEDED_deb = dh
+NEEDED_wheel = dpkg-parsechangelog readelf \
+    $(addprefix /usr/lib/python3/dist-packages/,pip setuptools wheel) /usr/include/python3.*/Python.h
+NEEDED_wheels = $(NEEDED_wheel) $(NEEDED_dist)
+needed = $(foreach it,$(sort $(foreach it,$(MAKECMDGOALS),$(NEEDED_$(it)))),'$(it)')
+
+# Other flags than the last make a build anew.
+export CMAKE_FLAGS
+$(OUT)/flags: FORCE
+	@mkdir -p $(@D) && echo "$$CMAKE_FLAGS" | cmp -s - $@ || echo "$$CMAKE_FLAGS" >$@
+FORCE:
+
+$(OUT)/build/built $(OUT)/lib/built $(OUT)/aarch64/built: $(SOURCES) $(if $(CMAKE_FLAGS),$(OUT)/flags)
+	@packaging/programs.py rt git cc ar cmake $(needed)
 	@mkdir -p $(@D) && rm -f $@ && touch $(@D)/begun
+	@grep '^cmake_minimum_required' CMakeLists.txt >$(@D)/begun && cmake -P $(@D)/begun
+	@rt version | grep -q '$(LOGIC)$$' || echo "make: rt isn't of a toolchain with the $(LOGIC): proofs may fail" >&2
 	packaging/measured.py '$(WHAT)' packaging/archives.py $(BUILT) $(LIBRARY) $(or $(TARGET),$(X86_64))
 	cmake -S . -B $(@D) $(FLAGS) $(CMAKE_FLAGS) && cmake --build $(@D)
 	@mv $(@D)/begun $@
@@ -61,24 +79,23 @@ deb: all ## make packages of Debian for x86-64
 	packaging/measured.py 'packages of Debian' debian/rules clean binary
 
 # By Debian's Python and nothing else.
-wheel: $(OUT)/build/built ## make a wheel of the Python package for x86-64
-	packaging/measured.py 'the wheel' python3 packaging/wheels.py $(OUT)/wheel $(OUT)/build
+wheel: $(OUT)/lib/built ## make a wheel of the Python package for x86-64
+	packaging/measured.py 'the wheel' python3 packaging/wheels.py $(OUT)/wheel $(OUT)/lib
 
-wheels: $(OUT)/build/built $(OUT)/aarch64/built ## make those for x86-64 and aarch64, as a release has them
-	packaging/measured.py 'wheels' python3 packaging/wheels.py $(OUT)/wheel $(OUT)/build $(OUT)/aarch64
+wheels: $(OUT)/lib/built $(OUT)/aarch64/built ## make those for x86-64 and aarch64, as a release has them
+	packaging/measured.py 'wheels' python3 packaging/wheels.py $(OUT)/wheel $(OUT)/lib $(OUT)/aarch64
 
 web: ## make the page that shows a field table, out/web/amqp.html
 	packaging/measured.py 'the page' packaging/web.py $(filter --built,$(BUILT)) $(OUT)/web/amqp.html
 
-rust: all ## put the library where the Rust crate amqp-values-sys links it
-	install -D -m 644 $(OUT)/build/libamqp_values.a bindings/rust/amqp-values-sys/lib/$(X86_64)/libamqp_values.a
+rust: lib ## put the library where the Rust crate amqp-values-sys links it
+	install -D -m 644 $(OUT)/lib/libamqp_values.a bindings/rust/amqp-values-sys/lib/$(X86_64)/libamqp_values.a
 	install -m 644 LICENSE THIRD-PARTY bindings/rust/amqp-values-sys/lib
 
 release: ## prove, test and make all of a release of HEAD, out/release
-	$(if $(filter --built,$(BUILT)),,$(MAKE) check)
 	packaging/release $(filter --built,$(BUILT)) $(OUT)/release
 
 clean: ## remove what these targets made
 	rm -rf $(addprefix $(OUT)/,build lib aarch64 packed debian deb wheel web release steps mypy)
 
-.PHONY: help setup all lib install install-lib uninstall dist deb wheel wheels web rust release clean
+.PHONY: help setup all lib install install-lib uninstall dist deb wheel wheels web rust release clean FORCE
