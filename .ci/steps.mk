@@ -1,11 +1,12 @@
 # The steps of `make test`, `make check` and `make whole`. Each is a target: `make test-wire` runs that suite, and first the proofs
 # that it needs. .ci/step writes what a step prints to out/steps/NAME.log, and .ci/count.py says how all of them ended.
 #
-# WITHOUT="broker crate" skips these steps, and the tests of other steps that need RabbitMQ or the Rust crate.
+# WITHOUT="broker crate" skips these steps, and the tests of other steps that need RabbitMQ or the Rust crate. All suites need the
+# proofs, so these can't be skipped.
 
 # The program logic in which all of this is proved: `rt version` ends with it, whatever the kit is called.
 LOGIC = logic dac8208d650f15bf
-STEPS = $(CURDIR)/out/steps
+STEPS = out/steps
 step = @.ci/step $(STEPS)/$@.log
 
 # ---- the steps
@@ -25,25 +26,26 @@ $(PROGRAMS:%=%-runs): %-runs:
 $(TESTED:%=%-tests): %-tests:
 	$(step) python3 -m tests.unproved tests $*
 
-stored-output:
+# (make help shows this line for all of them)
+stored-output: ## one step of `make test`; the others are NAME-runs and NAME-tests of each crate that has such
 	$(step) python3 -m tests.model.stored_output
 
 docs: ## compare the pages with the sources (10 seconds)
 	$(step) tests/pages.py
 
-lint: ## check Python's types, layouts, scripts and spelling (a minute)
+lint: ## check types, layouts, scripts and spelling of Python, C and Rust (a minute)
 	$(step) tests/lint
 
 test-model test-vendor test-vectors: test-%:
 	$(step) tests/run $* $(OPTIONS_$*)
 
-fresh:
+fresh: ## try the README on a machine that has only the kit, as root
 	$(step) tests/fresh.py README.md
 
 # (`rt ci` refuses links, which a build by CMake has)
-proofs: ## prove all crates from nothing, except what was proved on this machine (an hour)
+proofs: ## prove all crates from nothing (an hour)
 	@rm -rf out/build out/lib out/aarch64
-	$(step) rt ci $(ANEW)
+	$(step) rt ci $(if $(ANEW),$$(rt help | grep -om1 -e --anew))
 
 # (make help shows this line in place of one for each suite)
 test-show: ## test-NAME runs one suite over the proofs: show, wire, c, python, rust, web, broker ..
@@ -65,13 +67,18 @@ OPTIONS_counts = --built
 OPTIONS_web = --built $(SEED)
 OPTIONS_rust = --built $(SEED)
 OPTIONS_broker = --built --tables $(TABLES)
+# What these options are, unless `make whole` says it on the command line: nothing in the environment narrows a step.
+ANEW =
+SEED =
+ROOT =
+ALL =
 TABLES = 500
 
 # ---- the runs
 
-# What WITHOUT may name besides steps: what some tests of the steps c, rust and vectors need.
+# What WITHOUT may name besides steps: what some tests of the steps c, lint, rust and vectors need.
 OF_TESTS = aarch64 clang codecs old-processor cargo-clippy rustfmt valgrind rustc
-NAMES = $(patsubst test-%,%,$(UNPROVED) $(CHECKED) fresh)
+NAMES = $(patsubst test-%,%,$(UNPROVED) $(filter-out proofs,$(CHECKED)) fresh)
 ifneq ($(filter-out $(NAMES) $(OF_TESTS),$(WITHOUT)),)
 $(error WITHOUT: there is no step $(filter-out $(NAMES) $(OF_TESTS),$(WITHOUT)); there are: $(NAMES) $(OF_TESTS))
 endif
@@ -80,9 +87,10 @@ HAS_CRATE = $(or $(AMQ_PROTOCOL_TYPES),$(wildcard $(or $(CARGO_HOME),$(HOME)/.ca
 NO_CRATE = neither AMQ_PROTOCOL_TYPES names the Rust crate's folder nor cargo has kept it
 
 # Steps side by side, each to its end, and then how they ended. What they leave in their temporary folder goes at the end.
-chosen = $(filter-out $(WITHOUT) $(WITHOUT:%=test-%),$(1))
-run = @rm -rf $(STEPS); begun=$$(date +%s); TMPDIR=$$(mktemp -d -t maolkint-XXXXXX); export TMPDIR; chmod 755 $$TMPDIR; \
-    trap 'rm -rf $$TMPDIR' EXIT; $(MAKE) --no-print-directory -k -j$(2) $(chosen); .ci/count.py $(STEPS) $$begun $(chosen)
+chosen = $(or $(filter-out $(WITHOUT) $(WITHOUT:%=test-%),$(1)),$(error WITHOUT names each step))
+run = @set -e; rm -rf $(STEPS); begun=$$(date +%s); TMPDIR=$$(mktemp -d -t maolkint-XXXXXX); export TMPDIR; chmod 755 $$TMPDIR; \
+    trap 'rm -rf $$TMPDIR' EXIT; trap 'exit 129' HUP; trap 'exit 130' INT; trap 'exit 143' TERM; \
+    $(MAKE) --no-print-directory -k -j$(2) WITHOUT='$(WITHOUT)' $(MORE) $(chosen) || true; .ci/count.py $(STEPS) $$begun $(chosen)
 needed = @rt version | grep -q '$(LOGIC)$$' || { echo "rt, of a Rattle toolchain with the $(LOGIC), is missing"; exit 1; }; .ci/setup --missing
 
 test: ## run the tests that need only the Rattle toolchain, python3, make and git (about 5 minutes)
@@ -93,12 +101,8 @@ check: ## run everything else a change must pass (5 to 60 minutes; WITHOUT="brok
 	$(needed)
 	$(call run,$(CHECKED),20)
 
-# Nothing is carried over, and what is random is another in each run.
-whole: export ANEW = --anew
-whole: export SEED = --random
-whole: export ROOT = --root
-whole: export ALL = --all
-whole: export TABLES = 10000 --rabbitmq=3.10.8 --rabbitmq=4.0.5
+# Nothing is carried over, also by an `rt ci` that keeps proofs and has the option --anew; and what is random is another in each run.
+whole: MORE = ANEW=yes SEED=--random ROOT=--root ALL=--all TABLES='10000 --rabbitmq=3.10.8 --rabbitmq=4.0.5'
 whole: ## run everything from nothing, as root, before a release (some hours)
 	$(if $(HAS_CRATE)$(filter crate,$(WITHOUT)),,$(error $(NO_CRATE) (WITHOUT=crate skips its step)))
 	$(needed)
