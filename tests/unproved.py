@@ -38,6 +38,8 @@ def tests(crate: Path) -> Tried:
     """The tests of a crate."""
     text = said(crate, ["--test"])
     found = dict(re.findall(r"(?m)^test (\S+) \.\.\. (\w+)$", text))
+    if f"tests: {len(found)}\n" not in text or "\ntest result: " not in text:
+        yield "the run", f"not all tests ended\n{text[-3000:]}"
     for name in NOT_HERE.get(crate.name, set()):
         if not found.pop(name, ""):
             yield name, f"isn't there\n{text[-3000:]}"
