@@ -2,7 +2,7 @@
 
 Neither needs another package. amqp-values-sys links the archive of its folder, or of the one that AMQP_VALUES_LIB_DIR
 names. The tests of both pass, also by the oldest compiler that they are for, if it is there as Debian has it, and
-clippy and rustdoc have no warning. Their examples end as those in C. values.rs: on random inputs amqp-values reads,
+rustdoc has no warning (`make lint` has clippy). Their examples end as those in C. values.rs: on random inputs amqp-values reads,
 measures, finds and writes as the Rust crate does; on samples under valgrind and the address sanitizer.
 """
 
@@ -45,16 +45,6 @@ def test_own_tests(copies: Path, name: str, tools: Path | None) -> None:
     assert count_of_tests(done) >= examples + sum(it.count("#[test]") for it in sources)
 
 
-@pytest.mark.needs("cargo-clippy")
-@pytest.mark.parametrize(
-    ("name", "words"),
-    ((CRATES[0], "--all-targets"), (CRATES[1], "--all-targets"), (CRATES[1], "--no-default-features")),
-)
-def test_clippy(copies: Path, name: str, words: str) -> None:
-    assert_well(cargo(copies / name, "clippy", words, "--", "-D", "warnings"))
-
-
-@pytest.mark.needs("cargo-clippy")
 @pytest.mark.parametrize("name", CRATES)
 def test_rustdoc(copies: Path, name: str) -> None:
     assert_well(cargo(copies / name, "doc", "--no-deps", RUSTDOCFLAGS="-D warnings"))

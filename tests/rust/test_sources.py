@@ -1,4 +1,4 @@
-"""The Rust sources, without building them: their layout, and that they declare and state what the C header does."""
+"""The Rust sources, without building them: they declare and state what the C header does. (`make lint` checks their layout.)"""
 
 import re
 from collections.abc import Iterator
@@ -10,25 +10,6 @@ from dependencies import TOP
 from tests.rust.cargo import CRATES, DROP_IN, HERE, PACKAGES, RUST, assert_well, run
 
 HEADER = TOP / "include/amqp_values.h"
-LAYOUT = "max_width=120,use_small_heuristics=Max"
-
-
-def sources(edition: str) -> Iterator[Path]:
-    """The sources of an edition: the crates over the C API are of the older one."""
-    if edition == "2024":
-        folders = (DROP_IN, HERE, *(TOP / it for it in ("vectors/adapters", "tests/oracle", "bench")))
-        yield from (it for folder in folders for it in folder.glob("*.rs"))
-    else:
-        yield from (it for name in CRATES for it in (RUST / name).glob("**/*.rs") if "target" not in it.parts)
-
-
-@pytest.mark.needs("rustfmt")
-@pytest.mark.parametrize("edition", ("2024", "2021"))
-def test_layout(edition: str) -> None:
-    """The sources are laid out by rustfmt."""
-    found = sorted(sources(edition))
-    assert found
-    assert_well(run(["rustfmt", "--edition", edition, "--check", "--config", LAYOUT, *found]))
 
 
 @pytest.mark.needs("rustfmt")
