@@ -18,6 +18,7 @@ CRATES = Crates()
 PLAIN, ALLOCATING = C_API
 FLAGS = ["-std=c11", "-Wall", "-Wextra", "-Werror", f"-I{HEADER.parent}"]
 C = ["cc", *FLAGS]
+SANITIZERS = ["-fsanitize=address,undefined", "-fno-sanitize-recover=all"]
 LIBRARIES = {crate: archive(CRATES, crate) for crate in C_API}
 LINKED = (*LIBRARIES.values(), MALLOC)
 # What memory.c is linked with.

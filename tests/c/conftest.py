@@ -15,9 +15,7 @@ from building import AARCH64, C_API, build_archive, shared_object
 from dependencies import TOP, Crates
 
 from tests.c import c_api
-from tests.c.compiling import C, CRATES, assert_well, run
-
-SANITIZERS = ["-fsanitize=address,undefined", "-fno-sanitize-recover=all"]
+from tests.c.compiling import CRATES, assert_well, run
 
 
 def pytest_addoption(parser: pytest.Parser) -> None:
@@ -53,17 +51,6 @@ def libraries(request: pytest.FixtureRequest) -> None:
     with ThreadPoolExecutor(2 if is_built else 1) as pool:
         for done in [*pool.map(partial(build_archive, CRATES, is_built=is_built), C_API)]:
             assert_well(done)
-
-
-@pytest.fixture(scope="session")
-def sanitizers(folder: Path, notes: list[str]) -> list[str]:
-    """The flags of the sanitizers, if they link."""
-    probe = folder / "probe.c"
-    probe.write_text("int main(void) { return 0; }\n")
-    if run([*C, *SANITIZERS, "-o", folder / "probe", probe]).returncode == 0:
-        return SANITIZERS
-    notes.append("the sanitizers don't link, so C is compiled without them")
-    return []
 
 
 def installed(to: Path, *flags: str) -> Path:

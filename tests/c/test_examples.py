@@ -13,7 +13,7 @@ import pytest
 from building import AARCH64, COMPILERS
 from dependencies import TOP
 
-from tests.c.compiling import EXAMPLES, FLAGS, LINKED, OF_AARCH64, C, Words, compiled, printed
+from tests.c.compiling import EXAMPLES, FLAGS, LINKED, OF_AARCH64, SANITIZERS, C, Words, compiled, printed
 from tests.c.pages import PRINTED, program_of_page
 from tests.c.running import assert_as_transcript
 from tests.transcripts import Case, cases
@@ -52,7 +52,7 @@ def build(request: pytest.FixtureRequest, libraries: None, folder: Path) -> Buil
 
     @cache
     def built(way: str, name: str) -> Path:
-        options = request.getfixturevalue("sanitizers") if way == SANITIZED else []
+        options = SANITIZERS if way == SANITIZED else []
         linked: Words = LINKED
         if way == ON_AARCH64:
             linked = [request.getfixturevalue("made_for_aarch64") / "lib/libamqp_values.a"]
@@ -66,11 +66,11 @@ def test_case(build: Build, way: str, name: str, case: Case) -> None:
     assert_as_transcript(case, [*WAYS[way].run_by, build(way, name)])
 
 
-def test_page(libraries: None, sanitizers: list[str], tmp_path: Path) -> None:
+def test_page(libraries: None, tmp_path: Path) -> None:
     """Every block of C in docs/C.md and docs/ADOPTING.md is compiled and run."""
     source = tmp_path / "page.c"
     source.write_text(program_of_page("".join((TOP / "docs" / it).read_text() for it in ("C.md", "ADOPTING.md"))))
-    assert printed([compiled(source, tmp_path / "page", options=sanitizers)]) == PRINTED
+    assert printed([compiled(source, tmp_path / "page", options=SANITIZERS)]) == PRINTED
 
 
 SHARED = "count_deaths"

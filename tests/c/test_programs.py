@@ -5,7 +5,7 @@ All except nested.c print how many calls they made.
 nested.c makes the calls that recurse, on the stacks that docs/PROMISES.md names, and with the limits that the header recommends
 on the stacks that it names (tests/model/nesting.py), with --built for aarch64 too.
 
-C is compiled with the address and undefined behaviour sanitizers if they link, threads.c with ThreadSanitizer, except nested.c.
+C is compiled with the address and undefined behaviour sanitizers, threads.c with ThreadSanitizer, except nested.c.
 They don't see into the libraries, so most programs have pages about their bytes that can't be accessed.
 """
 
@@ -17,7 +17,7 @@ from random import Random
 import pytest
 from building import AARCH64, COMPILERS
 
-from tests.c.compiling import FLAGS, HERE, LINKED, OF_AARCH64, WRAPPED, C, Words, compiled, printed
+from tests.c.compiling import FLAGS, HERE, LINKED, OF_AARCH64, SANITIZERS, WRAPPED, C, Words, compiled, printed
 from tests.model import nesting
 from tests.model.json_format import json_of, text_for
 from tests.model.encoding import field, read, write
@@ -45,8 +45,8 @@ def calls_of(words: Words, given: str = "") -> int:
 
 
 @pytest.mark.parametrize("name", ALONE)
-def test_program(libraries: None, sanitizers: list[str], tmp_path: Path, name: str) -> None:
-    how = ["-fsanitize=thread", "-pthread"] if name == "threads.c" else sanitizers
+def test_program(libraries: None, tmp_path: Path, name: str) -> None:
+    how = ["-fsanitize=thread", "-pthread"] if name == "threads.c" else SANITIZERS
     assert calls_of([compiled(HERE / name, tmp_path / "program", options=how)])
 
 
@@ -69,12 +69,12 @@ def of_memory(make: Random) -> Iterator[tuple[str, int, bytes, bytes]]:
         yield "from_json", 0, text_for(make, value).encode(), encoding
 
 
-def test_memory(libraries: None, sanitizers: list[str], tmp_path: Path, seed: int) -> None:
+def test_memory(libraries: None, tmp_path: Path, seed: int) -> None:
     """Buffers of every size, and each allocation failing in turn."""
     lines = [
         f"{call} {flags} .{given.hex()} .{wanted.hex()}\n" for call, flags, given, wanted in of_memory(Random(seed))
     ]
-    options = [*sanitizers, *WRAPPED]
+    options = [*SANITIZERS, *WRAPPED]
     assert calls_of([compiled(HERE / "memory.c", tmp_path / "program", options=options)], "".join(lines))
 
 
