@@ -11,7 +11,7 @@ NAMED = re.compile(r"`([\w./-]+\.(?:[ch]|py|so|a|md|antt|rt|rows|t|pc|cmake)|[\w
 # What is no file, though it looks like one, or is one that a reader makes.
 NO_FILES = {"/usr/local", "CMakeLists.txt"}
 # What isn't run: what needs to be root, or another program.
-NOT_RUN = ("sudo ", "LD_PRELOAD", "cc -o consumer", "musl-gcc ")
+NOT_RUN = ("sudo ", "LD_PRELOAD", "cc -o consumer")
 
 
 def names_that_lack(doc: Path, top: Path) -> list[str]:

@@ -118,6 +118,17 @@ def test_tool(prefix: Path, alone: dict[str, Any]) -> None:
     assert printed([prefix / "bin/amqp_show", "--version"], **alone) == f"amqp_show {version()}\n"
 
 
+@pytest.mark.parametrize(
+    ("name", "latest"),
+    ((f"lib/lib{NAME}.so", "2.17"), ("lib/libamqp_values_rabbitmq.so", "2.17"), ("bin/amqp_show", "2.34")),
+)
+def test_glibc(prefix: Path, name: str, latest: str) -> None:
+    """Nothing needs a later one than docs/PLATFORMS.md says."""
+    found = re.findall(r"@GLIBC_([\d.]+)", printed(["readelf", "--dyn-syms", "-W", prefix / name]))
+    assert max([*map(int, it.split("."))] for it in found) <= [*map(int, latest.split("."))]
+    assert f"glibc {latest}" in (TOP / "docs/PLATFORMS.md").read_text()
+
+
 # CMake
 
 KINDS = (NAME, "shared", "static")
@@ -188,6 +199,22 @@ def test_what_is_made_anew(out: Path, name: str) -> None:
     assert ("packaging/archives.py" in said) == bool(name)
 
 
+def test_other_flags_build_anew(out: Path, tmp_path: Path) -> None:
+    """Once; and without flags what was built stays."""
+    old, called = tmp_path / "old", tmp_path / "called"
+    shutil.copytree(out, old, symlinks=True)
+    (tmp_path / "cmake").write_text(f'#!/bin/sh\necho "$*" >>{called}\n')
+    (tmp_path / "cmake").chmod(0o755)
+    env = {**os.environ, "PATH": f"{tmp_path}:{os.environ['PATH']}"}
+    flags = "CMAKE_FLAGS=-DCMAKE_INSTALL_LIBDIR=lib64"
+    called.touch()
+    for words, count in ((), 0), ((flags,), 1), ((flags,), 1), ((), 1):
+        assert_well(make(old, *words, env=env))
+        assert [it.split()[-1] for it in called.read_text().splitlines() if "-S . " in it] == [
+            flags.partition("=")[2]
+        ] * count
+
+
 def test_build_that_fails_is_not_installed(out: Path, tmp_path: Path) -> None:
     """Nor is one that ended well before."""
     broken, old, root = tmp_path / "broken", tmp_path / "old", tmp_path / "root"
@@ -207,26 +234,39 @@ def test_library_without_the_tool(out: Path, prefix: Path, tmp_path: Path) -> No
 
 
 @pytest.mark.parametrize(
-    ("script", "program", "package"),
+    ("target", "program", "package"),
     (
-        ("packaging/archives.py --once", "cc", "gcc"),
-        ("packaging/archives.py --once", "ar", "binutils"),
-        ("packaging/archives.py --once", "cmake", "cmake"),
-        ("packaging/archives.py --once aarch64-unknown-linux-gnu", "aarch64-linux-gnu-gcc", "gcc-aarch64-linux-gnu"),
-        ("packaging/web.py", "wasm-opt", "binaryen"),
+        ("all", "cc", "gcc"),
+        ("lib", "ar", "binutils"),
+        ("lib", "cmake", "cmake"),
+        ("lib", "rt", "the Rattle toolchain"),
+        ("dist", "aarch64-linux-gnu-gcc", "gcc-aarch64-linux-gnu"),
+        ("deb", "dh", "debhelper"),
+        ("wheel", "readelf", "binutils"),
+        ("wheels", "aarch64-linux-gnu-ar", "binutils-aarch64-linux-gnu"),
+        ("web", "wasm-opt", "binaryen"),
     ),
 )
-def test_missing_program_is_named_before_any_proof(tmp_path: Path, script: str, program: str, package: str) -> None:
-    proved = tmp_path / "proved"
-    for it in "cc ar aarch64-linux-gnu-gcc aarch64-linux-gnu-ar cmake wasm-opt env git python3".split():
-        if it != program:
-            (tmp_path / it).symlink_to(f"/usr/bin/{it}")
-    (tmp_path / "rt").write_text(f"#!/bin/sh\n: >{proved}\n")
-    (tmp_path / "rt").chmod(0o755)
-    done = run([TOP / script.split()[0], *script.split()[1:]], env={"PATH": str(tmp_path)})
-    assert done.returncode == 1
+def test_missing_program_is_named_before_any_proof(tmp_path: Path, target: str, program: str, package: str) -> None:
+    (tmp_path / "bin").mkdir()
+    for it in Path("/usr/bin").iterdir():
+        if it.name != program:
+            (tmp_path / "bin" / it.name).symlink_to(it)
+    if program != "rt":
+        (tmp_path / "bin/rt").write_text(f"#!/bin/sh\n: >{tmp_path}/proved\n")
+        (tmp_path / "bin/rt").chmod(0o755)
+    done = run(["make", "-C", TOP, f"OUT={tmp_path}/out", target], env={"PATH": f"{tmp_path}/bin"})
+    assert done.returncode == 2
     assert f"    {program}  ({package})\n" in done.stderr
-    assert not proved.exists()
+    assert not (tmp_path / "proved").exists()
+
+
+def test_cmake_alone_says_what_is_missing(tmp_path: Path) -> None:
+    """By a processor for which nothing was proved."""
+    system = ("-DCMAKE_SYSTEM_NAME=Linux", "-DCMAKE_SYSTEM_PROCESSOR=riscv64")
+    done = run(["cmake", "-S", TOP, "-B", tmp_path, *system])
+    assert done.returncode
+    assert "libamqp_c.a isn't there. 'make lib' proves and builds it" in " ".join(done.stderr.split())
 
 
 def test_page_is_made_of_what_make_has_proved(tmp_path: Path) -> None:
