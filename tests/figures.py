@@ -155,6 +155,17 @@ def other_logics() -> Iterator[str]:
             yield f"{name}: it names {' and '.join(found) or 'no logic'}, and {STEPS} {wanted}: write that"
 
 
+def other_versions() -> Iterator[str]:
+    """Yields the names of released files in pages that have another version than the header."""
+    (wanted,) = re.findall(r'(?m)^#define AMQPV_VERSION "(.*)"$', read(HEADER))
+    for page in ("README.md", *(f"docs/{it.name}" for it in (TOP / "docs").glob("*.md"))):
+        for it in re.finditer(
+            r"\b(?:libamqp-values\w*(?:-dev)?|amqp-show)_([\d.]+)-1|\bamqp_values-([\d.]+)-", read(page)
+        ):
+            if wanted not in it.groups():
+                yield f"{place(page, it.start())}: the version of {it[0]} isn't {wanted}, as in {HEADER}: write that"
+
+
 def files_of_a_type() -> Iterator[str]:
     """Yields how many files docs/ADDING-A-TYPE.md names, if it states another number."""
     text = read(A_TYPE)
@@ -228,5 +239,5 @@ def other_lengths() -> Iterator[str]:
 def faults() -> Iterator[str]:
     """Yields what is repeated otherwise than it is made."""
     checks = [other_defaults, other_ratios, other_picture, long_pages, other_logics, tables_of_no_run, versions_by_hand]
-    for check in (*checks, files_of_a_type, other_lengths):
+    for check in (*checks, other_versions, files_of_a_type, other_lengths):
         yield from check()
