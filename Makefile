@@ -55,7 +55,7 @@ NEEDED_deb = dh
 NEEDED_wheel = dpkg-parsechangelog readelf \
     $(addprefix /usr/lib/python3/dist-packages/,pip setuptools wheel) /usr/include/python3.*/Python.h
 NEEDED_wheels = $(NEEDED_wheel) $(NEEDED_dist)
-needed = $(foreach it,$(sort $(foreach it,$(MAKECMDGOALS),$(NEEDED_$(it)))),'$(it)')
+besides = $(foreach it,$(sort $(foreach it,$(MAKECMDGOALS),$(NEEDED_$(it)))),'$(it)')
 
 # Other flags than the last make a build anew.
 export CMAKE_FLAGS
@@ -64,7 +64,7 @@ $(OUT)/flags: FORCE
 FORCE:
 
 $(OUT)/build/built $(OUT)/lib/built $(OUT)/aarch64/built: $(SOURCES) $(if $(CMAKE_FLAGS),$(OUT)/flags)
-	@packaging/programs.py rt git cc ar cmake $(needed)
+	@packaging/programs.py rt git cc ar cmake $(besides)
 	@mkdir -p $(@D) && rm -f $@ && touch $(@D)/begun
 	@grep '^cmake_minimum_required' CMakeLists.txt >$(@D)/begun && cmake -P $(@D)/begun
 	@rt version | grep -q '$(LOGIC)$$' || echo "make: rt isn't of a toolchain with the $(LOGIC): proofs may fail" >&2

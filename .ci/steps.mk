@@ -16,7 +16,7 @@ PROGRAMS := $(patsubst crates/%/src/main.rt,%,$(wildcard crates/*/src/main.rt))
 TESTED := $(sort $(foreach it,$(shell grep -rl '\#\[test\]' crates/*/src),$(word 2,$(subst /, ,$(it)))))
 UNPROVED := $(PROGRAMS:%=%-runs) $(TESTED:%=%-tests) stored-output
 # What needs no proofs, and what runs over the programs and libraries that they leave.
-ALONE := docs lint test-model test-vendor test-vectors
+ALONE := docs lint test-scripts test-model test-vendor test-vectors
 SUITES := show alloc-failures sizes wire c python counts web rust crate broker
 CHECKED := proofs $(ALONE) $(SUITES:%=test-%) mutants
 
@@ -36,7 +36,7 @@ docs: ## compare the pages with the sources (10 seconds)
 lint: ## check types, layouts, scripts and spelling of Python, C and Rust (a minute)
 	$(step) tests/lint
 
-test-model test-vendor test-vectors: test-%:
+test-scripts test-model test-vendor test-vectors: test-%:
 	$(step) tests/run $* $(OPTIONS_$*)
 
 fresh: ## try the README on a machine that has only the kit, as root

@@ -233,42 +233,6 @@ def test_library_without_the_tool(out: Path, prefix: Path, tmp_path: Path) -> No
     assert files_in(prefix) - files_in(tmp_path) == {"bin/amqp_show", "share/man/man1/amqp_show.1"}
 
 
-@pytest.mark.parametrize(
-    ("target", "program", "package"),
-    (
-        ("all", "cc", "gcc"),
-        ("lib", "ar", "binutils"),
-        ("lib", "cmake", "cmake"),
-        ("lib", "rt", "the Rattle toolchain"),
-        ("dist", "aarch64-linux-gnu-gcc", "gcc-aarch64-linux-gnu"),
-        ("deb", "dh", "debhelper"),
-        ("wheel", "readelf", "binutils"),
-        ("wheels", "aarch64-linux-gnu-ar", "binutils-aarch64-linux-gnu"),
-        ("web", "wasm-opt", "binaryen"),
-    ),
-)
-def test_missing_program_is_named_before_any_proof(tmp_path: Path, target: str, program: str, package: str) -> None:
-    (tmp_path / "bin").mkdir()
-    for it in Path("/usr/bin").iterdir():
-        if it.name != program:
-            (tmp_path / "bin" / it.name).symlink_to(it)
-    if program != "rt":
-        (tmp_path / "bin/rt").write_text(f"#!/bin/sh\n: >{tmp_path}/proved\n")
-        (tmp_path / "bin/rt").chmod(0o755)
-    done = run(["make", "-C", TOP, f"OUT={tmp_path}/out", target], env={"PATH": f"{tmp_path}/bin"})
-    assert done.returncode == 2
-    assert f"    {program}  ({package})\n" in done.stderr
-    assert not (tmp_path / "proved").exists()
-
-
-def test_cmake_alone_says_what_is_missing(tmp_path: Path) -> None:
-    """By a processor for which nothing was proved."""
-    system = ("-DCMAKE_SYSTEM_NAME=Linux", "-DCMAKE_SYSTEM_PROCESSOR=riscv64")
-    done = run(["cmake", "-S", TOP, "-B", tmp_path, *system])
-    assert done.returncode
-    assert "libamqp_c.a isn't there. 'make lib' proves and builds it" in " ".join(done.stderr.split())
-
-
 def test_page_is_made_of_what_make_has_proved(tmp_path: Path) -> None:
     for it in ("env", "git", "python3", "wasm-opt"):
         (tmp_path / it).symlink_to(f"/usr/bin/{it}")
