@@ -120,7 +120,7 @@ def test_tool(prefix: Path, alone: dict[str, Any]) -> None:
 
 @pytest.mark.parametrize(
     ("name", "latest"),
-    ((f"lib/lib{NAME}.so", "2.17"), ("lib/libamqp_values_rabbitmq.so", "2.17"), ("bin/amqp_show", "2.34")),
+    ((f"lib/lib{NAME}.so", "2.17"), ("lib/libamqp_values_rabbitmq.so", "2.34"), ("bin/amqp_show", "2.34")),
 )
 def test_glibc(prefix: Path, name: str, latest: str) -> None:
     """Nothing needs a later one than docs/PLATFORMS.md says."""
