@@ -52,7 +52,7 @@ test-show: ## test-NAME runs one suite over the proofs: show, wire, c, python, r
 $(SUITES:%=test-%): test-%: proofs
 	$(step) tests/run $(or $(NAME_$*),$*) $(OPTIONS_$*)
 
-mutants: proofs ## try mutants, which the prover must refuse (15 minutes; later only of what changed)
+mutants: proofs ## try mutants, which the prover must refuse (45 minutes; later only of what changed)
 	$(step) tests/mutants.py --built $(ALL)
 
 # What tests/run calls a suite, if it has another name there, and its options.
@@ -97,7 +97,7 @@ test: ## run the tests that need only the Rattle toolchain, python3, make and gi
 	$(call run,$(UNPROVED),$$(nproc))
 
 check: override WITHOUT := $(strip $(WITHOUT) $(if $(HAS_CRATE)$(filter crate,$(WITHOUT)),,crate))
-check: ## run everything else a change must pass (5 to 60 minutes; WITHOUT="broker crate" skips steps)
+check: ## run everything else a change must pass (an hour or two; WITHOUT="broker crate" skips steps)
 	$(needed)
 	$(call run,$(CHECKED),20)
 
