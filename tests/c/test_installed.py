@@ -206,13 +206,11 @@ def test_other_flags_build_anew(out: Path, tmp_path: Path) -> None:
     (tmp_path / "cmake").write_text(f'#!/bin/sh\necho "$*" >>{called}\n')
     (tmp_path / "cmake").chmod(0o755)
     env = {**os.environ, "PATH": f"{tmp_path}:{os.environ['PATH']}"}
-    flags = "CMAKE_FLAGS=-DCMAKE_INSTALL_LIBDIR=lib64"
+    one, other = "-DCMAKE_INSTALL_LIBDIR=lib64", "-DCMAKE_INSTALL_LIBDIR=lib32"
     called.touch()
-    for words, count in ((), 0), ((flags,), 1), ((flags,), 1), ((), 1):
-        assert_well(make(old, *words, env=env))
-        assert [it.split()[-1] for it in called.read_text().splitlines() if "-S . " in it] == [
-            flags.partition("=")[2]
-        ] * count
+    for flags, wanted in (("", []), (one, [one]), (one, [one]), (other, [one, other]), ("", [one, other])):
+        assert_well(make(old, *[f"CMAKE_FLAGS={flags}"] * bool(flags), env=env))
+        assert [it.split()[-1] for it in called.read_text().splitlines() if "-S . " in it] == wanted
 
 
 def test_build_that_fails_is_not_installed(out: Path, tmp_path: Path) -> None:
