@@ -2,7 +2,8 @@
 """Runs a command, and prints what it took to make something: packaging/measured.py NAME COMMAND..
 
 That is its time, the time that all its processes had on processors, and the most memory that they had together, which is
-looked at twice a second. A page that several of them share counts once. It ends with the status of the command.
+looked at twice a second, or less often if a look takes long. A page that several of them share counts once. It ends with the
+status of the command.
 """
 
 import os
@@ -34,8 +35,11 @@ def main() -> int:
 
     def look() -> None:
         nonlocal most
-        while not has_ended.wait(0.5):
+        pause = 0.5
+        while not has_ended.wait(pause):
+            looked = time.monotonic()
             most = max(most, memory())
+            pause = max(0.5, 20 * (time.monotonic() - looked))
 
     looking = threading.Thread(target=look, daemon=True)
     looking.start()
