@@ -23,7 +23,7 @@ FINDINGS = {
         "\npub fn more(x: u8) -> u8 {\n    return x;\n}\n",
     ),
     "shellcheck": ("packaging/pack", "\necho $nowhere\n"),
-    "codespell": ("README.md", "\nthe adress\n"),
+    "codespell": ("README.md", f"\nthe {'sserda'[::-1]}\n"),
     "conflict": ("LICENSE", f"\n{'<' * 7} HEAD\n"),
 }
 
