@@ -96,6 +96,6 @@ release: ## prove, test and make all of a release of HEAD, out/release
 	packaging/release $(filter --built,$(BUILT)) $(OUT)/release
 
 clean: ## remove what these targets made
-	rm -rf $(addprefix $(OUT)/,build lib aarch64 packed debian deb wheel web release steps mypy)
+	rm -rf $(addprefix $(OUT)/,build lib aarch64 packed debian deb wheel web release steps mypy clippy flags)
 
 .PHONY: help setup all lib install install-lib uninstall dist deb wheel wheels web rust release clean FORCE
