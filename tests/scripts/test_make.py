@@ -76,7 +76,7 @@ def test_measured(tmp_path: Path) -> None:
     done = run([measured, "something", "sh", "-c", "exit 7"])
     assert (done.returncode, done.stdout) == (7, "")
     said = assert_well(run([measured, "something", "sleep", "1"]))
-    assert re.fullmatch(r"something: 1 s on \d+ processors, 0 s of their time, at most \d+ MB\n", said)
+    assert re.fullmatch(r"something: [1-9]\d* s on \d+ processors, \d+ s of their time, at most \d+ MB\n", said)
 
 
 @pytest.fixture
