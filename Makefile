@@ -36,8 +36,8 @@ uninstall: ## remove what was installed last
 	@sed -n 's|^\(.*/amqp_values\)/.*|$(DESTDIR)\1|p' /dev/null $(MANIFESTS) | sort -u \
 	    | while read -r it; do [ ! -d "$$it" ] || find "$$it" -depth -type d -empty -delete; done
 
-# `built` is there only if a build ended well, and is as old as its begin: what changed since is built again. It has the version of
-# CMake that is needed.
+# `built` is there only if a build ended well, and is as old as its begin: what changed since is built again. By its text CMake
+# says whether it is new enough.
 SOURCES := $(shell find CMakeLists.txt CHANGELOG.md LICENSE THIRD-PARTY HANDLES crates.txt debian/changelog include c docs \
     examples/c packaging crates/amqp_c_alloc/malloc.c -type f -not -name '*.pyc') \
     $(shell find crates/*/src crates/*/specs crates/*/proofs)
@@ -65,8 +65,7 @@ FORCE:
 
 $(OUT)/build/built $(OUT)/lib/built $(OUT)/aarch64/built: $(SOURCES) $(if $(CMAKE_FLAGS),$(OUT)/flags)
 	@packaging/programs.py rt git cc ar cmake $(besides)
-	@mkdir -p $(@D) && rm -f $@ && touch $(@D)/begun
-	@grep '^cmake_minimum_required' CMakeLists.txt >$(@D)/begun && cmake -P $(@D)/begun
+	@mkdir -p $(@D) && rm -f $@ && grep '^cmake_minimum_required' CMakeLists.txt >$(@D)/begun && cmake -P $(@D)/begun
 	@rt version | grep -q '$(LOGIC)$$' || echo "make: rt isn't of a toolchain with the $(LOGIC): proofs may fail" >&2
 	packaging/measured.py '$(WHAT)' packaging/archives.py $(BUILT) $(LIBRARY) $(or $(TARGET),$(X86_64))
 	cmake -S . -B $(@D) $(FLAGS) $(CMAKE_FLAGS) && cmake --build $(@D)

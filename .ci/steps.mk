@@ -27,7 +27,7 @@ $(TESTED:%=%-tests): %-tests:
 	$(step) python3 -m tests.unproved tests $*
 
 # (make help shows this line for all of them)
-stored-output: ## one step of `make test`; the others are NAME-runs and NAME-tests of each crate that has such
+stored-output: ## run one step of `make test`; the others are NAME-runs, of a program, and NAME-tests, of a crate with tests
 	$(step) python3 -m tests.model.stored_output
 
 docs: ## compare the pages with the sources (10 seconds)
@@ -67,7 +67,7 @@ OPTIONS_counts = --built
 OPTIONS_web = --built $(SEED)
 OPTIONS_rust = --built $(SEED)
 OPTIONS_broker = --built --tables $(TABLES)
-# What these options are, unless `make whole` says it on the command line: nothing in the environment narrows a step.
+# The defaults of these options. `make whole` gives others on the command line; the environment can't change them.
 ANEW =
 SEED =
 ROOT =
@@ -101,7 +101,7 @@ check: ## run everything else a change must pass (an hour or two; WITHOUT="broke
 	$(needed)
 	$(call run,$(CHECKED),20)
 
-# Nothing is carried over, also by an `rt ci` that keeps proofs and has the option --anew; and what is random is another in each run.
+# Nothing is kept from earlier runs (a toolchain whose `rt ci` keeps proofs has --anew), and random inputs differ in each run.
 whole: MORE = ANEW=yes SEED=--random ROOT=--root ALL=--all TABLES='10000 --rabbitmq=3.10.8 --rabbitmq=4.0.5'
 whole: ## run everything from nothing, as root, before a release (some hours)
 	$(if $(HAS_CRATE)$(filter crate,$(WITHOUT)),,$(error $(NO_CRATE) (WITHOUT=crate skips its step)))

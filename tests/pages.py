@@ -4,7 +4,7 @@
 What a page names exists: files, links, functions, definitions, clauses, targets of make, suites. Code that a page quotes is in
 a source file. No page, comment or message has a word of this project's own. docs/PROMISES.md names each clause of a public
 call. Each public function of a library has a mutant (tests/mutants.py). Each call that may run out of memory is made with much. A
-crate uses only what is below it, and no module one that uses it. Each test is in a suite that `make check` runs. No source makes up that memory ran out
+crate uses only what is below it, and no module one that uses it. No source makes up that memory ran out
 (tests/memory/made_up.py). Numbers that are repeated are those of where they are made (tests/figures.py). Other suites run the
 commands that pages show.
 """
@@ -560,21 +560,9 @@ def not_with_much() -> Iterator[str]:
         yield f"tests/pages.py: {path} isn't a call that may run out of memory: take it out of NOT_MADE or WITH_LESS"
 
 
-def stepless() -> Iterator[str]:
-    """Yields the modules of tests that no step of `make check` runs."""
-    said = subprocess.run(["make", "-n", "check"], cwd=TOP, capture_output=True, text=True, check=True).stdout
-    (steps,) = re.findall(r"\.ci/count\.py out/steps \$begun (.*)", said)
-    lines = subprocess.run(["make", "-n", *steps.split()], cwd=TOP, capture_output=True, text=True, check=True).stdout
-    run = {*re.findall(r"tests/run (\S+)", lines)} | {"oracle"}  # (needs the Rust crate)
-    for it in files("tests/**/test_*.py"):
-        folder, module = it.parent.name, it.stem.removeprefix("test_").replace("_", "-")
-        if not {folder, f"{folder}/{module}"} & run:
-            yield f"{it.relative_to(TOP)}: no step of .ci/steps.mk runs it: name {folder} in SUITES"
-
-
 def main() -> int:
     checks = [missing, wrong_lengths, misquoted, private, unlisted, wrong_clauses, untried, uncalled, allocating]
-    checks += [not_with_much, wrong_figure, circular, stepless, made_up.faults, figures.faults]
+    checks += [not_with_much, wrong_figure, circular, made_up.faults, figures.faults]
     found = [[*check()] for check in checks]
     print("".join(f"{it}\n" for wrong in found for it in wrong), end="")
     failed = sum(map(bool, found))

@@ -9,7 +9,7 @@ from building import copy_repository
 
 from tests.checks import Done, run
 
-# What the file `failing` has a line for ends as that says; all else passes two tests. Each prints how it was called.
+# A call that the file `failing` names ends as its line says; every other one passes two tests. Each prints how it was called.
 STAND_IN = """\
 echo "called: $*"
 echo "environment: ${PYTEST_ADDOPTS-}${PYTHONOPTIMIZE-}"

@@ -8,7 +8,7 @@ from pathlib import Path
 import pytest
 from dependencies import TOP, Crates
 
-from tests.scripts.standing_in import SCRIPTS, Copy, copied
+from tests.scripts.standing_in import Copy, copied
 
 HOW = (
     "a test fails",
@@ -19,7 +19,7 @@ HOW = (
     "it can't be started",
     "an edit doesn't apply",
 )
-# What `make check` runs besides suites of tests, of which tests/pages.py knows that each has a step.
+# What `make check` runs besides suites of tests.
 OTHERS = {"proofs", "docs", "lint", "mutants"}
 
 
@@ -35,10 +35,9 @@ def nothing_fails(copy: Copy) -> Iterator[None]:
     (copy.top / "failing").write_text("")
 
 
-def steps_of(target: str) -> list[str]:
-    """The steps of the repository's own target."""
-    here = Copy(TOP, Path("/usr/bin"))
-    return [*here.steps(target)]
+def steps_of(target: str) -> dict[str, str]:
+    """The steps of the repository's own target, and how each is called."""
+    return Copy(TOP, Path("/usr/bin")).steps(target)
 
 
 @pytest.mark.parametrize("target", ("test", "check", "whole"))
@@ -60,6 +59,13 @@ def test_steps() -> None:
     tested = {it.relative_to(TOP).parts[1] for it in TOP.glob("crates/*/src/**/*.rt") if "#[test]" in it.read_text()}
     assert programs and tested
     assert {*steps_of("test")} == {*programs, *(f"{it}-tests" for it in tested), "stored-output"}
+
+
+def test_each_module_of_tests_has_a_step() -> None:
+    run = {it.split()[1] for it in steps_of("check").values() if it.startswith("run ")}
+    run |= {"oracle"}  # which needs the Rust crate
+    modules = {it: it.stem.removeprefix("test_").replace("_", "-") for it in TOP.glob("tests/**/test_*.py")}
+    assert [it for it, name in modules.items() if not {it.parent.name, f"{it.parent.name}/{name}"} & run] == []
 
 
 def failures(target: str) -> Iterator[tuple[str, str, str]]:
@@ -133,7 +139,6 @@ def test_logs_that_stay_arent_counted(copy: Copy) -> None:
 @pytest.mark.parametrize("target", ("check", "whole"))
 @pytest.mark.parametrize("missing", ("logic", "programs"))
 def test_what_is_missing_is_named_first(copy: Copy, target: str, missing: str) -> None:
-    assert ".ci/setup" in SCRIPTS
     logic = (copy.top / "logic").read_text()
     if missing == "logic":
         (copy.top / "logic").write_text("a kit logic 0123456789abcdef\n")
