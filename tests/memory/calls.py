@@ -24,7 +24,7 @@ FAILED = {
     **dict.fromkeys(("try_copy", "from_entries", "next", "to_json"), "OutOfMemory"),
     "message": "Parser error: OutOfMemory",
 }
-IN_PLACE = "read_in_place read_in_place_unlimited read_table_in_place".split()
+IN_PLACE = "read_in_place read_in_place_unlimited read_table_in_place warnings warnings_in_table".split()
 # The words of the errors, for requests that make calls of several kinds.
 MIXED = {
     **dict.fromkeys(IN_PLACE, "AllocError"),

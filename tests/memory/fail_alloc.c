@@ -4,12 +4,13 @@
  * standard error, or of all if FAIL_ANYWHERE is set. It fails the call of read on standard input whose
  * number is FAIL_READ, and the call of write on standard output whose number is FAIL_WRITE, with the
  * error FAIL_WITH; if that is 0 the call moves nothing. If ONE_BYTE is set, no such call moves more than
- * one byte. At the end it writes the numbers of allocations, reads and writes, and of bytes in all those
- * allocations, to the descriptor COUNTS_TO.
+ * one byte. At the end it writes the numbers of allocations, reads and writes, of bytes in all those
+ * allocations, and of blocks that were allocated anywhere and never freed, to the descriptor COUNTS_TO.
  *
  * If EACH_LINE is set, allocations are counted anew for each line on standard output, and one fails in each:
- * FAIL_ALLOC has a number for every line. Each line comes after its number of allocations and the number of
- * bytes in the allocations between a `begin` and its `end`, where that is greatest.
+ * FAIL_ALLOC has a number for every line. Each line comes after its number of allocations, the number of
+ * bytes in the allocations between a `begin` and its `end`, where that is greatest, and the number of blocks
+ * that the program holds when it writes the line.
  */
 #define _GNU_SOURCE
 #include <dlfcn.h>
@@ -20,7 +21,7 @@
 #include <string.h>
 #include <unistd.h>
 
-static long allocations, fail_alloc, reads, writes, fail_read, fail_write;
+static long allocations, fail_alloc, reads, writes, fail_read, fail_write, held;
 static size_t bytes_allocated, most_allocated;
 static int inside, counts_to = -1, fail_with, one_byte, each_line, is_in_line;
 static char *numbers = "";
@@ -43,7 +44,8 @@ __attribute__((constructor)) static void start(void) {
 }
 
 __attribute__((destructor)) static void stop(void) {
-    if (counts_to >= 0) dprintf(counts_to, "%ld %ld %ld %zu\n", allocations, reads, writes, bytes_allocated);
+    if (counts_to < 0) return;
+    dprintf(counts_to, "%ld %ld %ld %zu %ld\n", allocations, reads, writes, bytes_allocated, held);
 }
 
 static int alloc_fails(size_t n) {
@@ -56,7 +58,7 @@ static int alloc_fails(size_t n) {
 /* A line may be written in pieces. */
 static void write_counts(const char *piece, size_t n) {
     if (!is_in_line) {
-        dprintf(1, "%ld %zu\n", allocations, most_allocated);
+        dprintf(1, "%ld %zu %ld\n", allocations, most_allocated, held);
         allocations = most_allocated = 0;
         fail_alloc = strtol(numbers, &numbers, 10);
     }
@@ -68,22 +70,32 @@ static int io_fails(int is_the_one) {
     return is_the_one;
 }
 
-#define REAL(name, ...) \
+#define REAL(name) \
     static __typeof__(name) *real; \
-    if (!real) real = (__typeof__(name) *)dlsym(RTLD_NEXT, #name); \
-    return real(__VA_ARGS__)
+    if (!real) real = (__typeof__(name) *)dlsym(RTLD_NEXT, #name)
 
 void *malloc(size_t n) {
-    if (alloc_fails(n)) return NULL;
-    REAL(malloc, n);
+    REAL(malloc);
+    void *block = alloc_fails(n) ? NULL : real(n);
+    held += block != NULL;
+    return block;
 }
 void *realloc(void *p, size_t n) {
-    if (alloc_fails(n)) return NULL;
-    REAL(realloc, p, n);
+    REAL(realloc);
+    void *block = alloc_fails(n) ? NULL : real(p, n);
+    held += block != NULL && p == NULL;
+    return block;
 }
 void *aligned_alloc(size_t a, size_t n) {
-    if (alloc_fails(n)) return NULL;
-    REAL(aligned_alloc, a, n);
+    REAL(aligned_alloc);
+    void *block = alloc_fails(n) ? NULL : real(a, n);
+    held += block != NULL;
+    return block;
+}
+void free(void *p) {
+    REAL(free);
+    held -= p != NULL;
+    real(p);
 }
 
 ssize_t write(int fd, const void *bytes, size_t n) {
@@ -93,11 +105,13 @@ ssize_t write(int fd, const void *bytes, size_t n) {
     if (fd == 1 && each_line) write_counts(bytes, n);
     if (fd == 1 && io_fails(++writes == fail_write)) return fail_with ? -1 : 0;
     if (fd == 1 && one_byte && n > 1) n = 1;
-    REAL(write, fd, bytes, n);
+    REAL(write);
+    return real(fd, bytes, n);
 }
 
 ssize_t read(int fd, void *bytes, size_t n) {
     if (fd == 0 && io_fails(++reads == fail_read)) return fail_with ? -1 : 0;
     if (fd == 0 && one_byte && n > 1) n = 1;
-    REAL(read, fd, bytes, n);
+    REAL(read);
+    return real(fd, bytes, n);
 }

@@ -15,6 +15,8 @@ from tests.transcripts import Ending, cases
 
 Words = Sequence[str | Path]
 
+# When test_calls writes an answer it holds two blocks: the text of all requests, and the answer.
+HELD = 2
 # Allocating functions that fail_alloc.c doesn't wrap.
 NOT_WRAPPED = [b"calloc", b"memalign", b"posix_memalign", b"valloc", b"reallocarray", b"mmap", b"sbrk"]
 
@@ -30,21 +32,25 @@ def program(name: str) -> Path:
 
 
 class Run(NamedTuple):
-    """How a run ended, and the numbers of its allocations, reads and writes, and of the bytes that it asked for."""
+    """How a run ended, and the numbers of its allocations, reads and writes, of the bytes that it asked for, and of the blocks
+    that it leaked."""
 
     ending: Ending
     allocations: int
     reads: int
     writes: int
     asked: int
+    leaked: int
 
 
 class Line(NamedTuple):
-    """How a request is answered, the number of its allocations, and the most bytes that one of its calls asked for."""
+    """How a request is answered, the number of its allocations, the most bytes that one of its calls asked for, and the number
+    of blocks that it leaked."""
 
     said: str
     allocations: int
     asked: int
+    leaked: int
 
 
 class Preloaded(NamedTuple):
@@ -53,13 +59,19 @@ class Preloaded(NamedTuple):
     library: Path
 
     def run(self, words: Words, given: bytes = b"", **how: str) -> Run:
-        """Runs a program."""
+        """Runs a program, which frees all that it allocates."""
+        run = self.counted(words, given, **how)
+        assert run.leaked == 0, f"{Path(words[0]).name} leaks blocks: {run.leaked}"
+        return run
+
+    def counted(self, words: Words, given: bytes = b"", **how: str) -> Run:
+        """Runs a program, which may leak."""
         reads, writes = os.pipe()
         env = {"LD_PRELOAD": str(self.library), "COUNTS_TO": str(writes), **how}
         done = subprocess.run(words, input=given, env=env, pass_fds=[writes], capture_output=True, timeout=300)
         os.close(writes)
         with os.fdopen(reads) as counts:
-            numbers = counts.read().split() or ["-1"] * 4
+            numbers = counts.read().split() or ["-1"] * 5
         return Run(Ending(done.stdout, done.stderr, done.returncode), *map(int, numbers))
 
     def each_failed(self, words: Words, given: bytes = b"", **how: str) -> Iterator[tuple[int, Run]]:
@@ -75,11 +87,15 @@ class Preloaded(NamedTuple):
         if not requests:
             return []
         how = {"EACH_LINE": "1", "FAIL_ALLOC": " ".join(map(str, failing or []))}
-        out = self.run(words, "".join(f"{it}\n" for it in requests).encode(), **how).ending.out.decode().splitlines()
+        given = "".join(f"{it}\n" for it in requests).encode()
+        out = self.counted(words, given, **how).ending.out.decode().splitlines()
+        lines, before = [], HELD
         # (after its lines the program prints how many there were)
-        return [
-            Line(it.partition(" => ")[2], *map(int, n.split())) for n, it in zip(out[:-2:2], out[1:-2:2], strict=True)
-        ]
+        for counts, said in zip(out[:-2:2], out[1:-2:2], strict=True):
+            allocations, asked, held = map(int, counts.split())
+            lines.append(Line(said.partition(" => ")[2], allocations, asked, held - before))
+            before = held
+        return lines
 
 
 class Stored(NamedTuple):

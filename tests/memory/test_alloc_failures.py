@@ -3,7 +3,8 @@
 Each request of crates/test_calls is made with its first allocation failing, then with its second, and so on. Only allocations of its
 calls count. The call whose allocation fails returns the error that calls.py has for it and leaves all unchanged, and all else is
 answered as the row says. A call that calls.py has no error for allocates nothing. The others request at most so many bytes as calls.py
-says for the bytes of their request, and those of JSON as docs/JSON.md says.
+says for the bytes of their request, and those of JSON as docs/JSON.md says. Of all that a request allocated, whether it failed or
+not, only its answer is left when that is printed, and each program frees everything before it ends.
 
 amqp_wire runs so over its stored input, examples over a short stream, amqp_show on some cases; and all, amqp_show in each
 of its forms, have too little address space for a long string. The reads and writes of a run of each program fail
@@ -56,11 +57,13 @@ def test_row(row: Row, lines: dict[str, Line], preloaded: Preloaded, failed: Cou
     line = lines[row.place]
     assert (line.said, line.allocations > 0 and not row.error()) == (row.answer, False)
     assert line.asked <= row.most_asked()
+    assert line.leaked == 0
     failing, over = numbers(line.allocations), 0
     for n, line in zip(failing, preloaded.lines([program(CALLS)], [row.request] * len(failing), failing)):
         how = f"allocation {n} of {row.request} fails: {line.said}"
         assert n <= line.allocations and line.asked <= row.most_asked(), how
         assert row.allows(line.said) or line.said == row.answer, how
+        assert line.leaked == 0, how
         over += line.said == row.answer
     failed["allocations"] += len(failing)
     assert over <= row.most_over()

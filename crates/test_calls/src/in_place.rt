@@ -1,14 +1,16 @@
 //! Requests to read in place: `CALL BYTES`, of `read_in_place`, `skip_value`, `canonical_len` and
-//! their variants, and of `json_of_encoding`. `lookups` has those on the value that is read.
+//! their variants, of `json_of_encoding`, and of `warnings` and `warnings_in_table`. `lookups` has those on the value
+//! that is read.
 //!
 //! Each is answered without limits. Then it is asked with each small limit: a frame of some bytes more than the input,
 //! and then fewer, and a depth of a few levels, and then fewer. The answer names the limits at which it changes, as in
 //! `ok [[]]; frame 9 error TooLarge; depth 1 error Eof`: with 8 bytes it is as with 9, and with no level as with one.
 
 use super::parse::{error_text, with_rest};
-use super::values::Word;
+use super::values::{Word, push_some};
 use super::words::{WIDE, bytes_of, named, plain, shown};
 use super::{Answer, Trouble, json};
+use amqp_in_place::rabbitmq::{CLIENT_LEVELS, Warned, warnings, warnings_in_table};
 use amqp_in_place::{
     Limits, canonical_len, canonical_table_len, is_canonical, is_canonical_table, read_in_place,
     read_in_place_unlimited, read_table_in_place, skip_value,
@@ -98,6 +100,14 @@ fn within(rt: &HostRuntime, alloc: Global, call: &str, bytes: &[u8], limits: Lim
             canonical(alloc, len, call!(rt; is_canonical_table(bytes, limits)))
         }
         "json_of_encoding" => json::of_encoding(rt, alloc, bytes, limits),
+        "warnings" => warned(
+            alloc,
+            call!(rt; warnings(alloc, bytes, limits, 0, CLIENT_LEVELS)),
+        ),
+        "warnings_in_table" => warned(
+            alloc,
+            call!(rt; warnings_in_table(alloc, bytes, limits, 0, CLIENT_LEVELS)),
+        ),
         _ => Err(Trouble::Unknown),
     }
 }
@@ -112,4 +122,20 @@ fn copied<T: Word + Drop>(alloc: Global, copy: Result<T, AllocError>, rest: &[u8
 
 fn canonical(alloc: Global, len: Option<usize>, is_whole: bool) -> Answer {
     Ok(format!(in alloc; "{len:?} {is_whole}")?)
+}
+
+/// The offsets that a call warns of, each after what is there.
+fn warned(alloc: Global, returned: Result<Warned, AllocError>) -> Answer {
+    let it = match returned {
+        Ok(it) => it,
+        Err(error) => return named(alloc, error),
+    };
+    let mut text = plain(alloc, "warned")?;
+    push_some(&mut text, "repeated_key", it.repeated_key)?;
+    push_some(&mut text, "key_not_utf8", it.key_not_utf8)?;
+    push_some(&mut text, "empty_key", it.empty_key)?;
+    push_some(&mut text, "too_deep", it.too_deep)?;
+    push_some(&mut text, "decimal", it.decimal)?;
+    push_some(&mut text, "nested_header", it.nested_header)?;
+    Ok(text)
 }
