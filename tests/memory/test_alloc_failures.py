@@ -24,7 +24,7 @@ from pathlib import Path
 from typing import NamedTuple
 
 import pytest
-from dependencies import TOP
+from dependencies import TOP, kit
 
 from tests.checks import within
 from tests.memory.calls import CALLS, Row, numbers, rows
@@ -278,6 +278,24 @@ def test_last_byte_fails(name: str, error: int, preloaded: Preloaded, failed: Co
     failed[WRITE.name] += 1
     assert ended.out == stored.wants.out[:-1]
     assert_ended_by(ended, name, WRITE, error)
+
+
+def kinds_of_the_kit() -> list[str]:
+    """The names of all kinds of faults, in the kit's order."""
+    found = re.search(r"pub enum ErrorKind \{(.*?)\}", (kit() / "rattle/std_io/src/io/kind.rt").read_text(), re.DOTALL)
+    assert found, "the kit has no ErrorKind there"
+    return re.findall(r"\w+", found[1])
+
+
+def test_kinds_of_faults() -> None:
+    """The devices of test_calls may fail with each of the kit's kinds, and in some row a generator and a reader return it."""
+    kinds = kinds_of_the_kit()
+    listed = re.findall(r"\(\"(\w+)\", ErrorKind::(\w+)\)", (TOP / f"crates/{CALLS}/src/words.rt").read_text())
+    assert listed == [(it, it) for it in kinds]
+    written = {found for it in ROWS for found in re.findall(r"^gen_long_uint each:(\w+) ", it.request)}
+    assert written == {*kinds}
+    read = {found for it in ROWS for found in re.findall(r"\bRead\((\w+)\)", it.answer)}
+    assert read == {*kinds}
 
 
 @on_devices
