@@ -18,7 +18,7 @@ COPIES = "clone clone_held clone_flags long_string byte_array try_from from_pair
 # leaves what was there. All other calls allocate nothing.
 FAILED = {
     **dict.fromkeys([f"parse_{it}" for it in READ + WITHIN], "failure OutOfMemory"),
-    **dict.fromkeys(("wire", "wire_as", "wire_sizes"), "failure OutOfMemory"),
+    **dict.fromkeys(("wire", "wire_as", "wire_sizes", "split_value"), "failure OutOfMemory"),
     **dict.fromkeys(("push", "insert", "place", "add_flag"), "AllocError {0}"),
     **dict.fromkeys((*COPIES, "repeated_key"), "AllocError"),
     **dict.fromkeys(("try_copy", "from_entries", "next", "to_json"), "OutOfMemory"),

@@ -1,1 +1,1 @@
-"""Tests that crates can be copied into another repository."""
+"""Tests that crates can be copied into another repository, and that calls which must not compile are refused there."""

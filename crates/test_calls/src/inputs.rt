@@ -1,21 +1,44 @@
 //! Requests on `SplitInput`, an input of two slices: `input N BYTES BYTES` splits it at N. The
-//! bytes in one slice have to be the same.
+//! bytes in one slice have to be the same. `split_value BYTES BYTES` has the value that `parse_value` reads of two
+//! slices, and what it leaves of each.
 
-use super::words::{bytes_of, digits, number};
+use super::parse::error_text;
+use super::values::Word;
+use super::words::{bytes_of, digits, number, ok};
 use super::{Answer, Trouble};
 use amq_protocol_types::parsing::traits::ParsableInput;
-use amq_protocol_types::parsing::{SliceInput, SplitInput};
+use amq_protocol_types::parsing::{SliceInput, SplitInput, parse_value};
 use std::alloc::Global;
 
+/// What is answered of an input of two slices.
+pub fn answer(rt: &HostRuntime, alloc: Global, call: &str, words: &[&str]) -> Answer {
+    match (call, words) {
+        ("input", [place, word, other]) => input(alloc, *place, *word, *other),
+        ("split_value", [word, other]) => split_value(rt, alloc, *word, *other),
+        _ => Err(Trouble::Unknown),
+    }
+}
+
+/// The value at the start of two slices, and the bytes after it, each in its slice.
+fn split_value(rt: &HostRuntime, alloc: Global, word: &str, other: &str) -> Answer {
+    let (first, second) = (bytes_of(alloc, word)?, bytes_of(alloc, other)?);
+    let input = SplitInput::new(first.as_slice(), second.as_slice());
+    match call!(rt; parse_value(alloc, input)) {
+        Ok((rest, value)) => {
+            let mut text = ok(alloc, value.word(alloc)?.as_str())?;
+            push_parts(alloc, &mut text, "rest ", rest)?;
+            Ok(text)
+        }
+        Err(error) => error_text(alloc, error),
+    }
+}
+
 /// The length, the byte at N, the bytes before it and from it on, each in its slice, and the chunk.
-pub fn answer(_rt: &HostRuntime, alloc: Global, call: &str, words: &[&str]) -> Answer {
-    let ("input", [place, word, other]) = (call, words) else {
-        return Err(Trouble::Unknown);
-    };
-    let mut whole = bytes_of(alloc, *word)?;
+fn input(alloc: Global, place: &str, word: &str, other: &str) -> Answer {
+    let mut whole = bytes_of(alloc, word)?;
     let cut = whole.len();
-    whole.extend_from_slice(bytes_of(alloc, *other)?.as_slice())?;
-    split(alloc, number(*place)?, whole.as_slice(), cut)
+    whole.extend_from_slice(bytes_of(alloc, other)?.as_slice())?;
+    split(alloc, number(place)?, whole.as_slice(), cut)
 }
 
 fn split(alloc: Global, place: usize, whole: &[u8], cut: usize) -> Answer {
