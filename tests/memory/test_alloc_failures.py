@@ -69,6 +69,15 @@ def test_row(row: Row, lines: dict[str, Line], preloaded: Preloaded, failed: Cou
     assert over <= row.most_over()
 
 
+@pytest.mark.needs("valgrind")
+def test_rows_under_valgrind() -> None:
+    """By valgrind's count too nothing is left of all the requests, and no memory is used that isn't allocated."""
+    words = ["valgrind", "--quiet", "--leak-check=full", "--show-leak-kinds=all", "--errors-for-leak-kinds=all"]
+    given = "".join(f"{it.request}\n" for it in ROWS).encode()
+    done = subprocess.run([*words, "--error-exitcode=9", program(CALLS)], input=given, capture_output=True)
+    assert done.returncode == 0, "\n".join(re.findall(r"(?m)^==.*", done.stderr.decode()))
+
+
 @pytest.mark.parametrize("stored", RUNS.values(), ids=RUNS)
 def test_stored_run(stored: Stored, preloaded: Preloaded, failed: Counter[str]) -> None:
     name, recovered = stored.words[0], 0
