@@ -11,6 +11,7 @@ from typing import Any
 
 import pytest
 
+from tests import large_texts
 from tests.c import c_api
 from tests.c.c_api import ANY_KEYS, FIRST_KEY, INVALID, NONE, NOWHERE, OK, RABBITMQ, STREAMS, UNTAGGED
 from tests.model.json_format import LEVELS, Rejected, json_of, some_value, text_for, texts, value_of_json
@@ -519,6 +520,17 @@ def test_texts_that_may_mean_none(seed: int) -> None:
         assert found == meant(text, nesting), (text, nesting)
         results[found[0]] += 1
     assert len(results) == 5 and min(results.values()) > 25, results
+
+
+def test_large_texts_that_mean_none() -> None:
+    results = {
+        large_texts.NOT_JSON: c_api.NOT_JSON,
+        large_texts.TOO_DEEP: c_api.TOO_DEEP,
+        large_texts.NOT_A_VALUE: c_api.NOT_A_VALUE,
+        large_texts.NOT_UTF8: c_api.NOT_UTF8,
+    }
+    for text, wrong, at in large_texts.wrong_texts():
+        assert c_api.from_json(text, 1) == (results[wrong], 0, (at, 0, 0)), (text[:9], len(text))
 
 
 @pytest.mark.parametrize("depth", (1, 2, LEVELS - 1, LEVELS, LEVELS + 1, LEVELS + 2))

@@ -13,6 +13,7 @@ from typing import Any
 import amqp_values as own
 import pytest
 
+from tests import large_texts
 from tests.model.json_format import LEVELS, SPACE, Rejected, json_of, large_values, some_value, text_for, texts
 from tests.model.json_format import value_of_json
 from tests.model.encoding import field, read, write
@@ -84,6 +85,15 @@ def test_texts_that_may_mean_none(seed: int) -> None:
         elif not wanted:
             assert own.from_json(text, **how) == write(value_of_json(text))[is_table:]
     assert len(kinds) == 6 and min(kinds.values()) > 25, kinds
+
+
+def test_large_texts_that_mean_none() -> None:
+    kinds = {large_texts.NOT_UTF8: "text not UTF-8"}
+    for text, wrong, at in large_texts.wrong_texts():
+        assert own_error(lambda: own.from_json(text, depth=1)) == (kinds.get(wrong, wrong), at, 0), (
+            text[:9],
+            len(text),
+        )
 
 
 def test_messages() -> None:

@@ -7,6 +7,7 @@ from random import Random
 
 import pytest
 
+from tests import large_texts
 from tests.model.json_format import LEVELS, SPACE, Rejected, json_of, large_values, texts, value_of_json
 from tests.model.encoding import TYPES, extent, lack, read, write
 from tests.model.inputs import damaged, nested, value_of
@@ -66,10 +67,18 @@ def rows(make: Random) -> Iterator[Row]:
             yield of_text(json_of(read(data)[0]).encode(), 2**32 - 1, False)
 
 
+def large_rows() -> Iterator[Row]:
+    """Texts that are wrong beyond byte 65,536, and beyond 1 MiB. (A str is UTF-8.)"""
+    kinds = {large_texts.NOT_JSON: "NotJson", large_texts.TOO_DEEP: "TooDeep", large_texts.NOT_A_VALUE: "NotAValue"}
+    for text, wrong, at in large_texts.wrong_texts():
+        if wrong in kinds:
+            yield f"from_json 1 {text.hex()}", problem(kinds[wrong], at)
+
+
 def test_json(copies: Path, seed: int) -> None:
     folder = package("json", [f'amqp-values = {{ path = "{copies / CRATES[1]}" }}'], json="json")
     assert_well(cargo(folder, "build", "--release", "--quiet"))
-    asked = [*rows(Random(seed))]
+    asked = [*rows(Random(seed)), *large_rows()]
     given = "".join(f"{it}\n" for it, _ in asked)
     said = assert_well(run([TARGET / "release/json"], input=given, timeout=300)).splitlines()
     wrong = [(it, wanted, found) for (it, wanted), found in zip(asked, said, strict=True) if found != wanted]

@@ -8,6 +8,7 @@ use Rattle.amqp_json.specs.declared.error.JsonError.{JsonError}
 use Rattle.amqp_json.specs.declared.error.JsonError.TheVariants as json
 use Rattle.amqp_json.specs.Conversions.{IsJsonOf}
 use Rattle.amqp_json.specs.Meaning.{most_levels, json_within, meant_within}
+use Rattle.amqp_json.specs.Nesting.{IsTooDeepAt}
 use Rattle.amqp_json.specs.Written.{counted}
 use Rattle.amqp_c.specs.declared.fault.Fault.{Fault}
 use Rattle.amqp_c.specs.declared.fault.Fault.TheVariants.{TooDeep, NotUtf8, NotJson, NotAValue, NoEncoding, Invalid, NoRoom, NoMemory}
@@ -55,14 +56,13 @@ abbrev pub IsEncodingPut : ℕ → List ℕ → List ℕ → List ℕ → ℕ �
 IsEncodingPut most t old new n = (v : Tree) × IsTextOf most t v × IsReadAs (text v) v × IsPutAtStart (text v) old new n
 
 -- what is wrong with a text of which at most `most` arrays and objects may be open at once: it isn't UTF-8, from the
--- byte `at` on, at which no character begins; or it is, and means nothing within the limit; or it isn't JSON, or means
--- nothing, however deep it may nest. So a text that means a value, but nests deeper, is too deep; of one that is wrong
--- elsewhere too, the clauses allow either fault
+-- byte `at` on, at which no character begins. Or it is, and opens one too many at `at` before anything else is wrong with
+-- it. Or it doesn't, and isn't JSON, or means nothing, however deep it may nest
 abbrev pub IsTextFault : ℕ → List ℕ → Fault → ℕ → Type 0
 IsTextFault most t NotUtf8 at = IsValidUpTo t at
-IsTextFault most t TooDeep at = IsUtf8 t × (meant_within most t ≡ None)
-IsTextFault most t NotJson at = IsUtf8 t × ((levels : ℕ) → most ≤ levels → json_within levels t ≡ None)
-IsTextFault most t NotAValue at = IsUtf8 t × ((levels : ℕ) → most ≤ levels → meant_within levels t ≡ None)
+IsTextFault most t TooDeep at = IsUtf8 t × (meant_within most t ≡ None) × IsTooDeepAt most t at
+IsTextFault most t NotJson at = IsUtf8 t × ((levels : ℕ) → most ≤ levels → json_within levels t ≡ None) × ((byte : ℕ) → IsTooDeepAt most t byte → ⊥)
+IsTextFault most t NotAValue at = IsUtf8 t × ((levels : ℕ) → most ≤ levels → meant_within levels t ≡ None) × ((byte : ℕ) → IsTooDeepAt most t byte → ⊥)
 IsTextFault most t _ at = ⊥
 
 -- why there is no encoding of a text that isn't rejected, for a buffer of that many bytes: the encoding has more,

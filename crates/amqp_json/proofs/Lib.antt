@@ -1,11 +1,13 @@
 -- Lemmas on the JSON of values. A folder is for a module of src/, and has the proofs of its functions.
 
 -- reading a text
+pub mod Levels
 pub mod Integers
 pub mod ObjectKeys
 pub mod MeantContainers
 pub mod Refusals
 pub mod PutEncodings
+pub mod Scanning
 pub mod Encodings
 -- writing one
 pub mod Escapes

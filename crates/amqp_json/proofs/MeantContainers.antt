@@ -1,8 +1,12 @@
 -- What an array or an object means (`array_of`, `object_meant`), item by item, member by member.
-use Rattle.std.proofs.Common.{◌≡◌, ℕ, zero, suc, ◌-◌, ◌<◌, ◌≤◌, List, ◌∷◌, length, false, Option, Some, None, option_map, option_and_then, refl, sym, ap, ◌∙◌, arith}
+use Rattle.std.proofs.Common.{◌≡◌, ℕ, zero, suc, ◌-◌, ◌<◌, ◌≤◌, List, ◌∷◌, ◌++◌, length, false, Option, Some, None, option_map, option_and_then, refl, sym, ap, ◌∙◌, arith}
 use Rattle.json.specs.Token.{Token, key}
 use Rattle.json.specs.Json as json
 use Rattle.json.specs.Json.{Parse, parse_map, after_end_array, read_key, items_step, items, members}
+use Rattle.json.specs.Tree.{json_tokens, depth as json_depth}
+use Rattle.json.proofs.Nesting.{value-depth}
+use Rattle.json.proofs.Printed.Trees.{value-json_tokens}
+use Rattle.json.proofs.Unique.Spelling.{value-json_tokens_back}
 use Rattle.json.proofs.Grammar.{value-begin_array, value-begin_object, items_end, items_more, members_more, read_key_is}
 use Rattle.amqp_value_core.specs.Values.{Tree, array, no_trees, tree, Entries, no_entries, entry}
 use Rattle.amqp_json.specs.Meaning.{is_type_key, entry_key, with_entry, meaning, meanings, pairs_of, object_of, table_of}
@@ -21,7 +25,7 @@ converted_some f None b r e = absurd (cc)
 converted_some f (Some p) b r e = let both = found p.0 p.1 r (f p.0) b e in (p.0, ap (λ s. Some (p.0, s)) both.0, both.1)
 
 -- nothing is converted from what is read
-none_of : {B : Type 0} (r : List Token) (x : Option B) → option_map {U = B × List Token} (λ y. (y, r)) x ≡ None → x ≡ None
+pub none_of : {B : Type 0} (r : List Token) (x : Option B) → option_map {U = B × List Token} (λ y. (y, r)) x ≡ None → x ≡ None
 none_of r None e = refl
 none_of r (Some y) e = absurd (cc)
 
@@ -162,3 +166,14 @@ object_is d s some = ap (converted meaning) (value-begin_object d s some) ∙ co
 pub table_is : (d : ℕ) (s mid : List Token) (o : Option (List ℕ)) → ((k : List ℕ) → o ≡ Some k → is_type_key k ≡ false) → read_key s ≡ Some (o, mid)
     → converted object_meant (members_at d s) ≡ parse_map table_of (converted pairs_of (members_at d (next_token o ∷ mid)))
 table_is d s mid o plain first = ap (λ ts. converted object_meant (members_at d ts)) (next_is s o mid first) ∙ table_first (json.value d) o mid plain
+
+-- ---- a value in other tokens
+
+-- what is converted from tokens is converted from the tokens of a JSON value, whatever follows them
+pub spelled_as : (depth : ℕ) (ts r : List Token) (v : Tree) → converted meaning (json.value depth ts) ≡ Some (v, r) → (j : json.Json) × (ts ≡ json_tokens j ++ r) × (meaning j ≡ Some v) × (json_depth j ≤ depth)
+spelled_as depth ts r v e =
+    let (j, read, means) = converted_some meaning (json.value depth ts) v r e in
+    (j, value-json_tokens_back depth ts r j read, means, value-depth depth ts r j read)
+
+pub read_again : (d : ℕ) (j : json.Json) (us : List Token) (v : Tree) → json_depth j ≤ d → meaning j ≡ Some v → converted meaning (json.value d (json_tokens j ++ us)) ≡ Some (v, us)
+read_again d j us v shallow means = ap (converted meaning) (value-json_tokens j d us shallow) ∙ ap (option_map (λ b. (b, us))) means

@@ -13,9 +13,7 @@ use Rattle.json.specs.declared.token.Token.{Token as KitToken}
 use Rattle.json.specs.declared.token.Token.TheVariants as kit
 use Rattle.json.proofs.Grammar.{value_is, members_end, members_more, members_no_key, members_fail}
 use Rattle.amqp_value_core.specs.declared.types.amqp_type.AMQPType.{AMQPType}
-use Rattle.amqp_json.specs.Puts.{IsLeaf, IsNoLeaf, IsLeafRefusal, IsNamed, IsRefusal, members_at, object_meant, converted}
-use Rattle.amqp_json.specs.declared.error.JsonError.{JsonError}
-use Rattle.amqp_json.specs.declared.error.JsonError.TheVariants.{Syntax, TooDeep, NotAValue}
+use Rattle.amqp_json.specs.Puts.{IsLeaf, IsNoLeaf, members_at, object_meant, converted}
 
 -- ---- keys with a `$` and without
 
@@ -170,12 +168,3 @@ closer depth ts t (inl e) = ap (λ k. value depth (token_of k ∷ ts)) e ∙ val
 closer depth ts t (inr (inl e)) = ap (λ k. value depth (token_of k ∷ ts)) e ∙ value_is depth (spec.end_object ∷ ts)
 closer depth ts t (inr (inr (inl (x, e)))) = ap (λ k. value depth (token_of k ∷ ts)) e ∙ value_is depth (spec.key x.now ∷ ts)
 closer depth ts t (inr (inr (inr e))) = ap (λ k. value depth (token_of k ∷ ts)) e ∙ value_is depth (spec.bad ∷ ts)
-
--- why no value is named
-
-module _ (type : AMQPType) (name : List ℕ) (known : type_named name ≡ Some type) (t : Token) (ts : List Token) where
-  pub leaf_refused : (e : JsonError) → IsLeafRefusal e type t → IsNamed name (t ∷ ts) (λ depth read. IsRefusal depth e object_meant read)
-  leaf_refused (Syntax at error) h k depth is same = λ d le. no_value d k is (t ∷ ts) (h d ts)
-  leaf_refused (TooDeep at) h k depth is same = absurd h
-  leaf_refused (NotAValue at m) h k depth is same = λ d le. no_named d k is (t ∷ ts) (Some type) (ap type_named (sym same) ∙ known) (λ j r at. h d ts r j at)
-  leaf_refused _ h k depth is same = tt

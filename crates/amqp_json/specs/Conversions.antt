@@ -11,6 +11,7 @@ use Rattle.amqp_value_core.specs.Outcomes.{found}
 use Rattle.amqp_value_core.specs.Texts.{text, Fits}
 use Rattle.amqp_json.specs.Ascending.{InOrder, OutOfOrder}
 use Rattle.amqp_json.specs.Meaning.{meaning, meant_within, json_within}
+use Rattle.amqp_json.specs.Nesting.{ReportsNesting}
 use Rattle.amqp_json.specs.Written.{json_text, counted, MeansIfShallow}
 use Rattle.amqp_json.specs.declared.error.JsonError.{JsonError}
 use Rattle.amqp_json.specs.declared.error.JsonError.TheVariants.{Syntax, TooDeep, NotAValue}
@@ -35,8 +36,9 @@ IsRefusedAs most (TooDeep at) json = option_and_then meaning (json most) ≡ Non
 IsRefusedAs most (NotAValue at mismatch) json = (levels : ℕ) → most ≤ levels → option_and_then meaning (json levels) ≡ None
 IsRefusedAs most e json = Unit {0}
 
+-- and it is `TooDeep` exactly if the text opens one array or object too many before anything else is wrong with it
 abbrev pub IsRefusedWithin : ℕ → JsonError → List ℕ → Type 0
-IsRefusedWithin most e t = IsRefusedAs most e (λ levels. json_within levels t)
+IsRefusedWithin most e t = IsRefusedAs most e (λ levels. json_within levels t) × ReportsNesting most e t
 
 -- the byte of an error is in a text of that many bytes, or its end
 abbrev pub IsWithin : JsonError → ℕ → Type 0

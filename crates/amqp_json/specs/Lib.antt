@@ -2,10 +2,12 @@
 pub mod Meaning
 pub mod Written
 -- What the calls' clauses say.
+pub mod Nesting
 pub mod Ascending
 pub mod Conversions
 -- For private clauses.
 pub mod Puts
+pub mod Scans
 pub mod Printing
 -- Of values that were read in place.
 pub mod Views

@@ -1,6 +1,6 @@
 -- For private clauses of reading JSON: `PutsEncodingOf`, an encoding is put after other bytes, and
 -- `IsRefusal`, why none is.
-use Rattle.std.specs.Prelude.{◌≡◌, ◌≤◌, ◌==◌, ◌&&◌, ◌||◌, nat_le, Bool, true, false, List, ◌∷◌, ◌++◌, ℕ, drop, length, slice_index, Option, Some, None, option_map, option_and_then}
+use Rattle.std.specs.Prelude.{◌≡◌, ◌<◌, ◌≤◌, ◌==◌, ◌&&◌, ◌||◌, nat_le, Bool, true, false, List, ◌∷◌, ◌++◌, ℕ, drop, length, slice_index, Option, Some, None, option_map, option_and_then}
 use Rattle.json.specs.Token.{Token, key, end_object}
 use Rattle.json.specs.Json.{Json, Items, items, Members, members, value}
 use Rattle.amqp_value_core.specs.declared.types.amqp_type.AMQPType.{AMQPType}
@@ -12,6 +12,7 @@ use Rattle.amqp_json.specs.declared.error.JsonError.{JsonError}
 use Rattle.amqp_json.specs.declared.error.JsonError.TheVariants.{Syntax, TooDeep, NotAValue}
 use Rattle.amqp_json.specs.declared.keys.Key.{Key}
 use Rattle.amqp_json.specs.declared.keys.Key.TheVariants.{Entry, Name}
+use Rattle.amqp_json.specs.Nesting.{fits}
 use Rattle.amqp_json.specs.Meaning.{is_type_key, entry_key, meanings, object_of, pairs_of, value_as, meant_within}
 
 -- what a key of an object says
@@ -25,6 +26,11 @@ OnMismatch (Syntax at error) P = ⊥
 OnMismatch (TooDeep at) P = ⊥
 OnMismatch (NotAValue at mismatch) P = P
 OnMismatch e P = Unit {0}
+
+-- the text isn't JSON
+abbrev pub IsSyntax : JsonError → Type 0
+IsSyntax (Syntax at error) = Unit {0}
+IsSyntax e = ⊥
 
 -- an encoding of a value is put after the bytes that were there, and P holds of the value
 abbrev pub PutsEncodingOf : (Tree → Type 0) → List ℕ → List ℕ → Type 0
@@ -64,22 +70,37 @@ object_meant ms = object_of ms (pairs_of ms)
 abbrev pub IsRead : {A B : Type 0} → ℕ → (A → Option B) → (ℕ → Option (A × List Token)) → B → List Token → Type 0
 IsRead depth f read b rest = (d : ℕ) → depth ≤ d → converted f (read d) ≡ Some (b, rest)
 
--- if the text is why no encoding is put: nothing is read at this depth and any greater one; nothing is converted at this
--- depth; or at any greater one neither
-abbrev pub IsRefusal : {A B : Type 0} → ℕ → JsonError → (A → Option B) → (ℕ → Option (A × List Token)) → Type 0
-IsRefusal depth (Syntax at error) f read = (d : ℕ) → depth ≤ d → read d ≡ None
-IsRefusal depth (TooDeep at) f read = converted f (read depth) ≡ None
-IsRefusal depth (NotAValue at mismatch) f read = (d : ℕ) → depth ≤ d → converted f (read d) ≡ None
-IsRefusal depth e f read = Unit {0}
+-- some of the tokens, from the first on, open more than `depth` at once, and could go on to what f converts if more were
+-- allowed, whatever is after it
+pub record GoesTooDeep {A B : Type 0} (depth : ℕ) (f : A → Option B) (read : ℕ → List Token → Option (A × List Token)) (ts : List Token) : Type 0 where
+  pub front : List Token
+  pub rest : List Token
+  pub more : List Token
+  pub meant : B
+  pub split : ts ≡ front ++ rest
+  pub deep : fits depth front ≡ false
+  pub goes_on : (d : ℕ) (after : List Token) → depth < d → converted f (read d (front ++ (more ++ after))) ≡ Some (meant, after)
+
+-- as soon as they open more than `depth` at once, nothing is converted, however they go on
+abbrev pub IsWrongBefore : {A B : Type 0} → ℕ → (A → Option B) → (ℕ → List Token → Option (A × List Token)) → List Token → Type 0
+IsWrongBefore depth f read ts = (front rest more : List Token) (d : ℕ) → ts ≡ front ++ rest → fits depth front ≡ false → depth ≤ d → converted f (read d (front ++ more)) ≡ None
+
+-- if the tokens are why no encoding is put: nothing is read at this depth and any greater one; nothing is converted at this
+-- depth; or at any greater one neither. And whether that is because they go too deep
+abbrev pub IsRefusal : {A B : Type 0} → ℕ → JsonError → (A → Option B) → (ℕ → List Token → Option (A × List Token)) → List Token → Type 0
+IsRefusal depth (Syntax at error) f read ts = ((d : ℕ) → depth ≤ d → read d ts ≡ None) × IsWrongBefore depth f read ts
+IsRefusal depth (TooDeep at) f read ts = (converted f (read depth ts) ≡ None) × GoesTooDeep depth f read ts
+IsRefusal depth (NotAValue at mismatch) f read ts = ((d : ℕ) → depth ≤ d → converted f (read d ts) ≡ None) × IsWrongBefore depth f read ts
+IsRefusal depth e f read ts = Unit {0}
 
 -- the token of a key, or of the closing brace
 abbrev pub next_token : Option (List ℕ) → Token
 next_token None = end_object
 next_token (Some k) = key k
 
--- P holds, at each depth, of what is read with a key before these tokens that is `$` and the name
-abbrev pub IsNamed : List ℕ → List Token → (ℕ → (ℕ → Option (Members × List Token)) → Type 0) → Type 0
-IsNamed name ts P = (k : List ℕ) (depth : ℕ) → is_type_key k ≡ true → name ≡ drop 1 k → P depth (λ d. members_at d (key k ∷ ts))
+-- P holds, at each depth, of these tokens with a key before them that is `$` and the name
+abbrev pub IsNamed : List ℕ → List Token → (ℕ → List Token → Type 0) → Type 0
+IsNamed name ts P = (k : List ℕ) (depth : ℕ) → is_type_key k ≡ true → name ≡ drop 1 k → P depth (key k ∷ ts)
 
 -- there is such a number, and its canonical encoding is put
 abbrev pub PutsInteger : Option Tree → List ℕ → List ℕ → Type 0

@@ -7,12 +7,15 @@ ghost use Rattle.amqp_value_core.specs.Grammar.{Wire};
 ghost use Rattle.amqp_value_core.specs.Texts.{text, Fits};
 ghost use Rattle.amqp_value_core.specs.Values.{Tree};
 ghost use Rattle.amqp_value_core.specs.View.{view};
-ghost use Rattle.amqp_json.specs.Conversions.{IsEncodingWithin, IsRefusedWithin, IsWithin};
-ghost use Rattle.amqp_json.specs.Meaning.{meant, meant_within, most_levels};
+ghost use Rattle.json.specs.Lex.{tokens};
+ghost use Rattle.amqp_json.specs.Conversions.{IsEncodingWithin, IsRefusedAs, IsRefusedWithin, IsWithin};
+ghost use Rattle.amqp_json.specs.Meaning.{json_within, meant, meant_within, most_levels};
+ghost use Rattle.amqp_json.specs.Nesting.{ReportsNestingOf};
 ghost use Rattle.amqp_json.specs.declared.error.JsonError.TheVariants.{TooLarge};
 ghost use Rattle.amqp_json.specs.Puts.{IsEncodedAsItComes};
 
 use crate::error::JsonError;
+use crate::nesting::first_too_deep;
 use crate::syntax::first_fault;
 use crate::walk::put_document;
 use amq_protocol_types::generation::{GenError, WriteContext, gen_value};
@@ -137,13 +140,15 @@ fn encoding_of_text(alloc: Global, text: &str, levels: u32) -> Result<Vec<u8>, J
     let mut out = Vec::with_capacity(alloc, text.len())?;
     match put_document(alloc, &mut reader, &mut out, levels as usize) {
         Ok(()) => Ok(out),
-        Err(error) => Err(located(error, text)),
+        Err(error) => Err(located(error, text, levels)),
     }
 }
 
 // The error with its byte, which is within the text.
-fn located(error: JsonError, text: &str) -> JsonError
-    ensures refused { (most : ℕ) (t : List ℕ) → IsRefusedWithin most error t → IsRefusedWithin most result t }
+fn located(error: JsonError, text: &str, levels: u32) -> JsonError
+    requires refused { IsRefusedAs levels error (λ d. json_within d text.now) }
+    requires nesting { ReportsNestingOf levels error (tokens text.now) }
+    ensures refused { IsRefusedWithin levels result text.now }
     ensures within { IsWithin result (length text.now) }
 {
     let len = text.len();
@@ -154,7 +159,10 @@ fn located(error: JsonError, text: &str) -> JsonError
             let (at, error) = first_fault(text);
             JsonError::Syntax(at.min(len), error)
         }
-        JsonError::TooDeep(at) => JsonError::TooDeep(at.min(len)),
+        JsonError::TooDeep(_) => match first_too_deep(text, levels) {
+            Some(at) => JsonError::TooDeep(at),
+            None => unreachable!(),
+        },
         JsonError::NotAValue(at, mismatch) => JsonError::NotAValue(at.min(len), mismatch),
     }
 }

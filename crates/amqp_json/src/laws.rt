@@ -8,7 +8,8 @@ ghost use Rattle.std.specs.Prelude.{◌≡◌, Some, List, ℕ};
 ghost use Rattle.amqp_value_core.specs.Grammar.{Wire};
 ghost use Rattle.amqp_value_core.specs.Bytes.{IsBytes};
 ghost use Rattle.amqp_value_core.specs.Values.{Tree};
-ghost use Rattle.amqp_json.specs.Meaning.{meaning, meant};
+ghost use Rattle.amqp_json.specs.Meaning.{meaning, meant, meant_within};
+ghost use Rattle.amqp_json.specs.Nesting.{IsTooDeepAt};
 ghost use Rattle.amqp_json.specs.Written.{written, HasJson, json_text, MeansIfShallow};
 
 /// What is written for a value means the value.
@@ -27,4 +28,10 @@ pub fn text_read_back()
 #[tactic(auto, using(crate::proofs::Encodings::has_json))]
 pub fn encoded_has_json()
     ensures { (w : List ℕ) (v : Tree) → IsBytes w → Wire w v → HasJson v }
+{}
+
+/// A text that means a value within a limit on nesting is never too deep for it.
+#[tactic(auto, using(crate::proofs::Scanning::meant_fits))]
+pub fn meant_fits()
+    ensures { (most : ℕ) (t : List ℕ) (v : Tree) (at : ℕ) → meant_within most t ≡ Some v → IsTooDeepAt most t at → ⊥ }
 {}

@@ -4,7 +4,8 @@
 //! What comes in, through which modules, and what comes out:
 //!
 //! ```text
-//! a text     encode: walk, by keys, named and put; where it isn't JSON, syntax   an encoding, a value
+//! a text     encode: walk, by keys, named and put; where it isn't JSON, syntax,   an encoding, a value
+//!            and where it nests too deep, nesting
 //! encoding   decode: printing::walk, if keys don't ascend printing::sorted;      a text
 //! or value   both by printing::leaves, tokens and put
 //! ```
@@ -19,6 +20,7 @@ mod error;
 mod keys;
 pub mod laws;
 mod named;
+mod nesting;
 mod printing;
 mod put;
 mod syntax;

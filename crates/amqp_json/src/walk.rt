@@ -7,8 +7,9 @@ ghost use Rattle.std.specs.Prelude.{◌≡◌, ◌<◌, ◌≤◌, ◌∷◌, le
 ghost use Rattle.json.specs.Reads.{token_of};
 ghost use Rattle.json.specs.Json.{value, read_key};
 ghost use Rattle.amqp_json.specs.Conversions.{IsRefusedAs};
+ghost use Rattle.amqp_json.specs.Nesting.{ReportsNestingOf};
 ghost use Rattle.amqp_json.specs.Meaning.{json_of, meaning, meanings, pairs_of, is_type_key};
-ghost use Rattle.amqp_json.specs.Puts.{PutsEncodingOf, PutsValues, PutsPairs, IsNamed, IsLeaf, IsLeafRefusal, IsRead, IsRefusal, items_at, members_at, array_of, object_meant, next_token};
+ghost use Rattle.amqp_json.specs.Puts.{PutsEncodingOf, PutsValues, PutsPairs, IsNamed, IsLeaf, IsLeafRefusal, IsRead, IsRefusal, IsSyntax, items_at, members_at, array_of, object_meant, next_token};
 
 use crate::error::{JsonError, Mismatch, SyntaxError};
 use crate::keys::{Key, key_of, type_of_name};
@@ -31,6 +32,7 @@ pub(crate) fn put_document(
     ensures ok { OnOk result (PutsEncodingOf (λ v. option_and_then meaning (json_of levels reader.old)
         ≡ Some v) out.old.items out.new.items) }
     ensures refused { IfErr result (λ e. IsRefusedAs levels e (λ d. json_of d reader.old)) }
+    ensures nesting { IfErr result (λ e. ReportsNestingOf levels e reader.old) }
 {
     put_value(alloc, reader, out, levels)?;
     match reader.next() {
@@ -49,7 +51,7 @@ fn put_value(
     ensures ok { OnOk result (PutsEncodingOf (λ v. IsRead depth meaning (λ d. value d reader.old)
         v reader.new) out.old.items out.new.items) }
     ensures shorter { OnOk result (length reader.new < length reader.old) }
-    ensures refused { IfErr result (λ e. IsRefusal depth e meaning (λ d. value d reader.old)) }
+    ensures refused { IfErr result (λ e. IsRefusal depth e meaning value reader.old) }
 {
     let at = reader.offset();
     let Some(token) = reader.next() else {
@@ -86,7 +88,7 @@ fn put_array(
     ensures ok { OnOk result (PutsEncodingOf (λ v. IsRead depth array_of (λ d. items_at d reader.old)
         v reader.new) out.old.items out.new.items) }
     ensures shorter { OnOk result (length reader.new < length reader.old) }
-    ensures refused { IfErr result (λ e. IsRefusal depth e meanings (λ d. items_at d reader.old)) }
+    ensures refused { IfErr result (λ e. IsRefusal depth e meanings items_at reader.old) }
 {
     let at = out.len() + 1;
     put_head(out, b'A')?;
@@ -104,7 +106,7 @@ fn put_items(
     ensures ok { OnOk result (PutsValues (λ vs. IsRead depth meanings (λ d. items_at d reader.old)
         vs reader.new) out.old.items out.new.items) }
     ensures shorter { OnOk result (length reader.new < length reader.old) }
-    ensures refused { IfErr result (λ e. IsRefusal depth e meanings (λ d. items_at d reader.old)) }
+    ensures refused { IfErr result (λ e. IsRefusal depth e meanings items_at reader.old) }
 {
     'items: loop {
         if reader.take_end_array() {
@@ -124,7 +126,7 @@ fn put_object(
     ensures ok { OnOk result (PutsEncodingOf (λ v. IsRead depth object_meant
         (λ d. members_at d reader.old) v reader.new) out.old.items out.new.items) }
     ensures shorter { OnOk result (length reader.new < length reader.old) }
-    ensures refused { IfErr result (λ e. IsRefusal depth e object_meant (λ d. members_at d reader.old)) }
+    ensures refused { IfErr result (λ e. IsRefusal depth e object_meant members_at reader.old) }
 {
     let key_at = reader.offset();
     let first = next_key(reader)?;
@@ -165,8 +167,8 @@ fn put_pairs<'a>(
         (λ d. members_at d (next_token (option_map (λ s. s.now) first.entry) ∷ reader.old))
         ps reader.new) out.old.items out.new.items) }
     ensures shorter { OnOk result (length reader.new ≤ length reader.old) }
-    ensures refused { IfErr result (λ e. IsRefusal depth e pairs_of
-        (λ d. members_at d (next_token (option_map (λ s. s.now) first.entry) ∷ reader.old))) }
+    ensures refused { IfErr result (λ e. IsRefusal depth e pairs_of members_at
+        (next_token (option_map (λ s. s.now) first.entry) ∷ reader.old)) }
 {
     let mut next = first;
     let mut at = first_at;
@@ -190,10 +192,10 @@ fn put_named(
     name_at: usize,
 ) -> Result<(), JsonError>
     ensures ok { OnOk result (PutsEncodingOf (λ v. IsNamed name.now reader.old
-        (λ depth read. IsRead depth object_meant read v reader.new)) out.old.items out.new.items) }
+        (λ depth ts. IsRead depth object_meant (λ d. members_at d ts) v reader.new)) out.old.items out.new.items) }
     ensures shorter { OnOk result (length reader.new < length reader.old) }
     ensures refused { IfErr result (λ e. IsNamed name.now reader.old
-        (λ depth read. IsRefusal depth e object_meant read)) }
+        (λ depth ts. IsRefusal depth e object_meant members_at ts)) }
 {
     let Some(amqp_type) = type_of_name(name) else {
         return Err(JsonError::NotAValue(name_at, Mismatch::UnknownType));
@@ -233,7 +235,7 @@ fn put_leaf(
 fn next_key<'a>(reader: &mut Reader<'a>) -> Result<Option<&'a str>, JsonError>
     ensures value { MatchResult result
         (λ k. read_key reader.old ≡ Some (option_map (λ s. s.now) k, reader.new))
-        (λ _. read_key reader.old ≡ None) }
+        (λ e. (read_key reader.old ≡ None) × IsSyntax e) }
     ensures shorter { OnOk result (length reader.new < length reader.old) }
 {
     match reader.next_key() {

@@ -4,7 +4,8 @@ use Rattle.std.proofs.Common.{rules, arith, ◌≡◌, ◌<◌, ◌∷◌, [], l
 use Rattle.std.proofs.lemmas.Result.{IfErr-weaker, on_ok_weaker}
 use Rattle.json.specs.Token.{Token}
 use Rattle.json.specs.Json.{value, parse_map, after_end_array, read_key}
-use Rattle.json.proofs.Grammar.{value_is, read_key-shorter, members_no_key}
+use Rattle.json.specs.Reads.{token_of}
+use Rattle.json.proofs.Grammar.{value_is, read_key-shorter}
 use Rattle.amqp_value_core.specs.declared.types.amqp_type.AMQPType.TheVariants as amqp
 use Rattle.amqp_value_core.specs.Values.{array, scalar, void, boolean}
 use Rattle.amqp_value_core.specs.Grammar.{long_field}
@@ -14,7 +15,7 @@ use Rattle.amqp_json.specs.Puts.{OnMismatch, PutsEncodingOf, IsNamed, IsRead, Is
 use Rattle.amqp_json.proofs.ObjectKeys.{entry_fits, closer}
 use Rattle.amqp_json.proofs.MeantContainers.{converted-items, token_means, no_level, array_meant, object_is, table_is}
 use Rattle.amqp_json.proofs.PutEncodings.{PairsLeft, items_first, items_next, items_done, items_none, pairs_first, key_is, pairs_next, pairs_done, pair_none, key_none, next_none, array_put, table_put, puts_weaker, scalar_put, long_put}
-use Rattle.amqp_json.proofs.Refusals.{refusal_of, refusal_by, array_refused, object_refused, table_refused, named_refused}
+use Rattle.amqp_json.proofs.Refusals.{refusal_by, wrong_first, wrong_end, array_refused, object_refused, table_refused, named_refused, keyless_refused, deep_array, deep_object}
 use Rattle.amqp_json.proofs.walk.+walk.Goals as goal
 
 pub put_array-returns-clause-ok : goal.put_array-returns-clause-ok
@@ -33,7 +34,7 @@ pub put_items-returns-then-take_end_array-clause-ok : goal.put_items-returns-the
 put_items-returns-then-take_end_array-clause-ok t c =
     let l = c.items in
     let end : after_end_array l.reader ≡ Some c.take_end_array.new.self = search rules in
-    items_done c.args.depth c.args.reader.now c.args.out.now.items l.reader c.take_end_array.new.self l.out.items l.invariant.0 end
+    items_done c.args.depth c.args.reader.now c.args.out.now.items l.reader l.out.items l.invariant.0 c.take_end_array.new.self end
 
 pub put_items-items-preserved : goal.put_items-items-preserved
 put_items-items-preserved t c =
@@ -44,21 +45,19 @@ put_items-items-preserved t c =
     let shorter : length r < length c.take_end_array.new.self = c.in_ok-put_value.ensures.shorter in
     let size = ap length more.1 in
     let put = subst (λ ts. PutsEncodingOf (λ v. IsRead c.args.depth meaning (λ d. value d ts) v r) l.out.items out) more.1 c.in_ok-put_value.ensures.ok in
-    (items_next c.args.depth c.args.reader.now c.args.out.now.items l.reader r l.out.items out l.invariant.0 more.0 (omega (arith, shorter, size)) put, omega (arith, shorter, size, l.invariant.1))
+    (items_next c.args.depth c.args.reader.now c.args.out.now.items l.reader r l.out.items out l.invariant.0 more.0 put, omega (arith, shorter, size, l.invariant.1))
 
 pub put_items-returns-in_err-put_value-clause-refused : goal.put_items-returns-in_err-put_value-clause-refused
 put_items-returns-in_err-put_value-clause-refused t c =
     let l = c.items in
     let e = c.in_err-put_value.field-0.0 in
     let more : (after_end_array l.reader ≡ None) × (c.take_end_array.new.self ≡ l.reader) = search rules in
-    let refused = items_none c.args.depth c.args.reader.now c.args.out.now.items l.reader l.out.items e l.invariant.0 more.0 (subst (λ ts. IsRefusal c.args.depth e meaning (λ d. value d ts)) more.1 c.in_err-put_value.ensures.refused) in
+    let refused = items_none c.args.depth c.args.reader.now c.args.out.now.items l.reader l.out.items l.invariant.0 e more.0 (subst (λ ts. IsRefusal c.args.depth e meaning value ts) more.1 c.in_err-put_value.ensures.refused) in
     search (rules, refused)
 
 pub put_object-returns-in_err-first-clause-refused : goal.put_object-returns-in_err-first-clause-refused
 put_object-returns-in_err-first-clause-refused t c =
-    let s = c.args.reader.now in
-    let none : read_key s ≡ None = c.in_err-first.ensures.value in
-    let refused = refusal_of c.args.depth object_meant (λ d. members_at d s) c.in_err-first.field-0.0 (λ d le. members_no_key (value d) (length s) s none) in
+    let refused = keyless_refused c.args.depth c.args.reader.now c.in_err-first.field-0.0 c.in_err-first.ensures.value.1 c.in_err-first.ensures.value.0 in
     search (rules, refused)
 
 pub put_pairs-pairs-init : goal.put_pairs-pairs-init
@@ -81,14 +80,15 @@ put_pairs-returns-in_err-put_key-clause-refused t c =
 pub put_pairs-returns-in_err-put_value-clause-refused : goal.put_pairs-returns-in_err-put_value-clause-refused
 put_pairs-returns-in_err-put_value-clause-refused t c =
     let left = key_is _ _ _ _ _ _ _ c.in-Some.is c.pairs.invariant.0 in
-    let refused = pair_none _ _ _ _ _ _ c.in_err-put_value.field-0.0 left c.in_err-put_value.ensures.refused in
+    let key = c.in_ok-put_key.ensures.ok in
+    let refused = pair_none _ _ _ _ _ _ c.in_err-put_value.field-0.0 left (entry_fits c.in-Some.key.now key.1 key.2) c.in_err-put_value.ensures.refused in
     search (rules, refused)
 
 pub put_pairs-returns-in_err-next-clause-refused : goal.put_pairs-returns-in_err-next-clause-refused
 put_pairs-returns-in_err-next-clause-refused t c =
     let left = key_is _ _ _ _ _ _ _ c.in-Some.is c.pairs.invariant.0 in
-    let none : read_key c.put_value.new.reader ≡ None = c.in_err-next.ensures.value in
-    let refused = next_none _ _ _ _ _ _ c.in_err-next.field-0.0 left _ _ _ c.in_ok-put_value.ensures.ok none in
+    let none : read_key c.put_value.new.reader ≡ None = c.in_err-next.ensures.value.0 in
+    let refused = next_none _ _ _ _ _ _ c.in_err-next.field-0.0 left c.in_err-next.ensures.value.1 _ _ _ c.in_ok-put_value.ensures.ok none in
     search (rules, refused)
 
 pub put_pairs-pairs-preserved : goal.put_pairs-pairs-preserved
@@ -99,24 +99,28 @@ put_pairs-pairs-preserved t c =
     let after = c.in_ok-next.ensures.value in
     let shorter : length c.put_value.new.reader < length l.reader = c.in_ok-put_value.ensures.shorter in
     let less = read_key-shorter _ _ c.next_key.new.reader after in (
-      pairs_next _ _ _ _ _ _ _ _ _ _ _ left key.2 (entry_fits c.in-Some.key.now key.1 key.2) key.0 c.in_ok-put_value.ensures.ok shorter after,
+      pairs_next _ _ _ _ _ _ _ _ _ _ _ left key.2 (entry_fits c.in-Some.key.now key.1 key.2) key.0 c.in_ok-put_value.ensures.ok after,
       omega (arith, less, shorter, l.invariant.1),
     )
 
 pub put_value-returns-in_default-clause-refused : goal.put_value-returns-in_default-clause-refused
-put_value-returns-in_default-clause-refused t c d le =
+put_value-returns-in_default-clause-refused t c =
     let end : c.args.reader.now ≡ [] = search rules in
-    ap (value d) end ∙ value_is d []
+    (λ d le. ap (value d) end ∙ value_is d [], wrong_end c.args.depth meaning value c.args.reader.now end)
 
 pub put_value-returns-then-depth-eq0-clause-refused : goal.put_value-returns-then-depth-eq0-clause-refused
 put_value-returns-then-depth-eq0-clause-refused t c =
     let s = c.next.new.self in
-    no_level c.args.depth c.args.reader.now s Token.begin_array (search rules) (search rules) (value_is 0 (Token.begin_array ∷ s))
+    let is : c.args.reader.now ≡ Token.begin_array ∷ s = search rules in
+    let none : c.args.depth ≡ 0 = search rules in
+    (no_level c.args.depth c.args.reader.now s Token.begin_array is none (value_is 0 (Token.begin_array ∷ s)), deep_array c.args.depth c.args.reader.now s is none)
 
 pub put_value-returns-then-depth-eq0-2-clause-refused : goal.put_value-returns-then-depth-eq0-2-clause-refused
 put_value-returns-then-depth-eq0-2-clause-refused t c =
     let s = c.next.new.self in
-    no_level c.args.depth c.args.reader.now s Token.begin_object (search rules) (search rules) (value_is 0 (Token.begin_object ∷ s))
+    let is : c.args.reader.now ≡ Token.begin_object ∷ s = search rules in
+    let none : c.args.depth ≡ 0 = search rules in
+    (no_level c.args.depth c.args.reader.now s Token.begin_object is none (value_is 0 (Token.begin_object ∷ s)), deep_object c.args.depth c.args.reader.now s is none)
 
 pub put_value-returns-in-Null-clause-ok : goal.put_value-returns-in-Null-clause-ok
 put_value-returns-in-Null-clause-ok t c =
@@ -147,9 +151,10 @@ put_value-returns-in-Number-clause-refused t c =
     let s = c.next.new.self in
     let x = c.in-Number.text.now in
     let is : c.args.reader.now ≡ Token.number x ∷ s = search rules in
-    IfErr-weaker c.put_number.result (λ e. OnMismatch e (number_as amqp.LongLongInt x ≡ None)) (λ e. IsRefusal c.args.depth e meaning (λ d. value d c.args.reader.now))
-    (λ e. refusal_by c.args.depth meaning (λ d. value d c.args.reader.now) e (number_as amqp.LongLongInt x ≡ None)
-    (λ h d le. token_means d _ s (Token.number x) _ _ is (value_is d (Token.number x ∷ s)) h)) c.put_number.ensures.refused
+    IfErr-weaker c.put_number.result (λ e. OnMismatch e (number_as amqp.LongLongInt x ≡ None)) (λ e. IsRefusal c.args.depth e meaning value c.args.reader.now)
+    (λ e. refusal_by c.args.depth meaning value c.args.reader.now e (number_as amqp.LongLongInt x ≡ None)
+    (λ h d le. token_means d _ s (Token.number x) _ _ is (value_is d (Token.number x ∷ s)) h)
+    (λ h. wrong_first c.args.depth meaning value c.args.reader.now (Token.number x) s is (λ d us le. token_means d (Token.number x ∷ us) us (Token.number x) _ _ refl (value_is d (Token.number x ∷ us)) h))) c.put_number.ensures.refused
 
 pub put_value-returns-in-String-clause-ok : goal.put_value-returns-in-String-clause-ok
 put_value-returns-in-String-clause-ok t c =
@@ -174,7 +179,7 @@ put_value-returns-else-depth-eq0-clause-refused t c =
     let s = c.next.new.self in
     let some : 0 < c.args.depth = search rules in
     let is : c.args.reader.now ≡ Token.begin_array ∷ s = search rules in
-    IfErr-weaker c.put_array.result (λ e. IsRefusal (c.args.depth - 1) e meanings (λ d. items_at d s)) (λ e. IsRefusal c.args.depth e meaning (λ d. value d c.args.reader.now))
+    IfErr-weaker c.put_array.result (λ e. IsRefusal (c.args.depth - 1) e meanings items_at s) (λ e. IsRefusal c.args.depth e meaning value c.args.reader.now)
     (λ e h. array_refused c.args.depth c.args.reader.now s e some is h) c.put_array.ensures.refused
 
 pub put_value-returns-else-depth-eq0-2-clause-ok : goal.put_value-returns-else-depth-eq0-2-clause-ok
@@ -191,7 +196,7 @@ put_value-returns-else-depth-eq0-2-clause-refused t c =
     let s = c.next.new.self in
     let some : 0 < c.args.depth = search rules in
     let is : c.args.reader.now ≡ Token.begin_object ∷ s = search rules in
-    IfErr-weaker c.put_object.result (λ e. IsRefusal (c.args.depth - 1) e object_meant (λ d. members_at d s)) (λ e. IsRefusal c.args.depth e meaning (λ d. value d c.args.reader.now))
+    IfErr-weaker c.put_object.result (λ e. IsRefusal (c.args.depth - 1) e object_meant members_at s) (λ e. IsRefusal c.args.depth e meaning value c.args.reader.now)
     (λ e h. object_refused c.args.depth c.args.reader.now s e some is h) c.put_object.ensures.refused
 
 pub put_object-returns-in_err-put_pairs-clause-refused : goal.put_object-returns-in_err-put_pairs-clause-refused
@@ -222,8 +227,13 @@ put_object-returns-in-Some-clause-refused t c =
     let o = option_map (λ (b : Bor (List ℕ)). b.now) c.in_ok-first.first in
     let name = c.in-Some.name.now in
     let (k, is, type, same) = c.in-Some.ensures in
-    IfErr-weaker c.put_named.result (λ e. IsNamed name mid (λ depth read. IsRefusal depth e object_meant read)) (λ e. IsRefusal c.args.depth e object_meant (λ d. members_at d s))
+    IfErr-weaker c.put_named.result (λ e. IsNamed name mid (λ depth ts. IsRefusal depth e object_meant members_at ts)) (λ e. IsRefusal c.args.depth e object_meant members_at s)
     (named_refused c.args.depth s mid o k name c.in_ok-first.ensures.value is type same) c.put_named.ensures.refused
 
 pub put_value-returns-in-EndArray-clause-refused : goal.put_value-returns-in-EndArray-clause-refused
-put_value-returns-in-EndArray-clause-refused t c d le = ap (value d) c.in-Some.ensures.value ∙ closer d c.next.new.self c.in-Some.token c.in-EndArray.is
+put_value-returns-in-EndArray-clause-refused t c =
+    let s = c.next.new.self in
+    let token = c.in-Some.token in (
+      λ d le. ap (value d) c.in-Some.ensures.value ∙ closer d s token c.in-EndArray.is,
+      wrong_first c.args.depth meaning value c.args.reader.now (token_of token) s c.in-Some.ensures.value (λ d us le. ap (converted meaning) (closer d us token c.in-EndArray.is)),
+    )

@@ -1,0 +1,37 @@
+-- For private clauses of `src/nesting.rt`: how a byte takes the scan of a text further.
+use Rattle.std.specs.Prelude.{ℕ, suc, ◌+◌, ◌≤◌, ◌≡◌, ◌==◌, ◌||◌, List, ◌++◌, length, take, Bool, cond}
+use Rattle.json.specs.Word.{is_operator, is_space}
+use Rattle.json.specs.Lex.{Mode, between, in_word, in_string, in_escape, lex}
+use Rattle.amqp_json.specs.declared.nesting.Place.{Place}
+use Rattle.amqp_json.specs.declared.nesting.Place.TheVariants.{Between, InWord, InString, Escaped}
+use Rattle.amqp_json.specs.Nesting.{opens, lexemes_fit}
+
+abbrev pub mode_of : Place → Mode
+mode_of Between = between
+mode_of InWord = in_word
+mode_of InString = in_string
+mode_of Escaped = in_escape
+
+-- the mode of `lex` after a byte
+abbrev pub mode_after : Mode → ℕ → Mode
+mode_after between c = cond (c == 34) in_string (cond (is_operator c || is_space c) between in_word)
+mode_after in_word c = cond (is_operator c || is_space c) between in_word
+mode_after in_string c = cond (c == 34) between (cond (c == 92) in_escape in_string)
+mode_after in_escape c = in_string
+
+-- a bracket opens or closes one of `left` levels, and `rest` says whether the others are enough
+abbrev pub fits_bracket : ℕ → ℕ → (ℕ → Bool) → Bool
+fits_bracket c left rest = cond (c == 123 || c == 91) (opens left rest) (cond (c == 125 || c == 93) (rest (suc left)) (rest left))
+
+-- the same of any byte
+abbrev pub fits_byte : Mode → ℕ → ℕ → (ℕ → Bool) → Bool
+fits_byte between c left rest = fits_bracket c left rest
+fits_byte in_word c left rest = fits_bracket c left rest
+fits_byte in_string c left rest = rest left
+fits_byte in_escape c left rest = rest left
+
+-- the first bytes of the text are scanned, and `left` more may be opened after them
+pub record ScansTo (most : ℕ) (t : List ℕ) (at : ℕ) (mode : Mode) (left : ℕ) : Type 0 where
+  pub inside : at ≤ length t
+  pub few : left ≤ most + at
+  pub same : (rest : List ℕ) → lexemes_fit most (lex between (take at t ++ rest)) ≡ lexemes_fit left (lex mode rest)
