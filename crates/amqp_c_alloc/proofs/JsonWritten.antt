@@ -12,6 +12,7 @@ use Rattle.amqp_json.specs.declared.error.JsonError.{JsonError}
 use Rattle.amqp_json.specs.declared.error.JsonError.TheVariants as json
 use Rattle.amqp_json.specs.Ascending.{OutOfOrder}
 use Rattle.amqp_json.specs.Conversions.{IsJsonOf, IsRefusedWithin, IsWithin}
+use Rattle.amqp_json.specs.declared.error.SyntaxError.TheVariants.{UnexpectedEnd, UnfinishedString}
 use Rattle.amqp_json.specs.Views.{WritesText}
 use Rattle.amqp_json.specs.Written.{json_text, counted}
 use Rattle.amqp_json.proofs.InOrder.{not_both}
@@ -46,8 +47,10 @@ rejected_text most t old new (json.TooDeep at) utf8 refused = (utf8, refused.0, 
 rejected_text most t old new (json.NotAValue at mismatch) utf8 refused = (utf8, refused.0, refused.1)
 
 pub inside_of_text : (e : JsonError) (n : ℕ) → IsWithin e n → IfSome (json_offset e) (λ at. at ≤ n)
-inside_of_text (json.Syntax at error) n within = within
-inside_of_text (json.TooDeep at) n within = within
+inside_of_text (json.Syntax at UnexpectedEnd) n within = omega (arith, within)
+inside_of_text (json.Syntax at UnfinishedString) n within = omega (arith, within)
+inside_of_text (json.Syntax at error) n within = omega (arith, within)
+inside_of_text (json.TooDeep at) n within = omega (arith, within)
 inside_of_text (json.NotAValue at mismatch) n within = within
 inside_of_text json.OutOfMemory n within = tt
 inside_of_text json.TooLarge n within = tt

@@ -15,6 +15,7 @@ use Rattle.amqp_json.specs.Nesting.{ReportsNesting}
 use Rattle.amqp_json.specs.Written.{json_text, counted, MeansIfShallow}
 use Rattle.amqp_json.specs.declared.error.JsonError.{JsonError}
 use Rattle.amqp_json.specs.declared.error.JsonError.TheVariants.{Syntax, TooDeep, NotAValue}
+use Rattle.amqp_json.specs.declared.error.SyntaxError.TheVariants.{UnexpectedEnd, UnfinishedString}
 use Rattle.amqp_json.specs.declared.error.EncodeError.{EncodeError}
 use Rattle.amqp_json.specs.declared.error.EncodeError.TheVariants as encode
 use Rattle.amqp_json.specs.declared.error.DecodeError.{DecodeError}
@@ -40,10 +41,13 @@ IsRefusedAs most e json = Unit {0}
 abbrev pub IsRefusedWithin : ℕ → JsonError → List ℕ → Type 0
 IsRefusedWithin most e t = IsRefusedAs most e (λ levels. json_within levels t) × ReportsNesting most e t
 
--- the byte of an error is in a text of that many bytes, or its end
+-- the byte of an error is in a text of that many bytes, or its end. Where the text isn't JSON it is the end exactly if
+-- something is missing there
 abbrev pub IsWithin : JsonError → ℕ → Type 0
-IsWithin (Syntax at error) len = at ≤ len
-IsWithin (TooDeep at) len = at ≤ len
+IsWithin (Syntax at UnexpectedEnd) len = at ≡ len
+IsWithin (Syntax at UnfinishedString) len = at ≡ len
+IsWithin (Syntax at error) len = at < len
+IsWithin (TooDeep at) len = at < len
 IsWithin (NotAValue at mismatch) len = at ≤ len
 IsWithin e len = Unit {0}
 

@@ -1,9 +1,11 @@
--- For private clauses of `src/nesting.rt`: how a byte takes the scan of a text further.
+-- For private clauses of `src/nesting.rt` and `src/syntax.rt`: how a byte takes the scan of a text further.
 use Rattle.std.specs.Prelude.{ℕ, suc, ◌+◌, ◌≤◌, ◌≡◌, ◌==◌, ◌||◌, List, ◌++◌, length, take, Bool, cond}
 use Rattle.json.specs.Word.{is_operator, is_space}
 use Rattle.json.specs.Lex.{Mode, between, in_word, in_string, in_escape, lex}
 use Rattle.amqp_json.specs.declared.nesting.Place.{Place}
 use Rattle.amqp_json.specs.declared.nesting.Place.TheVariants.{Between, InWord, InString, Escaped}
+use Rattle.amqp_json.specs.declared.error.SyntaxError.{SyntaxError}
+use Rattle.amqp_json.specs.declared.error.SyntaxError.TheVariants.{UnexpectedEnd, UnfinishedString}
 use Rattle.amqp_json.specs.Nesting.{opens, lexemes_fit}
 
 abbrev pub mode_of : Place → Mode
@@ -35,3 +37,11 @@ pub record ScansTo (most : ℕ) (t : List ℕ) (at : ℕ) (mode : Mode) (left : 
   pub inside : at ≤ length t
   pub few : left ≤ most + at
   pub same : (rest : List ℕ) → lexemes_fit most (lex between (take at t ++ rest)) ≡ lexemes_fit left (lex mode rest)
+
+-- ---- where a text stops being JSON
+
+-- what is wrong at a byte, and not at the end
+abbrev pub IsAtByte : SyntaxError → Type 0
+IsAtByte UnexpectedEnd = ⊥
+IsAtByte UnfinishedString = ⊥
+IsAtByte error = Unit {0}

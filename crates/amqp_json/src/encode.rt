@@ -157,7 +157,7 @@ fn located(error: JsonError, text: &str, levels: u32) -> JsonError
         JsonError::TooLarge => JsonError::TooLarge,
         JsonError::Syntax(..) => {
             let (at, error) = first_fault(text);
-            JsonError::Syntax(at.min(len), error)
+            JsonError::Syntax(at, error)
         }
         JsonError::TooDeep(_) => match first_too_deep(text, levels) {
             Some(at) => JsonError::TooDeep(at),

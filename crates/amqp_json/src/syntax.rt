@@ -3,6 +3,11 @@
 //! `json::Reader` tells that a text isn't JSON, but not at which byte. So `encode` scans a rejected
 //! text again.
 
+ghost use Rattle.std.specs.Prelude.{length, IfErr};
+ghost use Rattle.amqp_json.specs.Conversions.{IsWithin};
+ghost use Rattle.amqp_json.specs.Scans.{IsAtByte};
+ghost use Rattle.amqp_json.specs.declared.error.JsonError.TheVariants.{Syntax};
+
 use crate::error::SyntaxError;
 
 // No text nests deeper.
@@ -10,8 +15,11 @@ const LEVELS: usize = 127;
 
 /// The first byte that can't continue the bytes before it to a JSON text, and what is wrong there; or the end, if
 /// something is missing there. It is of a text that isn't JSON, and that nests at most 127 deep up to that byte.
-pub(crate) fn first_fault(text: &str) -> (usize, SyntaxError) {
-    if text.starts_with('\u{feff}') {
+pub(crate) fn first_fault(text: &str) -> (usize, SyntaxError)
+    ensures { IsWithin (Syntax result.0 result.1) (length text.now) }
+{
+    let bytes = text.as_bytes();
+    if let [0xef, 0xbb, 0xbf, ..] = bytes {
         return (0, SyntaxError::ByteOrderMark);
     }
     let mut scan = Scan {
@@ -19,11 +27,13 @@ pub(crate) fn first_fault(text: &str) -> (usize, SyntaxError) {
         open: [Bracket::Array; LEVELS],
         depth: 0,
     };
-    for (at, byte) in text.bytes().enumerate() {
-        match scan.place_after(byte) {
+    let mut at = 0;
+    'bytes: while at < bytes.len() {
+        match scan.place_after(bytes[at]) {
             Ok(place) => scan.place = place,
             Err(error) => return (at, error),
         }
+        at += 1;
     }
     let error = match scan.place {
         Place::InString { .. } => SyntaxError::UnfinishedString,
@@ -101,7 +111,9 @@ enum Next {
 
 impl Scan {
     // What may come after this byte, if it may come next.
-    fn place_after(&mut self, byte: u8) -> Result<Place, SyntaxError> {
+    fn place_after(&mut self, byte: u8) -> Result<Place, SyntaxError>
+        ensures { IfErr result IsAtByte }
+    {
         match self.place {
             Place::InString { is_key, next } => match after_in_string(next, byte)? {
                 Some(next) => Ok(Place::InString { is_key, next }),
@@ -129,7 +141,9 @@ impl Scan {
     }
 
     // The byte is the first of a value, or stands where a value may begin.
-    fn after_first_byte(&mut self, after: After, byte: u8) -> Result<Place, SyntaxError> {
+    fn after_first_byte(&mut self, after: After, byte: u8) -> Result<Place, SyntaxError>
+        ensures { IfErr result IsAtByte }
+    {
         match (byte, after) {
             (b'"', _) => Ok(string(false)),
             (b'{', _) => Ok(self.open(Bracket::Object)),
@@ -147,7 +161,9 @@ impl Scan {
     }
 
     // The byte is directly after a number or a word.
-    fn after_word(&mut self, byte: u8) -> Result<Place, SyntaxError> {
+    fn after_word(&mut self, byte: u8) -> Result<Place, SyntaxError>
+        ensures { IfErr result IsAtByte }
+    {
         match byte {
             b'+' | b'-' | b'.' | b'0'..=b'9' | b'a'..=b'z' | b'A'..=b'Z' => Err(
                 SyntaxError::UnexpectedCharacter,
@@ -158,7 +174,9 @@ impl Scan {
     }
 
     // The byte is after a value, and no white space.
-    fn after_value(&mut self, byte: u8) -> Result<Place, SyntaxError> {
+    fn after_value(&mut self, byte: u8) -> Result<Place, SyntaxError>
+        ensures { IfErr result IsAtByte }
+    {
         let Some(bracket) = self.innermost() else {
             return Err(SyntaxError::AfterTheValue);
         };
@@ -201,7 +219,9 @@ fn string(is_key: bool) -> Place {
     }
 }
 
-fn after_letter(letters: &'static [u8], byte: u8) -> Result<Place, SyntaxError> {
+fn after_letter(letters: &'static [u8], byte: u8) -> Result<Place, SyntaxError>
+    ensures { IfErr result IsAtByte }
+{
     match letters {
         [letter] if *letter == byte => Ok(Place::EndOfWord),
         [letter, rest @ ..] if *letter == byte => Ok(Place::Word(rest)),
@@ -210,7 +230,9 @@ fn after_letter(letters: &'static [u8], byte: u8) -> Result<Place, SyntaxError> 
 }
 
 // `None` if the byte isn't of the number, which may end before it.
-fn after_in_number(number: Number, byte: u8) -> Result<Option<Number>, SyntaxError> {
+fn after_in_number(number: Number, byte: u8) -> Result<Option<Number>, SyntaxError>
+    ensures { IfErr result IsAtByte }
+{
     match (number, byte) {
         (Number::Minus, b'0') => Ok(Some(Number::Zero)),
         (Number::Minus, b'1'..=b'9') => Ok(Some(Number::Integer)),
@@ -228,7 +250,9 @@ fn after_in_number(number: Number, byte: u8) -> Result<Option<Number>, SyntaxErr
 }
 
 // `None` if the byte is the closing quote.
-fn after_in_string(next: Next, byte: u8) -> Result<Option<Next>, SyntaxError> {
+fn after_in_string(next: Next, byte: u8) -> Result<Option<Next>, SyntaxError>
+    ensures { IfErr result IsAtByte }
+{
     let found = match (next, byte) {
         (Next::Character, b'"') => return Ok(None),
         (Next::Character, b'\\') => Next::Escape,
