@@ -11,9 +11,10 @@ use Rattle.json.specs.Word.{is_operator, is_space, ends_word, literal, number_be
 use Rattle.json.specs.Lex.{Lexeme, comma, colon, Mode, between, in_word, in_string, in_escape, class, string_token, lex, lex_byte, Place, fresh, after_value, after_comma, after_key, begins_colon, may_begin, may_close, if_allowed, place_token, punctuate, tokens}
 use Rattle.json.specs.Lex as lexer
 use Rattle.json.specs.Ascii as ascii
-use Rattle.amqp_json.specs.Nesting.{fits_after, fits, lexemes_fit, IsFirstTooDeep, OpensTooMany, IsTooDeepAt}
+use Rattle.amqp_json.specs.Nesting.{opens, fits_after, fits, lexemes_fit, IsFirstTooDeep, OpensTooMany, IsTooDeepAt}
 use Rattle.amqp_json.specs.Scans.{mode_after, fits_byte, ScansTo}
-use Rattle.json.specs.Json.{Json, value, if_last}
+use Rattle.json.specs.Json.{Json, null, boolean, number, string, array, object, Items, no_items, item, Members, no_members, member, value, if_last}
+use Rattle.json.specs.Tree.{json_tokens, items_tokens, members_tokens}
 use Rattle.json.proofs.Nesting.{value-depth}
 use Rattle.json.proofs.Unique.Spelling.{value-json_tokens_back}
 use Rattle.amqp_value_core.specs.Values.{Tree}
@@ -43,12 +44,12 @@ word_plain : (t : List ℕ) → IsPlain (word t)
 unfolding word
 word_plain t =
     let n = number_before t (after_number t) in
-    let null = literal ascii.null_text token.null t in
+    let nothing = literal ascii.null_text token.null t in
     let falsehood = literal ascii.false_text (token.boolean false) t in
-    one_of (head t == ascii.lower_t) (literal ascii.true_text (token.boolean true) t) (cond (head t == ascii.lower_f) falsehood (cond (head t == ascii.lower_n) null n))
+    one_of (head t == ascii.lower_t) (literal ascii.true_text (token.boolean true) t) (cond (head t == ascii.lower_f) falsehood (cond (head t == ascii.lower_n) nothing n))
     (literal_plain ascii.true_text (token.boolean true) t (record { same = λ left rest. refl }))
-    (one_of (head t == ascii.lower_f) falsehood (cond (head t == ascii.lower_n) null n) (literal_plain ascii.false_text (token.boolean false) t (record { same = λ left rest. refl }))
-    (one_of (head t == ascii.lower_n) null n (literal_plain ascii.null_text token.null t (record { same = λ left rest. refl })) (number_plain t (after_number t))))
+    (one_of (head t == ascii.lower_f) falsehood (cond (head t == ascii.lower_n) nothing n) (literal_plain ascii.false_text (token.boolean false) t (record { same = λ left rest. refl }))
+    (one_of (head t == ascii.lower_n) nothing n (literal_plain ascii.null_text token.null t (record { same = λ left rest. refl })) (number_plain t (after_number t))))
 
 string_plain : (o : Option (List ℕ)) → IsPlain (string_token o)
 string_plain None = bad_plain
@@ -202,3 +203,128 @@ meant_fits most t v at means (bracket, (front, rest, more, u, split, deep, goes_
     let spelled = value-json_tokens_back most (tokens t) [] j read in
     let fit = json_fits j most [] (value-depth most (tokens t) [] j read) in
     cc (fits-front most front rest (ap (fits most) (sym split ∙ spelled) ∙ fit), deep)
+
+-- ---- and so of no text that begins as one that is too deep
+
+-- none of the tokens is bad
+abbrev no_bad : List Token → Bool
+no_bad [] = true
+no_bad (token.bad ∷ ts) = false
+no_bad (t ∷ ts) = no_bad ts
+
+mutual
+  json_good : (j : Json) (us : List Token) → no_bad (json_tokens j ++ us) ≡ no_bad us
+  json_good null us = refl
+  json_good (boolean b) us = refl
+  json_good (number s) us = refl
+  json_good (string s) us = refl
+  json_good (array js) us = items_good js us
+  json_good (object ms) us = members_good ms us
+
+  items_good : (js : Items) (us : List Token) → no_bad (items_tokens js ++ us) ≡ no_bad us
+  items_good no_items us = refl
+  items_good (item j js) us = ap no_bad (append_assoc (json_tokens j) (items_tokens js) us) ∙ json_good j (items_tokens js ++ us) ∙ items_good js us
+
+  members_good : (ms : Members) (us : List Token) → no_bad (members_tokens ms ++ us) ≡ no_bad us
+  members_good no_members us = refl
+  members_good (member k j ms) us = ap no_bad (append_assoc (json_tokens j) (members_tokens ms) us) ∙ json_good j (members_tokens ms ++ us) ∙ members_good ms us
+
+-- what the tokens after a place show of the lexemes
+abbrev Shows : (Place → List Token) → (ℕ → Bool) → Type 0
+Shows k f = (next : Place) (m : ℕ) → fits m (k next) ≡ true → no_bad (k next) ≡ true → f m ≡ true
+
+placed_shows : (p : Place) (t : Token) (b : Bool) (k : Place → List Token) (n : ℕ) (f : ℕ → Bool) → Shows k f → fits n (place_token p t b k) ≡ true → no_bad (place_token p t b k) ≡ true → fits_after t n f ≡ true
+placed_shows p token.begin_object b k n f all h good = opening (may_begin p) h good
+  where
+    opening : (a : Bool) → fits n (if_allowed a token.begin_object k fresh) ≡ true → no_bad (if_allowed a token.begin_object k fresh) ≡ true → fits_after token.begin_object n f ≡ true
+    opening true h good = fits_after-weaker token.begin_object n (λ m. fits m (k fresh)) f (λ m e. all fresh m e good) h
+    opening false h good = absurd (cc (good))
+placed_shows p token.begin_array b k n f all h good = opening (may_begin p) h good
+  where
+    opening : (a : Bool) → fits n (if_allowed a token.begin_array k fresh) ≡ true → no_bad (if_allowed a token.begin_array k fresh) ≡ true → fits_after token.begin_array n f ≡ true
+    opening true h good = fits_after-weaker token.begin_array n (λ m. fits m (k fresh)) f (λ m e. all fresh m e good) h
+    opening false h good = absurd (cc (good))
+placed_shows p token.end_object b k n f all h good = closing (may_close p) h good
+  where
+    closing : (a : Bool) → fits n (if_allowed a token.end_object k after_value) ≡ true → no_bad (if_allowed a token.end_object k after_value) ≡ true → f (suc n) ≡ true
+    closing true h good = all after_value (suc n) h good
+    closing false h good = absurd (cc (good))
+placed_shows p token.end_array b k n f all h good = closing (may_close p) h good
+  where
+    closing : (a : Bool) → fits n (if_allowed a token.end_array k after_value) ≡ true → no_bad (if_allowed a token.end_array k after_value) ≡ true → f (suc n) ≡ true
+    closing true h good = all after_value (suc n) h good
+    closing false h good = absurd (cc (good))
+placed_shows p (token.key s) b k n f all h good = absurd (cc (good))
+placed_shows p (token.string s) true k n f all h good = named (may_begin p) h good
+  where
+    named : (a : Bool) → fits n (if_allowed a (token.key s) k after_key) ≡ true → no_bad (if_allowed a (token.key s) k after_key) ≡ true → f n ≡ true
+    named true h good = all after_key n h good
+    named false h good = absurd (cc (good))
+placed_shows p (token.string s) false k n f all h good = alone (may_begin p) h good
+  where
+    alone : (a : Bool) → fits n (if_allowed a (token.string s) k after_value) ≡ true → no_bad (if_allowed a (token.string s) k after_value) ≡ true → f n ≡ true
+    alone true h good = all after_value n h good
+    alone false h good = absurd (cc (good))
+placed_shows p (token.number s) b k n f all h good = alone (may_begin p) h good
+  where
+    alone : (a : Bool) → fits n (if_allowed a (token.number s) k after_value) ≡ true → no_bad (if_allowed a (token.number s) k after_value) ≡ true → f n ≡ true
+    alone true h good = all after_value n h good
+    alone false h good = absurd (cc (good))
+placed_shows p (token.boolean x) b k n f all h good = alone (may_begin p) h good
+  where
+    alone : (a : Bool) → fits n (if_allowed a (token.boolean x) k after_value) ≡ true → no_bad (if_allowed a (token.boolean x) k after_value) ≡ true → f n ≡ true
+    alone true h good = all after_value n h good
+    alone false h good = absurd (cc (good))
+placed_shows p token.null b k n f all h good = alone (may_begin p) h good
+  where
+    alone : (a : Bool) → fits n (if_allowed a token.null k after_value) ≡ true → no_bad (if_allowed a token.null k after_value) ≡ true → f n ≡ true
+    alone true h good = all after_value n h good
+    alone false h good = absurd (cc (good))
+placed_shows p token.bad b k n f all h good = absurd (cc (good))
+
+-- good tokens open as many as the lexemes do
+shown : (p : Place) (ls : List Lexeme) (n : ℕ) → fits n (punctuate p ls) ≡ true → no_bad (punctuate p ls) ≡ true → lexemes_fit n ls ≡ true
+unfolding punctuate
+shown fresh [] n h good = refl
+shown after_value [] n h good = refl
+shown after_comma [] n h good = refl
+shown after_key [] n h good = refl
+shown fresh (lexer.token t ∷ ls) n h good = placed_shows fresh t (begins_colon ls) (λ next. punctuate next ls) n (λ m. lexemes_fit m ls) (λ next m. shown next ls m) h good
+shown after_value (lexer.token t ∷ ls) n h good = placed_shows after_value t (begins_colon ls) (λ next. punctuate next ls) n (λ m. lexemes_fit m ls) (λ next m. shown next ls m) h good
+shown after_comma (lexer.token t ∷ ls) n h good = placed_shows after_comma t (begins_colon ls) (λ next. punctuate next ls) n (λ m. lexemes_fit m ls) (λ next m. shown next ls m) h good
+shown after_key (lexer.token t ∷ ls) n h good = placed_shows after_key t (begins_colon ls) (λ next. punctuate next ls) n (λ m. lexemes_fit m ls) (λ next m. shown next ls m) h good
+shown fresh (comma ∷ ls) n h good = absurd (cc (good))
+shown after_value (comma ∷ ls) n h good = shown after_comma ls n h good
+shown after_comma (comma ∷ ls) n h good = absurd (cc (good))
+shown after_key (comma ∷ ls) n h good = absurd (cc (good))
+shown fresh (colon ∷ ls) n h good = absurd (cc (good))
+shown after_value (colon ∷ ls) n h good = absurd (cc (good))
+shown after_comma (colon ∷ ls) n h good = absurd (cc (good))
+shown after_key (colon ∷ ls) n h good = shown fresh ls n h good
+
+bracket-weaker : (a b : Bool) (n : ℕ) (f g : ℕ → Bool) → ((m : ℕ) → f m ≡ true → g m ≡ true) → cond a (opens n f) (cond b (f (suc n)) (f n)) ≡ true → cond a (opens n g) (cond b (g (suc n)) (g n)) ≡ true
+bracket-weaker true b n f g k h = fits_after-weaker token.begin_array n f g k h
+bracket-weaker false true n f g k h = k (suc n) h
+bracket-weaker false false n f g k h = k n h
+
+byte-weaker : (m : Mode) (x n : ℕ) (f g : ℕ → Bool) → ((i : ℕ) → f i ≡ true → g i ≡ true) → fits_byte m x n f ≡ true → fits_byte m x n g ≡ true
+byte-weaker between x n f g k h = bracket-weaker (x == 123 || x == 91) (x == 125 || x == 93) n f g k h
+byte-weaker in_word x n f g k h = bracket-weaker (x == 123 || x == 91) (x == 125 || x == 93) n f g k h
+byte-weaker in_string x n f g k h = k n h
+byte-weaker in_escape x n f g k h = k n h
+
+-- the first bytes of a text open no more than all of it
+front_fits : (front rest : List ℕ) (m : Mode) (n : ℕ) → lexemes_fit n (lex m (front ++ rest)) ≡ true → lexemes_fit n (lex m front) ≡ true
+front_fits [] rest m n h = ap (lexemes_fit n) (lex-nil m)
+front_fits (x ∷ front) rest m n h =
+    step front n m x
+    ∙ byte-weaker m x n (λ i. lexemes_fit i (lex (mode_after m x) (front ++ rest))) (λ i. lexemes_fit i (lex (mode_after m x) front)) (λ i. front_fits front rest (mode_after m x) i) (sym (step (front ++ rest) n m x) ∙ h)
+
+pub none_begins : (most : ℕ) (t rest : List ℕ) (at : ℕ) (v : Tree) → IsTooDeepAt most t at → meant_within most (take (at + 1) t ++ rest) ≡ Some v → ⊥
+none_begins most t rest at v (bracket, too_many) means =
+    let u = take (at + 1) t ++ rest in
+    let (j, read) = whole (value most (tokens u)) v means in
+    let spelled = value-json_tokens_back most (tokens u) [] j read in
+    let fit = ap (fits most) spelled ∙ json_fits j most [] (value-depth most (tokens u) [] j read) in
+    let good = ap no_bad spelled ∙ json_good j [] in
+    cc (front_fits (take (at + 1) t) rest between most (shown fresh (lex between u) most fit good), bracket.through)

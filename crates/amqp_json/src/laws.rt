@@ -4,7 +4,7 @@
 
 // The tactic at a function names the lemma that is the law.
 
-ghost use Rattle.std.specs.Prelude.{◌≡◌, Some, List, ℕ};
+ghost use Rattle.std.specs.Prelude.{◌≡◌, ◌+◌, ◌++◌, take, Some, List, ℕ};
 ghost use Rattle.amqp_value_core.specs.Grammar.{Wire};
 ghost use Rattle.amqp_value_core.specs.Bytes.{IsBytes};
 ghost use Rattle.amqp_value_core.specs.Values.{Tree};
@@ -34,4 +34,11 @@ pub fn encoded_has_json()
 #[tactic(auto, using(crate::proofs::Scanning::meant_fits))]
 pub fn meant_fits()
     ensures { (most : ℕ) (t : List ℕ) (v : Tree) (at : ℕ) → meant_within most t ≡ Some v → IsTooDeepAt most t at → ⊥ }
+{}
+
+/// No text that means a value within the limit begins with the bytes of a text up to and including the bracket that is
+/// too deep.
+#[tactic(auto, using(crate::proofs::Scanning::none_begins))]
+pub fn none_begins()
+    ensures { (most : ℕ) (t rest : List ℕ) (at : ℕ) (v : Tree) → IsTooDeepAt most t at → meant_within most (take (at + 1) t ++ rest) ≡ Some v → ⊥ }
 {}
