@@ -1,35 +1,27 @@
 #!/usr/bin/env python3
-"""Makes the page that shows a field table, one file that holds everything: packaging/web.py [--built] [PATH]
+"""Makes the page that shows a field table, one file that holds everything: packaging/web.py PATH
 
-PATH (else `out/web/amqp.html`) has the scripts and the style of bindings/web, the numbers and names of amqp_values.h, and
-the calls of the C API that don't allocate, as two WebAssembly modules in base64. Rattle's compiler makes the first, with
-64-bit addresses, and is trusted as for other targets. `wasm-opt --memory64-lowering` of Debian's binaryen makes the second
-of it, with 32-bit addresses, for browsers that lack the other. The second isn't proved, but tested. A policy in the page
-allows these scripts and this style, by their SHA-256, and no request.
+It has the scripts and the style of bindings/web, the numbers and names of amqp_values.h, and the calls of the C API that don't
+allocate, as the two WebAssembly modules of generated/ in base64. Rattle's compiler makes the first, with 64-bit addresses, and is
+trusted as for other targets. `wasm-opt --memory64-lowering` makes the second of it, with 32-bit addresses, for browsers that lack
+the other. The second isn't proved, but tested. A policy in the page allows these scripts and this style, by their SHA-256, and no
+request.
 
 The page draws what amqpv_read, amqpv_next, amqpv_peek, amqpv_is_canonical and amqpv_write_json return. They are proved, and
 the scripts aren't. The scripts read only hexadecimal, set a cursor of amqpv_next to what a cut container has, and have
 amqpv_peek read a lone number. The module allocates nothing. If it ends, for example since a stack is too small, the page
 makes it anew and says so. tests/web drives the page in Chromium, with both modules.
-
-The crates are proved first, each once, and what `make` has proved isn't proved again. With --built, what `rt ci` has left
-here is taken.
 """
 
-import argparse
 import base64
 import hashlib
 import html
 import json
 import re
-import tempfile
+import sys
 from pathlib import Path
 
-from archives import prove
-from building import C_API, WASM64, X86_64, archive, build_archive
-from dependencies import TOP, Crates, kit
-from processes import end_on_signals
-from programs import end_if_failed, require, run
+from dependencies import TOP
 
 FOLDER = TOP / "bindings/web"
 # Each after those that it imports.
@@ -43,23 +35,8 @@ NUMBER = re.compile(r"AMQPV_(\w+) = (-?\d+|'.')")
 TAG = re.compile(r"case (?:AMQPV_(\w+)|'(.)'):|return \"(\w+)\"")
 DATA = TOP / "crates/amqp_show/data"
 CAPTURED = TOP / "vectors/real-world.json"
-LOWERING = ("--enable-memory64", "--enable-bulk-memory", "--memory64-lowering", "--disable-memory64")
-
-
-def modules(crates: Crates, is_built: bool) -> list[bytes]:
-    """The module whose addresses have 64 bits, and the one whose have 32."""
-    name = C_API[0]
-    if not is_built:
-        prove(crates, [it for it in crates.needed(name) if it not in crates.static])
-    # what the first build has proved isn't proved again for the second
-    for target in (X86_64, WASM64):
-        end_if_failed("web", f"lib{name}.a for {target}", build_archive(crates, name, True, target))
-    with tempfile.TemporaryDirectory(prefix="web-") as folder:
-        wide, narrow = Path(folder) / "64.wasm", Path(folder) / "32.wasm"
-        link = (f"{kit()}/bin/rattle-link", "--target", WASM64, "--toolchain", f"{kit()}/toolchain")
-        run("web", [*link, "-o", wide, archive(crates, name, WASM64)])
-        run("web", ["wasm-opt", *LOWERING, wide, "-o", narrow])
-        return [wide.read_bytes(), narrow.read_bytes()]
+# The module whose addresses have 64 bits, and the one whose have 32.
+WIDE, NARROW = (TOP / "generated/wasm" / it for it in ("amqp_c.wasm", "amqp_c-32.wasm"))
 
 
 def digits(name: str) -> str:
@@ -109,7 +86,7 @@ def allowed(text: str) -> str:
     return f"'sha256-{base64.b64encode(hashlib.sha256(text.encode()).digest()).decode()}'"
 
 
-def page(wide: bytes, narrow: bytes) -> str:
+def page() -> str:
     """The page."""
     style, code = (FOLDER / "style.css").read_text(), script()
     policy = f"default-src 'none'; script-src {allowed(code)} 'wasm-unsafe-eval'; style-src {allowed(style)}"
@@ -122,26 +99,18 @@ def page(wide: bytes, narrow: bytes) -> str:
         "VERSION": found[1],
         "LICENCES": html.escape("\n".join((TOP / it).read_text() for it in ("LICENSE", "THIRD-PARTY"))),
         "EXAMPLES": "\n".join(f'<option value="{value}">{name}</option>' for name, value in examples()),
-        "WASM64": base64.b64encode(wide).decode(),
-        "WASM32": base64.b64encode(narrow).decode(),
+        "WASM64": base64.b64encode(WIDE.read_bytes()).decode(),
+        "WASM32": base64.b64encode(NARROW.read_bytes()).decode(),
     }
     # (in one pass, since a part may have another's name)
     return re.sub(r"@([A-Z0-9]+)@", lambda it: parts[it[1]], (FOLDER / "index.html").read_text())
 
 
 def main() -> None:
-    reader = argparse.ArgumentParser(
-        prog="packaging/web.py", description=__doc__, formatter_class=argparse.RawDescriptionHelpFormatter
-    )
-    reader.add_argument("--built", action="store_true")
-    reader.add_argument("path", nargs="?", type=Path, default=TOP / "out/web/amqp.html", metavar="PATH")
-    said = reader.parse_args()
-    require("web", "rt", "git", "wasm-opt")
-    end_on_signals()
-    text = page(*modules(Crates(), said.built))
-    said.path.parent.mkdir(parents=True, exist_ok=True)
-    said.path.write_text(text)
-    print(f"web: {said.path} has {len(text.encode())} bytes")
+    path, text = Path(sys.argv[1]), page()
+    path.parent.mkdir(parents=True, exist_ok=True)
+    path.write_text(text)
+    print(f"web: {path} has {len(text.encode())} bytes")
 
 
 if __name__ == "__main__":
