@@ -11,8 +11,8 @@ from functools import partial
 from pathlib import Path
 
 import pytest
-from dependencies import Crates
-from wheels import build_package
+
+from tests.compiling import compile_package
 
 # The folder that has the package, in the environment of the processes that run tests side by side.
 BUILT = "AMQP_VALUES_PACKAGE"
@@ -24,8 +24,7 @@ def put_package(config: pytest.Config) -> None:
         # (it isn't in the last folders that pytest keeps, since those of processes that run side by side begin anew)
         folder = tempfile.mkdtemp(prefix="amqp-values-")
         config.add_cleanup(partial(shutil.rmtree, folder))
-        wrong = build_package(Crates(), Path(folder), bool(config.getoption("--built")))
-        if wrong:
+        if wrong := compile_package(Path(folder)):
             raise pytest.UsageError(wrong)
         os.environ[BUILT] = folder
     sys.path.insert(0, os.environ[BUILT])

@@ -6,8 +6,10 @@ import subprocess
 from pathlib import Path
 
 import pytest
-from dependencies import TOP, Crates
-from wheels import PYTHON, build_package
+from dependencies import TOP
+from wheels import PYTHON
+
+from tests.compiling import compile_package
 
 # How many damaged tables are read: by CI, and before a release.
 SAMPLE, WHOLE = 4_000, 100_000
@@ -31,16 +33,16 @@ def runtime(name: str) -> str:
 def test_sanitizers(request: pytest.FixtureRequest, tmp_path: Path, seed: int) -> None:
     """Address and undefined behaviour sanitizers find nothing; each object is allocated by malloc, so that its ends are seen."""
     count = WHOLE if request.config.getoption("--random") else SAMPLE
-    wrong = build_package(Crates(), tmp_path, bool(request.config.getoption("--built")), FLAGS)
+    wrong = compile_package(tmp_path, FLAGS)
     assert not wrong, wrong
     env = {"LD_PRELOAD": runtime("libasan.so"), "ASAN_OPTIONS": "detect_leaks=0", "PYTHONMALLOC": "malloc"}
     assert watched(PYTHON, "mutated", str(tmp_path), seed, count, env) == count
 
 
-def test_references(request: pytest.FixtureRequest, tmp_path: Path, seed: int) -> None:
+def test_references(tmp_path: Path, seed: int) -> None:
     """No reference is lost or left by a round of calls that end well and of others that raise."""
     python = shutil.which(DEBUG)
     assert python, f"{DEBUG} is missing (make setup installs it)"
-    wrong = build_package(Crates(), tmp_path, bool(request.config.getoption("--built")), ["-DPy_REF_DEBUG"])
+    wrong = compile_package(tmp_path, ["-DPy_REF_DEBUG"])
     assert not wrong, wrong
     assert watched(python, "references", str(tmp_path), seed, 700, {}) <= 0

@@ -4,14 +4,19 @@ tests/rabbitmq and tests/vectors run the Python of a root of Debian by `python_i
 """
 
 import os
+import re
 import shutil
 import tempfile
+from collections.abc import Iterator
 from pathlib import Path
 
+from building import X86_64
 from wheels import PYTHON, Words, ran
 
 # The first Python that the wheel is for.
 FIRST = (3, 10)
+# The latest GLIBC whose symbols a wheel of manylinux_2_17 may need.
+GLIBC = (2, 17)
 # What is tried of a wheel that is installed.
 TRIED = """
 import decimal, doctest, pathlib, sys
@@ -41,6 +46,34 @@ for it in ("LICENSE", "THIRD-PARTY"):
     assert "Copyright" in next(here.parent.glob("amqp_values-*/" + it)).read_text()
 print("%d.%d.%d: %d tried" % (*sys.version_info[:3], tried))
 """
+
+
+def wrong_symbols(wheel: Path, target: str = X86_64) -> Iterator[str]:
+    """Yields what the extension in a wheel needs or shows that it mustn't."""
+    with tempfile.TemporaryDirectory(prefix="wheel-") as folder:
+        shutil.unpack_archive(wheel, folder, "zip")
+        (built,) = Path(folder).glob("amqp_values/*.so")
+        if built.name != "_native.abi3.so":
+            yield f"it is {built.name}"
+        table = ran(["readelf", "--dyn-syms", "-W", built])[0]
+        needed = re.findall(r"NEEDED.*\[(.*)\]", ran(["readelf", "-d", "-W", built])[0])
+        machine = re.findall(r"Machine: *(.*)", ran(["readelf", "-h", built])[0])
+    for version in sorted({*re.findall(r"@+GLIBC_([\d.]+)", table)}):
+        if tuple(map(int, version.split("."))) > GLIBC:
+            yield f"it needs GLIBC_{version}"
+    if "@GLIBC" not in table:
+        yield "no symbol of GLIBC was found"
+    if not {*needed} <= {"libc.so.6", "ld-linux-aarch64.so.1"}:
+        yield f"it needs {needed}"
+    if (shown := symbols_shown(table)) != {"PyInit__native"}:
+        yield f"it shows {sorted(shown)}"
+    if ("X86-64" in machine[0]) != (target == X86_64):
+        yield f"it is for {machine[0]}"
+
+
+def symbols_shown(table: str) -> set[str]:
+    """The symbols that a module shows, by what `readelf --dyn-syms -W` prints."""
+    return {line.split()[7] for line in table.splitlines() if re.search(r" (GLOBAL|WEAK) +DEFAULT +\d", line)}
 
 
 def pythons() -> list[Path]:
