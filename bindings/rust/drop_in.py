@@ -1,35 +1,32 @@
 #!/usr/bin/env python3
-"""Makes a drop-in of the Rust crate amq-protocol-types 10.6.x: bindings/rust/drop_in.py CRATE OUT [--library FILE] [--keep-version]
+"""Makes a drop-in of the Rust crate amq-protocol-types 10.6.x: bindings/rust/drop_in.py CRATE OUT [--keep-version]
 
 CRATE is a folder with the crate, as `cargo vendor` or cargo's registry has it, and stays as it is. OUT is made: a crate of the same
 name with the same public items, which checks each array and table within limits before it parses it. Its version is one higher,
 unless it is to be kept. docs/RUST.md has the line that makes a client use it.
 
 The sources are edited by the names of their functions. If one isn't as it is known, nothing is made, and its place is printed.
-OUT has copies of the crates amqp-values and amqp-values-sys, by which it checks. FILE is their libamqp_values.a, by default the
-newest that `make`, `make lib` or `make rust` has left here, or else the one that pkg-config knows. Without it, cargo needs
-AMQP_VALUES_LIB_DIR when it builds.
+OUT has copies of the crates amqp-values and amqp-values-sys, by which it checks, and of the compiled code that they link.
 """
 
 import argparse
 import re
 import shutil
-import subprocess
 import sys
 from pathlib import Path
 from typing import NoReturn
 
 HERE = Path(__file__).resolve().parent
 TOP = HERE.parents[1]
-ARCHIVE = "libamqp_values.a"
 # How a manifest asks for nom: as its author has written it, or as cargo has for its registry.
 NOM = r'(?m)^(?:nom = [^"\n]*|\[dependencies\.nom\]\n(?:[^\[\n]*\n)*?version = )"[=^~]?8\b'
 VERSION = r'(?m)^version = "10\.6\.(\d+)"$'
 # Our modules, and the crates that they use.
 MODULES = ("checked.rs", "limits.rs")
 CRATES = ("amqp-values-sys", "amqp-values")
+# The licences of the compiled code.
+NOTICES = ("LICENSE", "THIRD-PARTY")
 DEPENDENCY = '\n[dependencies.amqp-values]\nversion = "0.1.0"\npath = "amqp-values"\n'
-TARGET = "x86_64-unknown-linux-gnu"
 # What cargo keeps with a crate, and would no longer be right.
 LEFT_OUT = (".cargo-checksum.json", ".cargo-ok", ".cargo_vcs_info.json", "Cargo.lock", "Cargo.toml.orig", "target")
 # The functions that parse arrays and tables, and call each other.
@@ -153,35 +150,15 @@ def edit_parsing(parsing: Source) -> None:
         parsing.give_body(name)
 
 
-def built() -> Path | None:
-    """The newest archive that `make`, `make lib` or `make rust` has left here."""
-    folders = (TOP / "out/build", TOP / "out/lib", HERE / CRATES[0] / "lib" / TARGET)
-    archives = [it / ARCHIVE for it in folders if (it / ARCHIVE).is_file()]
-    return max(archives, key=lambda it: it.stat().st_mtime) if archives else None
-
-
-def installed() -> Path | None:
-    """The archive that pkg-config knows."""
-    words = ["pkg-config", "--variable=libdir", "amqp_values"]
-    try:
-        said = subprocess.run(words, capture_output=True, text=True, check=False).stdout.strip()
-    except FileNotFoundError:
-        return None
-    return Path(said) / ARCHIVE if said and (Path(said) / ARCHIVE).is_file() else None
-
-
 def main() -> int:
     reader = argparse.ArgumentParser(description=__doc__, formatter_class=argparse.RawDescriptionHelpFormatter)
     reader.add_argument("crate", type=Path, metavar="CRATE")
     reader.add_argument("out", type=Path, metavar="OUT")
-    reader.add_argument("--library", type=Path, metavar="FILE")
     reader.add_argument("--keep-version", action="store_true")
     given = reader.parse_args()
     crate, out = given.crate, given.out
     if out.exists():
         sys.exit(f"{out}: it is there already")
-    if given.library and not given.library.is_file():
-        sys.exit(f"{given.library}: there is no such file")
     manifest, root = Source(crate, "Cargo.toml"), Source(crate, "src/lib.rs")
     parsing, generation = Source(crate, "src/parsing.rs"), Source(crate, "src/generation.rs")
     edit_manifest(manifest, given.keep_version)
@@ -197,17 +174,11 @@ def main() -> int:
     for name in MODULES:
         shutil.copyfile(HERE / "drop_in" / name, out / "src" / name)
     for name in CRATES:
-        shutil.copytree(HERE / name, out / name, ignore=shutil.ignore_patterns("lib", "tests", "examples", *LEFT_OUT))
-    if archive := given.library or built() or installed():
-        folder = out / CRATES[0] / "lib" / TARGET
-        folder.mkdir(parents=True)
-        shutil.copyfile(archive, folder / ARCHIVE)
-        for notices in ("LICENSE", "THIRD-PARTY"):
-            shutil.copyfile(TOP / notices, folder / notices)
-        print(f"{out}: it links {archive}")
-    else:
-        why = f"`make lib` makes {ARCHIVE}, --library names it: it isn't here, nor installed"
-        print(f"{why}, so cargo needs AMQP_VALUES_LIB_DIR when it builds", file=sys.stderr)
+        shutil.copytree(HERE / name, out / name, ignore=shutil.ignore_patterns("tests", "examples", *LEFT_OUT))
+    sys_crate = out / CRATES[0]
+    shutil.copytree(TOP / "generated", sys_crate / "generated", ignore=shutil.ignore_patterns("wasm"))
+    for name in NOTICES:
+        shutil.copyfile(TOP / name, sys_crate / name)
     return 0
 
 

@@ -20,7 +20,7 @@ RUST = TOP / "bindings/rust"
 CRATES, DROP_IN = ("amqp-values-sys", "amqp-values"), RUST / "drop_in"
 TARGET, COPIES = OUT / "target", OUT / "crates"
 NAME, VERSION = "amq-protocol-types", "10.6.3"
-# The variable that names the archive's folder, if the archive isn't in the crate.
+# The variable that names the folder of a library that is there.
 NAMED_BY = "AMQP_VALUES_LIB_DIR"
 TRIPLE = "x86_64-unknown-linux-gnu"
 # What cargo calls the two ways to build, and the words that ask for them.
@@ -43,7 +43,7 @@ def count_of_tests(done: Done) -> int:
 def copied(crate: Path, to: Path) -> Path:
     """A fresh copy of a crate's folder, without what was built there, since cargo writes next to what it builds."""
     shutil.rmtree(to, ignore_errors=True)
-    shutil.copytree(crate, to, ignore=shutil.ignore_patterns("lib", "target", "Cargo.lock"))
+    shutil.copytree(crate, to, ignore=shutil.ignore_patterns("target", "Cargo.lock"))
     return to
 
 
@@ -74,10 +74,9 @@ def cargo(folder: Path, *words: str, tools: Path | None = None, seconds: int = 6
 
 
 class Given(NamedTuple):
-    """The Rust crate, the archive of the C API, and the folder that cargo takes packages from."""
+    """The Rust crate, and the folder that cargo takes packages from."""
 
     crate: Path
-    library: Path
     registry: Path
 
     @property
@@ -94,16 +93,13 @@ class Given(NamedTuple):
     def drop_in(self, to: Path, *words: str, crate: Path | None = None) -> Done:
         """Makes the drop-in of the Rust crate, or of another folder."""
         shutil.rmtree(to, ignore_errors=True)
-        return run([RUST / "drop_in.py", crate or self.crate, to, "--library", self.library, *words])
+        return run([RUST / "drop_in.py", crate or self.crate, to, *words])
 
 
-def given(crate: Path, packages: Path, library: Path) -> Given:
-    """The crate, and a folder with the packages that has it as one of them."""
-    registry = OUT / "registry"
-    shutil.rmtree(registry, ignore_errors=True)
-    registry.mkdir(parents=True)
+def given(crate: Path, packages: Path, registry: Path) -> Given:
+    """The crate, and the packages with it as one of them, in a folder outside the checkout: there `rt ci` refuses links."""
     for it in packages.resolve().iterdir():
         (registry / it.name).symlink_to(it)
     copy = copied(crate, registry / f"{NAME}-{VERSION}")
     (copy / ".cargo-checksum.json").write_text(json.dumps({"files": {}, "package": ""}))
-    return Given(copied(crate, OUT / "crate"), library.resolve(), registry)
+    return Given(copied(crate, OUT / "crate"), registry)

@@ -1,9 +1,8 @@
 """The crates amqp-values-sys and amqp-values over the C API: their own tests, lints and examples, and values.rs.
 
-Neither needs another package. amqp-values-sys links the archive of its folder, or of the one that AMQP_VALUES_LIB_DIR
-names. The tests of both pass, also by the oldest compiler that they are for, if it is there as Debian has it, and
-rustdoc has no warning (`make lint` has clippy). Their examples end as those in C. values.rs: on random inputs amqp-values reads,
-measures, finds and writes as the Rust crate does; on samples under valgrind and the address sanitizer.
+Neither needs another package. The tests of both pass, also by the oldest compiler that they are for, if it is there as Debian has
+it, and rustdoc has no warning (`make lint` has clippy). Their examples end as those in C. values.rs: on random inputs amqp-values
+reads, measures, finds and writes as the Rust crate does; on samples under valgrind and the address sanitizer.
 """
 
 import re
@@ -13,22 +12,14 @@ from pathlib import Path
 import pytest
 from dependencies import TOP
 
-from tests.rust.cargo import COPIES, CRATES, NAMED_BY, OF_DEBIAN, OLDEST, PACKAGES, RUST, TARGET, TRIPLE, Given
-from tests.rust.cargo import assert_well, cargo, copied, count_of_tests, last_line, package, run
+from tests.rust.cargo import CRATES, OF_DEBIAN, OLDEST, PACKAGES, RUST, TARGET, TRIPLE, Given
+from tests.rust.cargo import assert_well, cargo, count_of_tests, last_line, package, run
 from tests.transcripts import Case, cases
 
 # Of random inputs, one in so many is tried under valgrind, and under the address sanitizer.
 UNDER_VALGRIND, SANITIZED = 25, 5
 
 pytestmark = pytest.mark.needs("cargo")
-
-
-def test_archive(archive: Path) -> None:
-    """Without an archive amqp-values-sys isn't built, unless a variable names its folder."""
-    without = copied(RUST / CRATES[0], COPIES.with_name("without-archive"))
-    done = cargo(without, "build")
-    assert done.returncode and f"{NAMED_BY} names its folder, as out/build of the sources after `make`" in done.stderr
-    assert_well(cargo(without, "build", AMQP_VALUES_LIB_DIR=str(archive.parent)))
 
 
 @pytest.mark.parametrize(

@@ -15,7 +15,7 @@ from pathlib import Path
 import pytest
 from dependencies import TOP
 
-from tests.rust.cargo import HERE, NAME, OUT, PACKAGES, PROFILES, TRIPLE, VERSION, Given
+from tests.rust.cargo import HERE, NAME, OUT, PACKAGES, PROFILES, VERSION, Given
 from tests.rust.cargo import assert_well, client, copied, count_of_tests, last_line, package
 
 
@@ -50,11 +50,6 @@ def test_unknown_source(rust: Given, name: str, old: str, new: str, what: str) -
     done = rust.drop_in(out, crate=copy)
     assert done.returncode and re.match(rf"{re.escape(name)}:\d+: {what}", done.stderr), done.stderr
     assert not out.exists()
-
-
-@pytest.mark.parametrize("name", ("LICENSE", "THIRD-PARTY"))
-def test_notices_are_next_to_the_archive(drop_in: Path, name: str) -> None:
-    assert (drop_in / "amqp-values-sys/lib" / TRIPLE / name).read_text() == (TOP / name).read_text()
 
 
 def test_tests_of_crate(rust: Given, drop_in: Path) -> None:

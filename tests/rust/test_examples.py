@@ -12,10 +12,11 @@ from pathlib import Path
 from typing import NamedTuple
 
 import pytest
-from building import SOURCES
+from building import static_library
 from dependencies import TOP, Crates
-from wheels import PYTHON, compile_package
+from wheels import PYTHON
 
+from tests.compiling import compile_package
 from tests.model.encoding import field
 from tests.model.inputs import captured, nested
 from tests.rust.cargo import TARGET, assert_well, cargo, package, run
@@ -69,16 +70,15 @@ def literal(data: bytes) -> str:
 
 
 class Made(NamedTuple):
-    """What examples are run over: the archive of the C API, and the Rust crates; and a folder to work in."""
+    """The Rust crates, and a folder to work in."""
 
-    archive: Path
     copies: Path
     folder: Path
 
 
 @pytest.fixture
-def made(archive: Path, copies: Path, tmp_path: Path) -> Made:
-    return Made(archive, copies, tmp_path)
+def made(copies: Path, tmp_path: Path) -> Made:
+    return Made(copies, tmp_path)
 
 
 IN_RATTLE = """
@@ -102,7 +102,7 @@ def printed_by_rattle(code: str, made: Made) -> list[str]:
     """As a program of another repository, to which the crates are copied; nothing is proved."""
     crates = Crates()
     needed = crates.needed("amqp_in_place")
-    for it in (crates.folder(name) / part for name in needed for part in SOURCES):
+    for it in (crates.folder(name) / part for name in needed for part in ("src", "specs", "proofs")):
         shutil.copytree(it, made.folder / it.relative_to(TOP))
     lines = [*map(crates.lines.__getitem__, needed), "deaths: amq_protocol_types amqp_in_place anyhow"]
     (made.folder / "crates.txt").write_text("".join(f"{it}\n" for it in lines))
@@ -135,7 +135,7 @@ def printed_by_c(code: str, made: Made) -> list[str]:
     given, lengths = (", ".join(map(str, it)) for it in (b"".join(GIVEN), map(len, GIVEN)))
     source.write_text(IN_C.format(code=code, given=given, lengths=lengths))
     words = ["cc", "-std=c11", "-Wall", "-Wextra", "-Werror", f"-I{TOP}/include"]
-    assert_well(run([*words, "-o", program, source, made.archive]))
+    assert_well(run([*words, "-o", program, source, static_library(made.folder)]))
     return assert_well(run([program])).splitlines()
 
 
@@ -171,7 +171,7 @@ for headers in {given!r}:
 
 
 def printed_by_python(code: str, made: Made) -> list[str]:
-    assert not compile_package(made.archive, made.folder)
+    assert not compile_package(made.folder)
     words = [PYTHON, "-B", "-c", IN_PYTHON.format(code=code, given=GIVEN)]
     return assert_well(run(words, env={"PYTHONPATH": str(made.folder)})).splitlines()
 
@@ -199,7 +199,10 @@ EXAMPLES = [
 ]
 
 
-@pytest.mark.parametrize(("page", "language"), EXAMPLES)
+NEEDS = {"Rattle": [pytest.mark.needs("rt")]}
+
+
+@pytest.mark.parametrize(("page", "language"), [pytest.param(*it, marks=NEEDS.get(it[1], [])) for it in EXAMPLES])
 def test_example(page: str, language: str, made: Made) -> None:
     text = re.sub(r"(?m)^//! ?", "", (TOP / page).read_text())
     found = re.findall(CODE[language], text)

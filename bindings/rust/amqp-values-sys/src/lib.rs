@@ -1,7 +1,7 @@
 //! The calls of `libamqp_values.a`, as `include/amqp_values.h` declares them, which describes each.
 //!
 //! bindgen makes the declarations. C's `char` is `u8` here, since each text has a length. The crate `amqp-values` is safe Rust
-//! over it.
+//! over it. `build.rs` assembles the library with `cc` and `ar`, unless the variable `AMQP_VALUES_LIB_DIR` names the folder of one.
 //!
 //! What the caller must ensure, besides a stack that suffices:
 //! - Pointers are not NULL, except where NULL is mentioned, and except for data of length 0 and
