@@ -1,1 +1,1 @@
-"""Tests of the C API (include/amqp_values.h) from C, C++ and by ctypes, and of what is installed and packed of it."""
+"""Tests of the C API (include/amqp_values.h) from C, C++ and by ctypes, and of what is installed of it."""

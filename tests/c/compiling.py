@@ -4,8 +4,8 @@ import re
 from pathlib import Path
 from typing import Any
 
-from building import C_API, MALLOC, archive
-from dependencies import TOP, Crates
+from building import C_API
+from dependencies import TOP
 
 from tests.checks import Done as Done
 from tests.checks import Words as Words
@@ -14,13 +14,10 @@ from tests.checks import run as run
 
 HERE = Path(__file__).resolve().parent
 HEADER, EXAMPLES = TOP / "include/amqp_values.h", TOP / "examples/c"
-CRATES = Crates()
 PLAIN, ALLOCATING = C_API
 FLAGS = ["-std=c11", "-Wall", "-Wextra", "-Werror", f"-I{HEADER.parent}"]
 C = ["cc", *FLAGS]
 SANITIZERS = ["-fsanitize=address,undefined", "-fno-sanitize-recover=all"]
-LIBRARIES = {crate: archive(CRATES, crate) for crate in C_API}
-LINKED = (*LIBRARIES.values(), MALLOC)
 # What memory.c is linked with.
 WRAPPED = [f"-Wl,--wrap={it}" for it in ("malloc", "realloc", "free")]
 # The processor by which what is compiled for aarch64 is run, which has what each has.
@@ -32,7 +29,7 @@ def printed(words: Words, **others: Any) -> str:
     return assert_well(run(words, **others))
 
 
-def compiled(source: Path, to: Path, words: Words = C, options: Words = (), libraries: Words = LINKED) -> Path:
+def compiled(source: Path, to: Path, libraries: Words, words: Words = C, options: Words = ()) -> Path:
     """Compiles and links a C program, and returns its path."""
     assert_well(run([*words, "-O1", *options, "-o", to, source, *libraries]))
     return to

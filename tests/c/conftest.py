@@ -1,40 +1,47 @@
-"""Fixtures of tests/c: the `library` that c_api.py calls, the built `libraries`, the `prefix` that they are installed in.
+"""Fixtures of tests/c: the `library` that c_api.py calls, the objects that programs are `linked` with, the `prefix` that the
+library is installed in.
 
-`folder` is one to work in.
+All are built over generated/, outside of the checkout. `folder` is one to work in.
 """
 
 import shutil
 import tempfile
-from collections.abc import Iterator
-from concurrent.futures import ThreadPoolExecutor
-from functools import partial
+from collections.abc import Callable, Iterator
+from functools import cache
 from pathlib import Path
 
 import pytest
-from building import AARCH64, C_API, build_archive, shared_object
-from dependencies import TOP, Crates
+from building import AARCH64, COMPILERS, X86_64, objects, shared_object
+from dependencies import TOP
 
 from tests.c import c_api
-from tests.c.compiling import CRATES, assert_well, run
+from tests.c.compiling import Words
+from tests.c.places import WITHOUT_TOOL, installed
+
+# Assembles generated/ for a target by a compiler; the objects, first of the calls that don't allocate.
+Assemble = Callable[[str, str], list[Path]]
 
 
 def pytest_addoption(parser: pytest.Parser) -> None:
     group = parser.getgroup("this repository")
-    group.addoption("--root", action="store_true", help="use packages in a fresh root, for which it has to be root")
+    group.addoption(
+        "--assembler", metavar="NAME", default="", help="assemble generated/ by another compiler than gcc: clang"
+    )
 
 
 def pytest_configure(config: pytest.Config) -> None:
-    lacks = [it for it in ("rt", "cc", "c++", "nm") if not shutil.which(it)]
+    lacks = [it for it in ("cc", "c++", "nm") if not shutil.which(it)]
     if lacks:
-        raise pytest.UsageError(
-            f"tests/run c needs {', '.join(lacks)} (rt is of the Rattle toolchain, make setup installs all else)"
-        )
+        raise pytest.UsageError(f"tests/run c needs {', '.join(lacks)} (make setup installs it)")
 
 
-def pytest_collection_modifyitems(config: pytest.Config, items: list[pytest.Item]) -> None:
-    """Leaves out the tests for which --root isn't given, as before a release."""
-    if not config.getoption("--root"):
-        items[:] = [it for it in items if not any("--root" in mark.args for mark in it.iter_markers("needs"))]
+def pytest_generate_tests(metafunc: pytest.Metafunc) -> None:
+    """Calls the library of this assembler or, unless one is given, that of each."""
+    if "library" in metafunc.fixturenames:
+        chosen = metafunc.config.getoption("--assembler")
+        clang = pytest.param("clang", marks=pytest.mark.needs("clang"))
+        ways = [chosen] if chosen or metafunc.config.getoption("--library") else ["", clang]
+        metafunc.parametrize("library", ways, indirect=True, scope="session", ids=lambda it: f"by {it or 'gcc'}")
 
 
 @pytest.fixture(scope="session")
@@ -45,42 +52,56 @@ def folder() -> Iterator[Path]:
 
 
 @pytest.fixture(scope="session")
-def libraries(request: pytest.FixtureRequest) -> None:
-    """The libraries are built, two at a time if nothing is proved."""
-    is_built = bool(request.config.getoption("--built"))
-    with ThreadPoolExecutor(2 if is_built else 1) as pool:
-        for done in [*pool.map(partial(build_archive, CRATES, is_built=is_built), C_API)]:
-            assert_well(done)
+def assembler(request: pytest.FixtureRequest) -> str:
+    """What assembles, or nothing for the target's own compiler."""
+    return str(request.config.getoption("--assembler"))
 
 
-def installed(to: Path, *flags: str) -> Path:
-    """Builds what CMakeLists.txt installs, and installs it into a folder."""
-    assert_well(run(["cmake", "-S", TOP, "-B", f"{to}-built", *flags]))
-    assert_well(run(["cmake", "--build", f"{to}-built"]))
-    assert_well(run(["cmake", "--install", f"{to}-built", "--prefix", to]))
-    return to
+def for_target(assembler: str, target: str, folder: Path) -> str:
+    """An assembler's name for a target: by its own name clang finds out what it compiles for."""
+    if not assembler or target == X86_64:
+        return assembler
+    named = folder / COMPILERS[target][0].replace("gcc", assembler)
+    if not named.exists():
+        named.symlink_to(shutil.which(named.name) or shutil.which(assembler) or assembler)
+    return str(named)
 
 
 @pytest.fixture(scope="session")
-def prefix(libraries: None, folder: Path) -> Path:
+def assemble(folder: Path) -> Assemble:
+    @cache
+    def made(target: str, assembler: str) -> list[Path]:
+        to = folder / f"objects for {target} {assembler}"
+        to.mkdir()
+        return objects(to, target, for_target(assembler, target, folder))
+
+    return made
+
+
+@pytest.fixture(scope="session")
+def linked(assemble: Assemble, assembler: str) -> Words:
+    """The objects of the C API, with which programs are linked."""
+    return assemble(X86_64, assembler)
+
+
+@pytest.fixture(scope="session")
+def prefix(folder: Path, assembler: str) -> Path:
     """Where the library is installed."""
-    return installed(folder / "installed")
+    flags = [f"-DCMAKE_ASM_COMPILER={assembler}"] * bool(assembler)
+    return installed(folder / "installed", WITHOUT_TOOL, *flags)
 
 
 @pytest.fixture(scope="session")
-def made_for_aarch64(libraries: None, folder: Path) -> Path:
+def made_for_aarch64(folder: Path, assembler: str) -> Path:
     """Where it is installed for aarch64."""
-    for it in C_API:
-        assert_well(build_archive(CRATES, it, True, AARCH64))
-    return installed(folder / "aarch64", "--toolchain", str(TOP / "packaging/aarch64.cmake"))
+    flags = [f"-DCMAKE_ASM_COMPILER={for_target(assembler, AARCH64, folder)}"] * bool(assembler)
+    return installed(folder / "aarch64", "--toolchain", str(TOP / "packaging/aarch64.cmake"), *flags)
 
 
 @pytest.fixture(scope="session")
 def library(request: pytest.FixtureRequest, tmp_path_factory: pytest.TempPathFactory) -> str:
     """The path of the shared object of the C API, which c_api.py has loaded."""
-    path = request.config.getoption("--library")
-    if not path:
-        path, wrong = shared_object(Crates(), tmp_path_factory.mktemp("library"), request.config.getoption("--built"))
-        assert not wrong, wrong
-    c_api.load(str(path))
-    return str(path)
+    given = request.config.getoption("--library")
+    path = str(given or shared_object(tmp_path_factory.mktemp("library"), request.param))
+    c_api.load(path)
+    return path

@@ -1,6 +1,6 @@
 """Extracts from docs/C.md and other installed pages what tests try: commands, their output, C code, and names of files.
 
-test_examples.py, test_installed.py and test_packages.py use it. (tests/pages.py compares all pages with the sources.)
+Suites c and packages use it. (tests/pages.py compares all pages with the sources.)
 """
 
 import re
@@ -36,10 +36,25 @@ def commands_of_first(page: str) -> tuple[str, str]:
     return commands, "".join(f"{it}\n" for it in block if not it.startswith("$ "))
 
 
+def commands_of_building(page: str) -> list[str]:
+    """The commands of docs/C.md about building in a clone."""
+    section = page.partition("**Build.**")[2].partition("<!-- end -->")[0]
+    return [
+        it
+        for block in re.findall(r"(?ms)^```console\n(.*?)^```", section)
+        for it in re.findall(r"(?m)^\$ (.*)$", block)
+    ]
+
+
+def blocks_of_cmake(page: str) -> list[str]:
+    """What docs/C.md has for a project that uses CMake."""
+    return re.findall(r"(?ms)^```cmake\n(.*?)^```", page)
+
+
 def commands_of_linking(page: str) -> tuple[list[str], str]:
     """The commands of docs/C.md about linking, and what they print."""
     section = page.partition("## Install and link")[2]
-    tried, wanted, is_shown = ["make() { :; }"], "", False
+    tried, wanted, is_shown = list[str](), "", False
     for line in "\n".join(re.findall(r"(?ms)^```console\n(.*?)^```", section)).splitlines():
         if line.startswith("$ "):
             is_shown = not line[2:].startswith(NOT_RUN)

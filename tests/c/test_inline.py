@@ -6,7 +6,7 @@ from random import Random
 import pytest
 
 from tests.c import c_api
-from tests.c.compiling import HERE, SANITIZERS, compiled, printed
+from tests.c.compiling import HERE, SANITIZERS, Words, compiled, printed
 from tests.c.test_by_model import KEYS, NUMBERS, VALUES, encoding, is_inside, looked_up, stepped, wanted_problem
 from tests.c.c_api import INVALID, MAX_BYTES, MAX_DEPTH, OK
 from tests.model.encoding import TYPES, extent, field, is_utf8, lack
@@ -27,8 +27,8 @@ Program = Path
 
 
 @pytest.fixture(scope="module")
-def inline(libraries: None, folder: Path) -> Program:
-    return compiled(HERE / "inline.c", folder / "inline", options=SANITIZERS)
+def inline(linked: Words, folder: Path) -> Program:
+    return compiled(HERE / "inline.c", folder / "inline", linked, options=SANITIZERS)
 
 
 def lines_of(program: Program, lines: list[str]) -> list[str]:

@@ -1,6 +1,6 @@
-"""What `make install` puts into a folder is used from there, without anything of this repository or of the kit.
+"""What CMake installs into a folder is used from there, without anything of this repository or of the kit.
 
-Used are examples in C11 over the shared object, in C11 over the archive, one in C++17, one in Python, the symbols, the tool, and
+Used are examples in C11 over the shared object, in C11 over the archive, one in C++17, one in Python, the symbols, the pages, and
 CMake's files, at usual places and at others. The commands of the installed page show what it has.
 """
 
@@ -17,10 +17,9 @@ import pytest
 from dependencies import TOP
 
 from tests.c.declared import CALLS
-from tests.c.conftest import installed
 from tests.c.compiling import EXAMPLES, Done, Words, assert_well, printed, run, symbols, version
-from tests.c.pages import commands_of_linking
-from tests.c.places import NAME, PATH, files_in
+from tests.c.pages import commands_of_linking, names_that_lack
+from tests.c.places import NAME, PATH, WITHOUT_TOOL, assert_needs_glibc, installed
 from tests.c.running import assert_as_transcript
 from tests.transcripts import cases
 
@@ -33,8 +32,6 @@ USES = [
     for name in (sorted(it.stem for it in EXAMPLES.glob("*.c")) if language == "C11" else ["count_deaths"])
 ]
 Use = Callable[[str, str, str], Path]
-
-pytestmark = pytest.mark.needs("--built")
 
 
 @pytest.fixture(scope="module")
@@ -75,11 +72,12 @@ def test_example(use: Use, alone: dict[str, Any], name: str, language: str, link
 def test_no_allocator_is_linked(use: Use) -> None:
     """A program without an allocating call asks for none."""
     taken = printed(["nm", use("print_value", "C11", ARCHIVE)])
-    assert " main" in taken and "rattle_alloc" not in taken
+    assert " main" in taken and "amqpv_read" in taken
+    assert not re.search(r"rattle_alloc|\bmalloc@", taken)
 
 
 def test_archive_has_the_calls_only(prefix: Path) -> None:
-    """Another archive that Rattle made, with functions of the same names over malloc, links with it."""
+    """Another archive that Rattle made, with functions of the same names, links with it."""
     found = symbols(prefix / "lib/libamqp_values.a", "-g", "--defined-only")
     assert found == {name for names in CALLS.values() for name in names}
 
@@ -88,6 +86,11 @@ def test_shared_object_shows_the_calls(prefix: Path) -> None:
     # (each with its version, which is a symbol too, of kind A)
     found = symbols(prefix / "lib/libamqp_values.so", "-D", "--defined-only", kinds="B-Z")
     assert {it.partition("@")[0] for it in found} == {name for names in CALLS.values() for name in names}
+
+
+def test_what_is_before_librabbitmq_shows_its_calls(prefix: Path) -> None:
+    found = symbols(prefix / f"lib/lib{NAME}_rabbitmq.so", "-D", "--defined-only")
+    assert found == {"amqp_decode_table", "amqpv_before_rabbitmq"}
 
 
 def test_shared_object_needs_the_c_library(prefix: Path) -> None:
@@ -114,19 +117,46 @@ def test_python_finds_the_shared_object(alone: dict[str, Any]) -> None:
     assert printed([sys.executable, "-c", script], **alone) == f"{10000 * major + 100 * minor + patch}\n"
 
 
-def test_tool(prefix: Path, alone: dict[str, Any]) -> None:
-    assert printed([prefix / "bin/amqp_show", "--version"], **alone) == f"amqp_show {version()}\n"
+@pytest.mark.parametrize(
+    ("name", "latest"),
+    ((f"lib/lib{NAME}.so", "2.17"), (f"lib/lib{NAME}_rabbitmq.so", "2.34")),
+)
+def test_glibc(prefix: Path, name: str, latest: str) -> None:
+    assert_needs_glibc(prefix / name, latest)
+
+
+# Pages
+
+
+def test_names_in_pages(prefix: Path) -> None:
+    """Installed pages name only what is installed."""
+    assert names_that_lack(prefix / f"share/doc/{NAME}", prefix) == []
+
+
+def test_names_in_headers(prefix: Path) -> None:
+    named = {page for it in prefix.glob("include/*.h") for page in re.findall(r"[\w/]+\.md", it.read_text())}
+    assert sorted(it for it in named if not (prefix / f"share/doc/{NAME}" / it).exists()) == []
+
+
+def test_manual(prefix: Path) -> None:
+    """It is as mandoc wants it."""
+    pages = sorted(it for it in prefix.glob("share/man/man*/*") if not it.is_symlink())
+    assert pages
+    assert printed(["mandoc", "-Tlint", "-Wwarning", *pages]) == ""
 
 
 @pytest.mark.parametrize(
-    ("name", "latest"),
-    ((f"lib/lib{NAME}.so", "2.17"), ("lib/libamqp_values_rabbitmq.so", "2.34"), ("bin/amqp_show", "2.34")),
+    ("name", "pattern"),
+    (
+        ("packaging/amqp_values.3", r"(?m)^\.Fn (amqpv_\w+)"),
+        ("packaging/amqp_values.map", r"(?m)^    (amqpv_\w+);$"),
+        ("debian/libamqp-values0.symbols", r"(?m)^ (amqpv_\w+)@AMQPV_"),
+    ),
 )
-def test_glibc(prefix: Path, name: str, latest: str) -> None:
-    """Nothing needs a later one than docs/PLATFORMS.md says."""
-    found = re.findall(r"@GLIBC_([\d.]+)", printed(["readelf", "--dyn-syms", "-W", prefix / name]))
-    assert max([*map(int, it.split("."))] for it in found) <= [*map(int, latest.split("."))]
-    assert f"glibc {latest}" in (TOP / "docs/PLATFORMS.md").read_text()
+def test_list_has_the_calls_of_the_header(name: str, pattern: str) -> None:
+    calls = {it for names in CALLS.values() for it in names}
+    inline = {"amqpv_begin", "amqpv_finish"} if name.endswith(".3") else set()
+    assert sorted(re.findall(pattern, (TOP / name).read_text())) == sorted(calls | inline)
 
 
 # CMake
@@ -173,106 +203,11 @@ def test_cmake_finds_no_version_1_0(prefix: Path, tmp_path: Path) -> None:
     assert done.returncode == 1
 
 
-# make
-
-
-def make(out: Path, *words: str | Path, **others: Any) -> Done:
-    """Runs make over what `rt ci` has left, with a folder of its own for all that it makes."""
-    return run(["make", "-C", TOP, "BUILT=--built", f"OUT={out}", *words], **others)
-
-
-@pytest.fixture(scope="module")
-def out(libraries: None, folder: Path) -> Path:
-    """Where make has built all."""
-    path = folder / "out"
-    assert_well(make(path))
-    return path
-
-
-# (with -W a file is taken for new, and -n prints what would be run)
-NEW = ("include/amqp_values.h", "crates/amqp_c/src/lib.rt", "crates/amqp_value_core/specs", "docs/C.md")
-
-
-@pytest.mark.parametrize("name", ("", *NEW), ids=("nothing", *NEW))
-def test_what_is_made_anew(out: Path, name: str) -> None:
-    said = assert_well(make(out, "-n", *(["-W", name] if name else [])))
-    assert ("packaging/archives.py" in said) == bool(name)
-
-
-def test_other_flags_build_anew(out: Path, tmp_path: Path) -> None:
-    """Once; and without flags what was built stays."""
-    old, called = tmp_path / "old", tmp_path / "called"
-    shutil.copytree(out, old, symlinks=True)
-    (tmp_path / "cmake").write_text(f'#!/bin/sh\necho "$*" >>{called}\n')
-    (tmp_path / "cmake").chmod(0o755)
-    env = {**os.environ, "PATH": f"{tmp_path}:{os.environ['PATH']}"}
-    one, other = "-DCMAKE_INSTALL_LIBDIR=lib64", "-DCMAKE_INSTALL_LIBDIR=lib32"
-    called.touch()
-    for flags, wanted in (("", []), (one, [one]), (one, [one]), (other, [one, other]), ("", [one, other])):
-        assert_well(make(old, *[f"CMAKE_FLAGS={flags}"] * bool(flags), env=env))
-        assert [it.split()[-1] for it in called.read_text().splitlines() if "-S . " in it] == wanted
-
-
-def test_build_that_fails_is_not_installed(out: Path, tmp_path: Path) -> None:
-    """Nor is one that ended well before."""
-    broken, old, root = tmp_path / "broken", tmp_path / "old", tmp_path / "root"
-    broken.mkdir()
-    (broken / "cmake").write_text('#!/bin/sh\n[ "$1" != --build ] || exit 1\nexec /usr/bin/cmake "$@"\n')
-    (broken / "cmake").chmod(0o755)
-    shutil.copytree(out, old, symlinks=True)
-    env = {**os.environ, "PATH": f"{broken}:{os.environ['PATH']}"}
-    for words in (["-W", "docs/C.md"], list[str]()):
-        assert make(old, *words, "install", f"DESTDIR={root}", env=env).returncode
-        assert not root.exists()
-
-
-def test_library_without_the_tool(out: Path, prefix: Path, tmp_path: Path) -> None:
-    assert_well(make(out, "install-lib", f"PREFIX={tmp_path}"))
-    assert files_in(prefix) - files_in(tmp_path) == {"bin/amqp_show", "share/man/man1/amqp_show.1"}
-
-
-def test_page_is_made_of_what_make_has_proved(tmp_path: Path) -> None:
-    for it in ("env", "git", "python3", "wasm-opt"):
-        (tmp_path / it).symlink_to(f"/usr/bin/{it}")
-    (tmp_path / "rt").write_text(f'#!/bin/sh\necho "$*" >>{tmp_path}/asked\nexit 1\n')
-    (tmp_path / "rt").chmod(0o755)
-    assert run([TOP / "packaging/web.py", tmp_path / "page"], env={"PATH": str(tmp_path)}).returncode
-    # (rt lib proves in the checkout, over what is kept there; rt ci in a copy, from nothing)
-    assert (tmp_path / "asked").read_text().split() == ["lib"]
-
-
-def test_tests_say_that_they_need_the_kit(tmp_path: Path) -> None:
-    done = run([TOP / "tests/run", "c"], env={"PATH": PATH, "TMPDIR": str(tmp_path)})
-    assert done.returncode
-    assert [it for it in (done.stdout + done.stderr).splitlines() if it.startswith("ERROR: tests/run c needs rt")]
-
-
-@pytest.fixture
-def root(tmp_path: Path) -> Path:
-    """A root that is no root."""
-    return tmp_path / "a root"
-
-
-def test_install(out: Path, prefix: Path, root: Path) -> None:
-    """Others can read all, each file is printed, and all is removed again."""
-    before = os.umask(0o077)
-    try:
-        said = assert_well(make(out, "install", f"DESTDIR={root}", "PREFIX=/usr"))
-    finally:
-        os.umask(before)
-    modes = {(it.stat().st_mode & 0o777, it.is_dir() or it.parent.name == "bin") for it in root.rglob("*")}
-    assert modes == {(0o755, True), (0o644, False)}
-    assert files_in(root / "usr") == files_in(prefix)
-    assert {*said.splitlines()} >= {f"-- Installing: {root / it}" for it in files_in(root)}
-    assert_well(make(out, "uninstall", f"DESTDIR={root}", "PREFIX=/usr"))
-    assert files_in(root) == set()
-    assert not [*root.rglob(NAME)]
-
-
-def test_install_at_other_places(libraries: None, tmp_path: Path) -> None:
-    places = {"LIBDIR": "there/lib", "INCLUDEDIR": "inc", "MANDIR": "man", "DOCDIR": "doc", "BINDIR": "exe"}
-    at = installed(tmp_path / "at", *(f"-DCMAKE_INSTALL_{name}={place}" for name, place in places.items()))
-    assert {it.name for it in at.iterdir()} == {"there", "inc", "man", "doc", "exe"}
+def test_install_at_other_places(tmp_path: Path) -> None:
+    places = {"LIBDIR": "there/lib", "INCLUDEDIR": "inc", "MANDIR": "man", "DOCDIR": "doc"}
+    flags = [f"-DCMAKE_INSTALL_{name}={place}" for name, place in places.items()]
+    at = installed(tmp_path / "at", WITHOUT_TOOL, *flags)
+    assert {it.name for it in at.iterdir()} == {"there", "inc", "man", "doc"}
     env = {**os.environ, "PKG_CONFIG_PATH": str(at / "there/lib/pkgconfig")}
     program = tmp_path / "program"
     flags = printed(["pkg-config", "--cflags", "--libs", NAME], env=env).split()
@@ -281,11 +216,11 @@ def test_install_at_other_places(libraries: None, tmp_path: Path) -> None:
     assert Path(doc).resolve() == at / "doc"
 
 
-def test_commands_of_page(libraries: None, tmp_path: Path) -> None:
+def test_commands_of_page(tmp_path: Path) -> None:
     """What the installed page says about linking, in a folder of one's own, shows what it has."""
     home, own = tmp_path / "home", tmp_path / "own"
     own.mkdir()
-    installed(home / "amqp")
+    installed(home / "amqp", WITHOUT_TOOL)
     commands, wants = commands_of_linking((home / f"amqp/share/doc/{NAME}/C.md").read_text())
     env = {"PATH": PATH, "HOME": str(home), "LD_LIBRARY_PATH": str(home / "amqp/lib")}
     env["PKG_CONFIG_PATH"] = str(home / "amqp/lib/pkgconfig")

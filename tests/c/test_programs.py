@@ -3,7 +3,7 @@
 All except nested.c print how many calls they made.
 
 nested.c makes the calls that recurse, on the stacks that docs/PROMISES.md names, and with the limits that the header recommends
-on the stacks that it names (tests/model/nesting.py), with --built for aarch64 too.
+on the stacks that it names (tests/model/nesting.py), for aarch64 too.
 
 C is compiled with the address and undefined behaviour sanitizers, threads.c with ThreadSanitizer, except nested.c.
 They don't see into the libraries, so most programs have pages about their bytes that can't be accessed.
@@ -17,7 +17,7 @@ from random import Random
 import pytest
 from building import AARCH64, COMPILERS
 
-from tests.c.compiling import FLAGS, HERE, LINKED, OF_AARCH64, SANITIZERS, WRAPPED, C, Words, compiled, printed
+from tests.c.compiling import FLAGS, HERE, OF_AARCH64, SANITIZERS, WRAPPED, C, Words, compiled, printed
 from tests.model import nesting
 from tests.model.json_format import json_of, text_for
 from tests.model.encoding import field, read, write
@@ -27,7 +27,7 @@ from tests.model.tables import random_table, raw
 # The programs that have no input.
 ALONE = ("habits.c", "large.c", "nulls.c", "threads.c")
 CC_OF_AARCH64 = [COMPILERS[AARCH64][0], *FLAGS]
-needs_aarch64 = pytest.mark.needs("--built", "aarch64")
+needs_aarch64 = pytest.mark.needs("aarch64")
 
 
 @pytest.fixture(scope="session")
@@ -45,9 +45,9 @@ def calls_of(words: Words, given: str = "") -> int:
 
 
 @pytest.mark.parametrize("name", ALONE)
-def test_program(libraries: None, tmp_path: Path, name: str) -> None:
+def test_program(linked: Words, tmp_path: Path, name: str) -> None:
     how = ["-fsanitize=thread", "-pthread"] if name == "threads.c" else SANITIZERS
-    assert calls_of([compiled(HERE / name, tmp_path / "program", options=how)])
+    assert calls_of([compiled(HERE / name, tmp_path / "program", linked, options=how)])
 
 
 def of_memory(make: Random) -> Iterator[tuple[str, int, bytes, bytes]]:
@@ -69,38 +69,37 @@ def of_memory(make: Random) -> Iterator[tuple[str, int, bytes, bytes]]:
         yield "from_json", 0, text_for(make, value).encode(), encoding
 
 
-def test_memory(libraries: None, tmp_path: Path, seed: int) -> None:
+def test_memory(linked: Words, tmp_path: Path, seed: int) -> None:
     """Buffers of every size, and each allocation failing in turn."""
     lines = [
         f"{call} {flags} .{given.hex()} .{wanted.hex()}\n" for call, flags, given, wanted in of_memory(Random(seed))
     ]
     options = [*SANITIZERS, *WRAPPED]
-    assert calls_of([compiled(HERE / "memory.c", tmp_path / "program", options=options)], "".join(lines))
+    assert calls_of([compiled(HERE / "memory.c", tmp_path / "program", linked, options=options)], "".join(lines))
 
 
 @needs_aarch64
 def test_nulls_on_aarch64(for_aarch64: Words, tmp_path: Path) -> None:
-    program = compiled(HERE / "nulls.c", tmp_path / "nulls", CC_OF_AARCH64, libraries=for_aarch64)
+    program = compiled(HERE / "nulls.c", tmp_path / "nulls", for_aarch64, CC_OF_AARCH64)
     assert calls_of([*OF_AARCH64, program])
 
 
 # Nesting
 
 
-def nested(folder: Path, name: str, words: Words, libraries: Words) -> Path:
+def nested(folder: Path, name: str, libraries: Words, words: Words) -> Path:
     """nested.c, as it is compiled."""
-    source = HERE / "nested.c"
-    return compiled(source, folder / name, words, ["-pthread"], libraries)
+    return compiled(HERE / "nested.c", folder / name, libraries, words, ["-pthread"])
 
 
 @pytest.fixture(scope="module")
-def on_x86_64(libraries: None, folder: Path) -> nesting.Program:
-    return nesting.Threaded(nested(folder, "nested", C, LINKED))
+def on_x86_64(linked: Words, folder: Path) -> nesting.Program:
+    return nesting.Threaded(nested(folder, "nested", linked, C))
 
 
 @pytest.fixture(scope="module")
 def on_aarch64(for_aarch64: Words, folder: Path) -> nesting.Program:
-    return nesting.Threaded(nested(folder, "nested-aarch64", CC_OF_AARCH64, for_aarch64), (*map(str, OF_AARCH64),))
+    return nesting.Threaded(nested(folder, "nested-aarch64", for_aarch64, CC_OF_AARCH64), (*map(str, OF_AARCH64),))
 
 
 def checks(column: int) -> list[nesting.Check]:

@@ -1,46 +1,39 @@
-"""The symbols that the two libraries of the C API define, and those that they ask for.
+"""The symbols that the two objects of the C API define, and those that they ask for, as gcc and clang assemble them.
 
-Each library has its calls and no other, as include/amqp_values.h declares them. The first asks only for `memcpy` and `memmove`,
-so it can't allocate, print or end the process, the second for `memset` and the three functions of
-crates/amqp_c_alloc/malloc.c too. None has a variable.
+The global symbols of each are its calls and no other, as include/amqp_values.h declares them: another library that Rattle made
+can have functions of the same names. The first asks only for `memcpy` and `memmove`, so it can't allocate, print or end the
+process, the second for `memset` and the three functions of c/malloc.c too. None has a variable.
 """
 
-from pathlib import Path
+from typing import Any
 
 import pytest
-from building import AARCH64, archive
+from building import AARCH64, C_API, X86_64
 
+from tests.c.conftest import Assemble
 from tests.c.declared import CALLS
-from tests.c.compiling import ALLOCATING, CRATES, LIBRARIES, PLAIN, symbols
+from tests.c.compiling import ALLOCATING, PLAIN, symbols
 
-OF_MALLOC = {"rattle_alloc", "rattle_realloc", "rattle_dealloc"}
+OF_MALLOC = {"malloc", "realloc", "free"}
 BORROWED = {PLAIN: {"memcpy", "memmove"}, ALLOCATING: {"memcpy", "memmove", "memset"} | OF_MALLOC}
 
-of_each = pytest.mark.parametrize("crate", LIBRARIES)
+
+def ways() -> list[Any]:
+    """Each target and assembler, and what isn't left out for it."""
+    found = []
+    for target in (X86_64, AARCH64):
+        for assembler in ("", "clang"):
+            needs = [*["aarch64"] * (target == AARCH64), *[assembler] * bool(assembler)]
+            name = f"{target.partition('-')[0]} by {assembler or 'gcc'}"
+            found.append(pytest.param(target, assembler, id=name, marks=pytest.mark.needs(*needs)))
+    return found
 
 
-def asked_for(path: Path) -> set[str]:
-    """What a library asks for."""
-    return symbols(path, "-g", "--undefined-only")
-
-
-@of_each
-def test_calls(libraries: None, crate: str) -> None:
-    assert symbols(LIBRARIES[crate], "-g", "--defined-only") == CALLS[crate]
-
-
-@of_each
-def test_no_more_is_asked_for(libraries: None, crate: str) -> None:
-    assert asked_for(LIBRARIES[crate]) - BORROWED[crate] == set()
-
-
-@of_each
-@pytest.mark.needs("--built", "aarch64")
-def test_no_more_is_asked_for_on_aarch64(made_for_aarch64: Path, crate: str) -> None:
-    assert asked_for(archive(CRATES, crate, AARCH64)) - BORROWED[crate] == set()
-
-
-@of_each
-def test_no_variable(libraries: None, crate: str) -> None:
-    """No symbol can be written to."""
-    assert symbols(LIBRARIES[crate], kinds="bBdDC") == set()
+@pytest.mark.parametrize("crate", C_API)
+@pytest.mark.parametrize(("target", "assembler"), ways())
+def test_symbols(assemble: Assemble, target: str, assembler: str, crate: str) -> None:
+    object_file = dict(zip(C_API, assemble(target, assembler)))[crate]
+    assert symbols(object_file, "-g", "--defined-only") == CALLS[crate]
+    assert symbols(object_file, "-g", "--undefined-only") - BORROWED[crate] == set()
+    # (none can be written to)
+    assert symbols(object_file, kinds="bBdDC") == set()

@@ -1,8 +1,8 @@
-"""amqp_show on the transcripts of this folder, whose form is in tests/transcripts.py, and on the README's commands.
+"""amqp_show on the transcripts of this folder, whose form is in tests/transcripts.py, and on the commands of its guide.
 
 A case's command runs in a copy of crates/amqp_show/data that has a folder `folder` too, and a file whose name has an escape
 character. It has to print what is below it. --write writes the transcripts again, with what the commands print now. The
-commands of README.md that end in `rt try -- WORDS` have to print what is there. The program writes only by its Screen.
+commands of docs/SHOW.md that pipe into it have to print what is there. The program writes only by its Screen.
 """
 
 import difflib
@@ -70,20 +70,20 @@ def test_case(case: Case, amqp_show: Path, folder: Path, is_writing: bool, writt
         pytest.fail(differs, pytrace=False)
 
 
-# The README
+# The guide
 
 
 def commands() -> Iterator[tuple[str, str, str]]:
-    """The commands of the README that pipe into this program: what is before it, its words, and what is printed."""
-    for block in re.findall(r"```console\n(.*?)```", (TOP / "README.md").read_text(), re.DOTALL):
-        yield from re.findall(r"(?m)^\$ (.*\| )rt try -- (.*)\n((?:(?!\$ ).*\n)*)", block)
+    """The commands of docs/SHOW.md that pipe into this program: what is before it, its words, and what is printed."""
+    for block in re.findall(r"```console\n(.*?)```", (TOP / "docs/SHOW.md").read_text(), re.DOTALL):
+        yield from re.findall(r"(?m)^\$ (.*\| )amqp_show (.*)\n((?:(?!\$ ).*\n)*)", block)
 
 
 COMMANDS = [*commands()]
 
 
 @pytest.mark.parametrize(("source", "words", "wants"), COMMANDS, ids=[words for _, words, _ in COMMANDS])
-def test_command_of_readme(program: Path, source: str, words: str, wants: str) -> None:
+def test_command_of_guide(program: Path, source: str, words: str, wants: str) -> None:
     command = f"{source}'{program}' {words}"
     done = subprocess.run(["bash", "-c", command], capture_output=True, text=True, timeout=60)
     assert done.stdout == wants, done.stderr

@@ -1,1 +1,1 @@
-"""Tests of the page of bindings/web in a browser, against what amqp_show prints."""
+"""Tests of the page of bindings/web in a browser. tests/show compares it with what amqp_show prints."""

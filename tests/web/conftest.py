@@ -1,13 +1,12 @@
-"""Fixtures of the tests in tests/web: the `page`, which packaging/web.py makes, and a `browser` with it."""
+"""Fixtures of the tests in tests/web and of some in tests/show: the `page`, which packaging/web.py makes, and a `browser` with it."""
 
-import subprocess
-import sys
 from collections.abc import Iterator
 from pathlib import Path
 
 import pytest
 from dependencies import TOP
 
+from tests.checks import assert_well, run
 from tests.web.browser import Browser, opened
 
 
@@ -18,12 +17,10 @@ def pytest_addoption(parser: pytest.Parser) -> None:
 @pytest.fixture(scope="session")
 def page(request: pytest.FixtureRequest, tmp_path_factory: pytest.TempPathFactory) -> Path:
     """The page's path."""
-    path: Path | None = request.config.getoption("--page")
+    path: Path | None = request.config.getoption("--page", None)
     if path is None:
         path = tmp_path_factory.mktemp("page") / "amqp.html"
-        words = ["--built"] * bool(request.config.getoption("--built"))
-        done = subprocess.run([TOP / "packaging/web.py", *words, path], capture_output=True, text=True)
-        assert done.returncode == 0, done.stderr + done.stdout
+        assert_well(run([TOP / "packaging/web.py", path]))
     return path.resolve()
 
 

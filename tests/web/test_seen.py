@@ -1,6 +1,8 @@
 """What a person sees on the page, and how it is used: pointing, keys, links, copies, dropped files, another browser."""
 
+import html
 import os
+import re
 import subprocess
 import time
 from base64 import b64encode
@@ -14,11 +16,21 @@ from selenium.common.exceptions import MoveTargetOutOfBoundsException, StaleElem
 from selenium.webdriver.common.action_chains import ActionChains
 from selenium.webdriver.common.keys import Keys
 
-from tests.model.inputs import inputs, nested
+from tests.model.inputs import nested
 from tests.model.tables import EVERY_TYPE, raw
+from tests.transcripts import Case, cases
 from tests.web.browser import PATIENCE, Browser, opened
-from tests.web.shown import RABBITMQ, wanted
+from tests.web.shown import RABBITMQ
 
+# The cases of tests/show that take hexadecimal from standard input. (With --max-bytes amqp_show reads no more than that.)
+HEXADECIMAL = [
+    it
+    for it in cases(TOP / "tests/show").values()
+    if "--hex" in it.words and "--max-bytes" not in it.words and all(word.startswith("--") for word in it.words)
+]
+FAULT = re.compile(r'amqp_show: ".*?": (line \d+, column \d+: .*|the text ends inside a byte.*|a dump of .*)')
+# What is between digits, and before those of a byte.
+NO_DIGITS = re.compile(r"#[^\n]*|0[xX]|\\x|[ \t\r\n\f,:]")
 TWISTS = str.maketrans("", "", "▸▾")
 # A table with a number, an array with a string in it, and a number after that: where each pair and each part begins.
 TABLE = "46 00000017 01 61 49 00000005 01 62 41 00000006 53 00000001 78 01 63 56"
@@ -116,17 +128,6 @@ def press(browser: Browser, box: str, *keys: str) -> None:
     """Presses keys in a box."""
     browser.run("document.getElementById(arguments[0]).focus()", box)
     ActionChains(browser.driver).send_keys(*keys).perform()
-
-
-def test_inputs_are_drawn(browser: Browser, program: Path) -> None:
-    """Of inputs of every kind the page draws the lines of amqp_show, and says what is wrong."""
-    browser.choose("form", "value")
-    given = [it for it in inputs() if len(it) < 300][::25]
-    for data, wants in zip(given, wanted(program, given), strict=True):
-        if wants:
-            browser.type(data.hex())
-            expect(browser, drawn, wants["tree"])
-            assert browser.text("failure") == wants["failure"].removeprefix("! "), data.hex()
 
 
 def test_pointing_marks_a_row_and_its_bytes(browser: Browser) -> None:
@@ -452,3 +453,16 @@ def test_firefox_shows_it(browser: Browser, page: Path, tmp_path: Path) -> None:
     browser.driver.get("about:blank")
     counts = browser.driver.execute_async_script(PIXELS, b64encode(picture.read_bytes()).decode())
     assert counts["8250df"] > 50 and counts["b3141f"] > 200, counts
+
+
+@pytest.mark.parametrize("case", HEXADECIMAL, ids=[it.name for it in HEXADECIMAL])
+def test_hexadecimal(browser: Browser, case: Case) -> None:
+    """Of each case of tests/show that reads hexadecimal the bytes, or the same words at the same place."""
+    text, fault = case.given.decode(), FAULT.search(case.wants.error.decode())
+    script = "const {bytes, fault} = amqp.readHexadecimal(arguments[0]); return fault ?? amqp.hexadecimal(bytes)"
+    assert browser.run(script, text) == (fault[1] if fault else NO_DIGITS.sub("", text).lower())
+
+
+@pytest.mark.parametrize("name", ("LICENSE", "THIRD-PARTY"))
+def test_notices_in_page(page: Path, name: str) -> None:
+    assert html.escape((TOP / name).read_text()) in page.read_text()

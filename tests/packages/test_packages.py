@@ -1,4 +1,4 @@
-"""Installed pages, Debian's packages (debian/) and the archives of a release, as someone uses them who has only these.
+"""Debian's packages (debian/) and the archives of a release, as someone uses them who has only these.
 
 With --root a release is installed, used and removed in a fresh root, by tests/release.
 """
@@ -6,72 +6,34 @@ With --root a release is installed, used and removed in a fresh root, by tests/r
 import os
 import re
 import shutil
+import tarfile
 from datetime import datetime, timezone
 from pathlib import Path
+
 import pytest
 from dependencies import TOP
 
-from tests.c.declared import CALLS
 from tests.c.compiling import Words, assert_well, printed, run, version
 from tests.c.pages import commands_of_first, names_that_lack
 from tests.c.places import NAME, PATH, files_in
 
-PACKAGES = ["amqp-show", "libamqp-values-dev", "libamqp-values0"]
-
-pytestmark = pytest.mark.needs("--built")
-
-
-# Pages
-
-
-def test_names_in_pages(prefix: Path) -> None:
-    """Installed pages name only what is installed."""
-    assert names_that_lack(prefix / f"share/doc/{NAME}", prefix) == []
-
-
-def test_names_in_headers(prefix: Path) -> None:
-    named = {page for it in prefix.glob("include/*.h") for page in re.findall(r"[\w/]+\.md", it.read_text())}
-    assert sorted(it for it in named if not (prefix / f"share/doc/{NAME}" / it).exists()) == []
-
-
-def test_manual(prefix: Path) -> None:
-    """It is as mandoc wants it."""
-    pages = sorted(it for it in prefix.glob("share/man/man*/*") if not it.is_symlink())
-    assert pages
-    assert printed(["mandoc", "-Tlint", "-Wwarning", *pages]) == ""
-
-
-def test_manual_has_each_option(prefix: Path) -> None:
-    # (tests/show holds the tool against its transcript)
-    usage = (TOP / "tests/show/usage.t").read_text().partition("Options:")[2].partition("Examples:")[0]
-    items = "".join(re.findall(r"(?m)^\.It (.*)$", (prefix / "share/man/man1/amqp_show.1").read_text()))
-    assert {*re.findall(r"Fl -([a-z-]+)", items)} == {*re.findall(r"--([a-z-]+)", usage)}
-
-
-@pytest.mark.parametrize(
-    ("name", "pattern"),
-    (
-        ("packaging/amqp_values.3", r"(?m)^\.Fn (amqpv_\w+)"),
-        ("packaging/amqp_values.map", r"(?m)^    (amqpv_\w+);$"),
-        ("debian/libamqp-values0.symbols", r"(?m)^ (amqpv_\w+)@AMQPV_"),
-    ),
-)
-def test_list_has_the_calls_of_the_header(name: str, pattern: str) -> None:
-    calls = {it for names in CALLS.values() for it in names}
-    inline = {"amqpv_begin", "amqpv_finish"} if name.endswith(".3") else set()
-    assert sorted(re.findall(pattern, (TOP / name).read_text())) == sorted(calls | inline)
-
+OF_LIBRARY = ["libamqp-values-dev", "libamqp-values0"]
+PACKAGES = ["amqp-show", *OF_LIBRARY]
 
 # Packages
 
 
-@pytest.fixture(scope="module")
-def packages(libraries: None) -> Path:
-    """The folder that has packages of Debian, in which lintian finds no error."""
-    path = TOP / "out/deb"
-    assert_well(run(["debian/rules", "clean", "binary"], cwd=TOP))
+def packed(repository: Path) -> Path:
+    """Makes packages of Debian, in which lintian finds no error; the folder that has them."""
+    assert_well(run(["make", "deb"], cwd=repository))
+    path = repository / "out/deb"
     assert_well(run(["lintian", "--fail-on", "error", "--no-cfg", "--allow-root", *path.glob("*.deb")]))
     return path
+
+
+@pytest.fixture(scope="module")
+def packages(repository: Path) -> Path:
+    return packed(repository)
 
 
 @pytest.fixture(scope="module")
@@ -91,13 +53,19 @@ def of_packages(unpacked: Path) -> dict[str, str]:
     return env | {"PKG_CONFIG_SYSROOT_DIR": str(unpacked)}
 
 
+def names(packages: Path) -> list[str]:
+    return sorted(it.name.partition("_")[0] for it in packages.glob("*.deb"))
+
+
 def test_packages(packages: Path) -> None:
-    assert sorted(it.name.partition("_")[0] for it in packages.glob("*.deb")) == PACKAGES
+    assert names(packages) == PACKAGES
 
 
-def test_packages_leave_no_links(packages: Path) -> None:
+def test_packages_leave_no_links(repository: Path, packages: Path) -> None:
     """`rt ci` refuses links."""
-    assert [it for folder in ("debian", "out/debian") for it in (TOP / folder).rglob("*") if it.is_symlink()] == []
+    assert [
+        it for folder in ("debian", "out/debian") for it in (repository / folder).rglob("*") if it.is_symlink()
+    ] == []
 
 
 def test_packages_have_the_version_of_the_header(packages: Path) -> None:
@@ -118,11 +86,19 @@ def test_day_is_that_of_the_changes() -> None:
     assert found and found[1] in ("unreleased", day)
 
 
-def test_packages_again(packages: Path, tmp_path: Path) -> None:
+def test_packages_again(repository: Path, packages: Path, tmp_path: Path) -> None:
     """They are made of the same bytes again."""
     shutil.copytree(packages, tmp_path / "before")
-    assert_well(run(["debian/rules", "clean", "binary"], cwd=TOP))
+    assert_well(run(["make", "deb"], cwd=repository))
     assert_well(run(["diff", "-r", packages, tmp_path / "before"]))
+
+
+def test_packages_without_the_tool(clone: Path, packages: Path) -> None:
+    """Where amqp_show isn't built, the library's have the same bytes."""
+    found = packed(clone)
+    assert names(found) == OF_LIBRARY
+    for it in found.glob("*.deb"):
+        assert it.read_bytes() == (packages / it.name).read_bytes()
 
 
 @pytest.mark.parametrize("package", ("libamqp-values-dev", "amqp-show"))
@@ -165,27 +141,23 @@ def test_manual_of_packages(unpacked: Path, of_packages: dict[str, str], page: s
 
 
 @pytest.fixture(scope="module")
-def repository(libraries: None, made_for_aarch64: Path, folder: Path) -> Path:
-    """A repository in which all of this is committed, with what `rt ci` has left here."""
-    path = folder / "repository"
-    shutil.copytree(TOP, path, symlinks=True, ignore=shutil.ignore_patterns(".git", "out", "build"))
+def committed(repository: Path) -> Path:
+    """The repository, in which all is committed."""
     day = {"GIT_AUTHOR_DATE": "2026-01-01T00:00:00Z", "GIT_COMMITTER_DATE": "2026-01-01T00:00:00Z"}
     for words in ("init -q", "add -A", "-c user.name=nobody -c user.email=nobody@example.org commit -qm all"):
-        assert_well(run(["git", "-C", path, *words.split()], env={**os.environ, **day}))
-    for it in TOP.glob("crates/*/out"):
-        shutil.copytree(it, path / it.relative_to(TOP), symlinks=True)
-    return path
+        assert_well(run(["git", "-C", repository, *words.split()], env={**os.environ, **day}))
+    return repository
 
 
 def released(repository: Path, to: Path, **env: str) -> Path:
-    assert_well(run([repository / "packaging/release", "--built", to], env={**os.environ, **env}))
+    assert_well(run([repository / "packaging/release", "--checked", to], env={**os.environ, **env}))
     return to
 
 
 @pytest.fixture(scope="module")
-def release(repository: Path, folder: Path) -> Path:
+def release(committed: Path, folder: Path) -> Path:
     """What a release consists of."""
-    return released(repository, folder / "release", TZ="UTC")
+    return released(committed, folder / "release", TZ="UTC")
 
 
 @pytest.fixture(scope="module")
@@ -207,11 +179,11 @@ class TestRelease:
         others = {"amqp.html", "SHA256SUMS", f"{wheel}_x86_64.whl", f"{wheel}_aarch64.whl"}
         assert files_in(release) == archives | packages | others
 
-    def test_again(self, repository: Path, release: Path, tmp_path: Path) -> None:
+    def test_again(self, committed: Path, release: Path, tmp_path: Path) -> None:
         """It has the same bytes, with another umask and in another time zone, and is made in another folder."""
         before = os.umask(0o077)
         try:
-            again = released(repository, tmp_path / "again", TZ="Asia/Kathmandu", LC_ALL="C.UTF-8")
+            again = released(committed, tmp_path / "again", TZ="Asia/Kathmandu", LC_ALL="C.UTF-8")
         finally:
             os.umask(before)
         assert (again / "SHA256SUMS").read_text() == (release / "SHA256SUMS").read_text()
@@ -224,10 +196,10 @@ class TestRelease:
         said = printed(["sha256sum", "--check", "SHA256SUMS"], cwd=release)
         assert len(said.splitlines()) == len(files_in(release)) - 1
 
-    def test_nothing_else_than_what_is_committed(self, repository: Path, tmp_path: Path) -> None:
-        (repository / "other").touch()
-        done = run([repository / "packaging/release", "--built", tmp_path / "release"])
-        (repository / "other").unlink()
+    def test_nothing_else_than_what_is_committed(self, committed: Path, tmp_path: Path) -> None:
+        (committed / "other").touch()
+        done = run([committed / "packaging/release", "--checked", tmp_path / "release"])
+        (committed / "other").unlink()
         assert done.returncode == 1
         assert "?? other" in done.stderr
 
@@ -239,3 +211,15 @@ class TestRelease:
         commands, wants = commands_of_first((archive / "README.md").read_text())
         assert wants
         assert printed(["sh", "-ec", commands], cwd=archive, env={"PATH": PATH}) == wants
+
+    def test_archives_without_the_tool(self, clone: Path, release: Path) -> None:
+        """Where amqp_show isn't built, those of `make dist` have all else."""
+        assert_well(run(["make", "dist"], cwd=clone))
+        for it in sorted((clone / "out/packed").iterdir()):
+            with tarfile.open(it) as found, tarfile.open(release / it.name) as wanted:
+                lacks = {*wanted.getnames()} - {*found.getnames()}
+            top = it.name.removesuffix(".tar.gz")
+            tool = {
+                f"{top}/{name}" for name in ("bin", "bin/amqp_show", "share/man/man1", "share/man/man1/amqp_show.1")
+            }
+            assert lacks == (tool if "x86_64" in top else set())

@@ -1,34 +1,24 @@
-"""What the page reads of inputs is what amqp_show prints of them; it reads hexadecimal as tests/show has it."""
+"""What the page reads of inputs, by both modules, is what amqp_show prints of them, and so is what it draws."""
 
-import html
-import re
 import struct
 from collections.abc import Iterable, Iterator
 from pathlib import Path
 from random import Random
 
 import pytest
-from dependencies import TOP
 
 from tests.model.encoding import field
 from tests.model.inputs import captured, inputs, untagged
 from tests.model.tables import odd_table, random_table, raw
-from tests.transcripts import Case, cases
 from tests.web.browser import Browser
 from tests.web.shown import wanted
+from tests.web.test_seen import drawn, expect
 
 COUNT = 2000
 # How many inputs are given to the page at once.
 BATCH = 200
-# The cases of tests/show that take hexadecimal from standard input. (With --max-bytes amqp_show reads no more than that.)
-HEXADECIMAL = [
-    it
-    for it in cases(TOP / "tests/show").values()
-    if "--hex" in it.words and "--max-bytes" not in it.words and all(word.startswith("--") for word in it.words)
-]
-FAULT = re.compile(r'amqp_show: ".*?": (line \d+, column \d+: .*|the text ends inside a byte.*|a dump of .*)')
-# What is between digits, and before those of a byte.
-NO_DIGITS = re.compile(r"#[^\n]*|0[xX]|\\x|[ \t\r\n\f,:]")
+
+pytestmark = pytest.mark.needs("web")
 
 
 def judge(browser: Browser, program: Path, given: Iterable[bytes], is_table: bool = False) -> None:
@@ -90,14 +80,13 @@ def test_prefixes(browser: Browser, program: Path) -> None:
         judge(browser, program, [it[1:] for it in prefixes[1:]], is_table=True)
 
 
-@pytest.mark.parametrize("case", HEXADECIMAL, ids=[it.name for it in HEXADECIMAL])
-def test_hexadecimal(browser: Browser, case: Case) -> None:
-    """Of each case of tests/show that reads hexadecimal the bytes, or the same words at the same place."""
-    text, fault = case.given.decode(), FAULT.search(case.wants.error.decode())
-    script = "const {bytes, fault} = amqp.readHexadecimal(arguments[0]); return fault ?? amqp.hexadecimal(bytes)"
-    assert browser.run(script, text) == (fault[1] if fault else NO_DIGITS.sub("", text).lower())
-
-
-@pytest.mark.parametrize("name", ("LICENSE", "THIRD-PARTY"))
-def test_notices_in_page(page: Path, name: str) -> None:
-    assert html.escape((TOP / name).read_text()) in page.read_text()
+def test_inputs_are_drawn(browser: Browser, program: Path) -> None:
+    """Of inputs of every kind the page draws the lines of amqp_show, and says what is wrong."""
+    browser.load()
+    browser.choose("form", "value")
+    given = [it for it in inputs() if len(it) < 300][::25]
+    for data, wants in zip(given, wanted(program, given), strict=True):
+        if wants:
+            browser.type(data.hex())
+            expect(browser, drawn, wants["tree"])
+            assert browser.text("failure") == wants["failure"].removeprefix("! "), data.hex()

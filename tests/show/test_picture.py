@@ -1,12 +1,13 @@
 """docs/page.png, which README.md and docs/SHOW.md show, is a picture of the page on headers with a wrong length.
 
-Each run makes the picture, and compares the words on it with docs/page.txt; pixels depend on fonts. `tests/run web --write
+Each run makes the picture, and compares the words on it with docs/page.txt; pixels depend on fonts. `tests/run show --write
 -k picture` puts both into docs/.
 """
 
 from base64 import b64encode
 from pathlib import Path
 
+import pytest
 from dependencies import TOP
 
 from tests.model.encoding import field
@@ -24,6 +25,7 @@ BYTES_OF_A_LINE = 16
 WRONG = "b3141f"
 
 
+@pytest.mark.needs("web")
 def test_picture(browser: Browser, program: Path, is_writing: bool) -> None:
     (shown,) = lines_of_each(program, [], [MALFORMED])
     (failure,) = (it.removeprefix("! ") for it in shown if it[0] == "!")
@@ -48,7 +50,7 @@ def test_picture(browser: Browser, program: Path, is_writing: bool) -> None:
         PICTURE.write_bytes(picture)
         WORDS.write_text(text)
     stored = WORDS.read_text()
-    assert text == stored, "the page has other words: tests/run web --built --write -k picture makes the picture anew"
+    assert text == stored, "the page has other words: tests/run show --write -k picture makes the picture anew"
 
 
 def test_pages_show_it() -> None:
