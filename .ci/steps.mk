@@ -1,8 +1,7 @@
 # The steps of `make test`, `make check` and `make whole`. Each is a target: `make test-wire` runs that suite, and first the proofs
-# that it needs. .ci/step writes what a step prints to out/steps/NAME.log, and .ci/count.py says how all of them ended.
+# if it needs them. .ci/step writes what a step prints to out/steps/NAME.log, and .ci/count.py says how all of them ended.
 #
-# WITHOUT="broker crate" skips these steps, and the tests of other steps that need RabbitMQ or the Rust crate. All suites need the
-# proofs, so these can't be skipped.
+# WITHOUT="broker crate" skips these steps, and the tests of other steps that need RabbitMQ or the Rust crate. Proofs can't be skipped.
 
 # The program logic in which all of this is proved: `rt version` ends with it, whatever the kit is called.
 LOGIC = logic dac8208d650f15bf
@@ -15,10 +14,11 @@ step = @.ci/step $(STEPS)/$@.log
 PROGRAMS := $(patsubst crates/%/src/main.rt,%,$(wildcard crates/*/src/main.rt))
 TESTED := $(sort $(foreach it,$(shell grep -rl '\#\[test\]' crates/*/src),$(word 2,$(subst /, ,$(it)))))
 UNPROVED := $(PROGRAMS:%=%-runs) $(TESTED:%=%-tests) stored-output
-# What needs no proofs, and what runs over the programs and libraries that they leave.
-ALONE := docs lint test-scripts test-model test-vendor test-vectors
-SUITES := show alloc-failures sizes wire c python counts web rust crate broker
-CHECKED := proofs $(ALONE) $(SUITES:%=test-%) mutants
+# What needs no proofs, of which some suites are over generated/; what runs over what the proofs leave; and all.
+OVER_GENERATED := c python rust web broker
+OVER_PROOFS := show packages alloc-failures sizes wire counts crate
+ALONE := docs lint test-scripts test-model test-vendor test-vectors $(OVER_GENERATED:%=test-%)
+CHECKED := proofs test-generated $(ALONE) $(OVER_PROOFS:%=test-%) mutants
 
 $(PROGRAMS:%=%-runs): %-runs:
 	$(step) python3 -m tests.unproved runs $*
@@ -36,20 +36,26 @@ docs: ## compare the pages with the sources (10 seconds)
 lint: ## check types, layouts, scripts and spelling of Python, C and Rust (a minute)
 	$(step) tests/lint
 
-test-scripts test-model test-vendor test-vectors: test-%:
-	$(step) tests/run $* $(OPTIONS_$*)
+$(filter test-%,$(ALONE)): test-%:
+	$(step) tests/run $(or $(NAME_$*),$*) $(OPTIONS_$*)
 
 fresh: ## try the README on a machine that has only the kit, as root
 	$(step) tests/fresh.py README.md
 
+clone: ## build from a clone on a machine without the kit, as root
+	$(step) tests/clone.py --root
+
 # (`rt ci` refuses links, which a build by CMake has)
-proofs: ## prove all crates from nothing (an hour)
-	@rm -rf out/build out/lib out/aarch64
+proofs: ## prove all crates (an hour from nothing)
+	@rm -rf out/build out/aarch64
 	$(step) rt ci $(if $(ANEW),$$(rt help | grep -om1 -e --anew))
 
+test-generated: proofs
+	$(step) packaging/generated.py --compare
+
 # (make help shows this line in place of one for each suite)
-test-show: ## test-NAME runs one suite over the proofs: show, wire, c, python, rust, web, broker ..
-$(SUITES:%=test-%): test-%: proofs
+test-show: ## test-NAME runs one suite: c, python, rust, web, broker .. over generated/; show, wire .. over the proofs
+$(OVER_PROOFS:%=test-%): test-%: proofs
 	$(step) tests/run $(or $(NAME_$*),$*) $(OPTIONS_$*)
 
 mutants: proofs ## try mutants, which the prover must refuse (45 minutes; later only of what changed)
@@ -61,12 +67,11 @@ NAME_sizes = memory/sizes
 NAME_crate = oracle
 NAME_broker = rabbitmq
 OPTIONS_model = $(SEED)
-OPTIONS_c = --built $(ROOT)
-OPTIONS_python = --built $(SEED)
-OPTIONS_counts = --built
-OPTIONS_web = --built $(SEED)
-OPTIONS_rust = --built $(SEED)
-OPTIONS_broker = --built --tables $(TABLES)
+OPTIONS_packages = $(ROOT)
+OPTIONS_python = $(SEED)
+OPTIONS_show = $(SEED)
+OPTIONS_rust = $(SEED)
+OPTIONS_broker = --tables $(TABLES)
 # The defaults of these options. `make whole` gives others on the command line; the environment can't change them.
 ANEW =
 SEED =
@@ -76,9 +81,9 @@ TABLES = 500
 
 # ---- the runs
 
-# What WITHOUT may name besides steps: what some tests of the steps c, lint, rust and vectors need.
-OF_TESTS = aarch64 clang codecs old-processor cargo-clippy rustfmt valgrind rustc
-NAMES = $(patsubst test-%,%,$(UNPROVED) $(filter-out proofs,$(CHECKED)) fresh)
+# What WITHOUT may name besides steps: what some tests need.
+OF_TESTS = aarch64 clang codecs old-processor cargo-clippy rt rustfmt valgrind rustc
+NAMES = $(patsubst test-%,%,$(UNPROVED) $(filter-out proofs,$(CHECKED)) fresh clone)
 ifneq ($(filter-out $(NAMES) $(OF_TESTS),$(WITHOUT)),)
 $(error WITHOUT: there is no step $(filter-out $(NAMES) $(OF_TESTS),$(WITHOUT)); there are: $(NAMES) $(OF_TESTS))
 endif
@@ -106,6 +111,6 @@ whole: MORE = ANEW=yes SEED=--random ROOT=--root ALL=--all TABLES='10000 --rabbi
 whole: ## run everything from nothing, as root, before a release (some hours)
 	$(if $(HAS_CRATE)$(filter crate,$(WITHOUT)),,$(error $(NO_CRATE) (WITHOUT=crate skips its step)))
 	$(needed)
-	$(call run,$(CHECKED) fresh,20)
+	$(call run,$(CHECKED) fresh clone,20)
 
-.PHONY: test check whole $(UNPROVED) $(CHECKED) fresh
+.PHONY: test check whole $(UNPROVED) $(CHECKED) fresh clone

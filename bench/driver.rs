@@ -190,13 +190,11 @@ fn sides() -> Vec<Side> {
         side("look-up", amqp_bench_find, None),
         side("by-hand", by_hand, None),
     ];
-    #[cfg(installed)]
     found[1].json.replace(LIBRARY_JSON);
-    #[cfg(installed)]
     found.push(side("c", c_read, None));
     #[cfg(rabbitmq)]
     found.push(side("librabbitmq", rabbitmq_read, Some(rabbitmq_write)));
-    #[cfg(all(installed, rabbitmq))]
+    #[cfg(rabbitmq)]
     for it in &mut found {
         it.tasks = match it.name {
             "c" => &[("arguments", library_arguments), ("deaths", library_deaths)],

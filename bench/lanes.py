@@ -14,10 +14,12 @@ import time
 from collections.abc import Sequence
 from pathlib import Path
 
-from building import archive, build_archive
+from building import build_archive, static_library
 from dependencies import TOP, Crates, kit
 from programs import end_if_failed, run
-from wheels import PYTHON, compile_package
+from wheels import PYTHON
+
+from tests.compiling import compile_package
 
 BEGIN = time.monotonic()
 HERE, OUT = TOP / "bench", TOP / "out/bench"
@@ -70,39 +72,28 @@ class Process:
 Lanes = dict[str, Process]
 
 
-def built_library(is_built: bool) -> Path:
-    """Builds crates/amqp_bench, and returns its archive."""
-    crates = Crates()
-    note(f"crates/amqp_bench: {'what is built' if is_built else 'proof and build, 40 minutes if nothing is kept'}")
-    end_if_failed("bench", "libamqp_bench.a", build_archive(crates, "amqp_bench", is_built))
-    return archive(crates, "amqp_bench")
+def built_library() -> Path:
+    """Builds crates/amqp_bench, which `rt ci` has proved here, and returns its archive."""
+    note("crates/amqp_bench")
+    library = OUT / "libamqp_bench.a"
+    end_if_failed("bench", library.name, build_archive(Crates(), "amqp_bench", library))
+    return library
 
 
-def objects(given: argparse.Namespace) -> tuple[list[str], list[Path | str]]:
+def objects() -> tuple[list[str], list[Path | str]]:
     """Builds what the driver is linked with: rustc's flags by which it knows of it, and the words for the linker."""
-    library, installed = built_library(given.built), given.installed.resolve() / "lib/libamqp_values.a"
-    flags: list[str] = []
-    found: list[Path | str] = [library, kit() / "c/liblibc_c.a"]
-    if installed.exists():
-        flags, found = ["--cfg", "installed"], [library, installed]
-    else:
-        note(f"the C API and JSON are left out: there is no {installed} (make)")
+    found: list[Path | str] = [built_library(), static_library(OUT), kit() / "c/liblibc_c.a"]
     if not Path("/usr/include/amqp.h").exists():
         note("librabbitmq is left out: librabbitmq-dev isn't installed")
-        return flags, found
+        return [], found
     run("bench", ["cc", "-O2", "-c", HERE / "rabbitmq.c", "-o", OUT / "rabbitmq.o"])
-    if flags:
-        run(
-            "bench",
-            ["cc", "-O2", "-I", installed.parents[1] / "include", "-c", HERE / "tasks.c", "-o", OUT / "tasks.o"],
-        )
-        found.insert(0, OUT / "tasks.o")
-    return [*flags, "--cfg", "rabbitmq"], [*found, OUT / "rabbitmq.o", "-lrabbitmq"]
+    run("bench", ["cc", "-O2", "-I", TOP / "include", "-c", HERE / "tasks.c", "-o", OUT / "tasks.o"])
+    return ["--cfg", "rabbitmq"], [OUT / "tasks.o", *found, OUT / "rabbitmq.o", "-lrabbitmq"]
 
 
 def build_driver(given: argparse.Namespace) -> Path:
     """Builds the sides that are one process, and returns the program."""
-    flags, linked = objects(given)
+    flags, linked = objects()
     # (copied, it is newer than what cargo has built, which doesn't know the objects)
     shutil.copy(HERE / "driver.rs", OUT)
     place = f"path = {json.dumps(str(given.crate.resolve()))}, " if given.crate else ""
@@ -151,14 +142,10 @@ def sides(given: argparse.Namespace) -> Lanes:
     return {lane: it for it in processes for lane in it.lanes}
 
 
-def python_sides(given: argparse.Namespace) -> Lanes:
-    """Builds the package for Python over the C API, and starts it and the clients of Python as one process."""
-    library = given.installed.resolve() / "lib/libamqp_values.a"
-    if not library.exists():
-        note(f"Python is left out: there is no {library} (make)")
-        return {}
+def python_sides() -> Lanes:
+    """Builds the package for Python, and starts it and the clients of Python as one process."""
     shutil.rmtree(OUT / "python", ignore_errors=True)
-    if wrong := compile_package(library, OUT / "python"):
+    if wrong := compile_package(OUT / "python"):
         sys.exit(f"bench: the package for Python isn't built: {wrong}")
     process = Process([PYTHON, "-B", HERE / "side.py"], PYTHONPATH=f"{OUT / 'python'}:{TOP}:{TOP / 'packaging'}")
     return {lane: process for lane in process.lanes}

@@ -1,18 +1,15 @@
 #!/usr/bin/env python3
-"""Times this library next to others: bench/measure.py [--quick] [--built] [--crate FOLDER [--packages FOLDER]] [--installed FOLDER]
+"""Times this library next to others: bench/measure.py [--quick] [--crate FOLDER [--packages FOLDER]]
 
 It prints tables, writes them into docs/SPEED.md and bench/RESULTS.md in place of those there, and draws docs/speed.svg of them.
 With --quick, in a minute, it prints the times only.
 
-- This library: crates/amqp_bench, proved and built over what `rt ci` has kept or, with --built, has left here. The C API,
-  JSON and streams are those of an installation (--installed, by default out/installed, where `make install
-  PREFIX=out/installed` puts it), and left out without one.
+- This library: crates/amqp_bench and amqp_show as `rt ci` has left them, the C API and JSON over generated/.
 - The Rust crate 10.6.3, built by cargo from its registry or from a folder that has it (--crate). --packages: cargo takes all
   packages from this folder, which `cargo vendor` made, and needs no network.
 - librabbitmq (Debian's librabbitmq-dev), Go (golang-go, golang-github-rabbitmq-amqp091-go-dev) and Erlang (erlang-base,
   rabbitmq-server): a side that isn't installed is reported and left out.
-- Python's clients (python3-pika, python3-amqp, python3-pamqp), the package of bindings/python over the calls of the
-  installation, and the clients with its adapters.
+- Python's clients (python3-pika, python3-amqp, python3-pamqp), the package of bindings/python, and the clients with its adapters.
 
 It also needs gcc, and cargo with rustc 1.85 or later; instructions are counted by valgrind, and left out without it. All
 sides are one process, except Go, Erlang and Python, each a process. Nothing is timed before each side has made the right bytes of
@@ -204,7 +201,7 @@ def side_of(lane: str) -> str:
 def stream_table(pages: Pages, program: Path, rounds: int) -> None:
     """How fast amqp_show reads a stream of small values, as its output is discarded."""
     if not program.exists():
-        note(f"amqp_show is left out: there is no {program} (make)")
+        note(f"amqp_show is left out: there is no {program} (rt ci)")
         return
     note("amqp_show")
     (OUT / "stream").write_bytes(data := ten.stream(STREAM).given)
@@ -256,9 +253,8 @@ def asked() -> argparse.Namespace:
         prog="bench/measure.py", description=__doc__, formatter_class=argparse.RawDescriptionHelpFormatter
     )
     reader.add_argument("--quick", action="store_true")
-    reader.add_argument("--built", action="store_true")
-    for it, default in {"--crate": None, "--packages": None, "--installed": TOP / "out/installed"}.items():
-        reader.add_argument(it, type=Path, default=default, metavar="FOLDER")
+    for it in ("--crate", "--packages"):
+        reader.add_argument(it, type=Path, metavar="FOLDER")
     return reader.parse_args()
 
 
@@ -280,8 +276,8 @@ def main() -> None:
         is_counted = not given.quick and shutil.which("valgrind")
         counts = counted.instructions(driver.words[0], [headers], tasks)[0][1] if is_counted else None
         task_table(pages, headers, tasks, rounds, least, counts)
-    python_tables(pages, python_sides(given), rounds, least)
-    stream_table(pages, given.installed.resolve() / "bin/amqp_show", rounds)
+    python_tables(pages, python_sides(), rounds, least)
+    stream_table(pages, TOP / "crates/amqp_show/out/amqp_show", rounds)
     if not given.quick:
         for heads, rows in counted.tables(driver.words[0], inputs, lanes, preloaded(driver)):
             pages.table(heads, rows)

@@ -6,7 +6,6 @@ from collections.abc import Mapping, Sequence
 from pathlib import Path
 from typing import Any
 
-from building import is_up_to_date
 from dependencies import Crates
 
 Words = Sequence[str | Path]
@@ -32,10 +31,12 @@ class Checks:
 
 
 def built(name: str) -> Path:
-    """The program of a crate, as `rt ci` left it, which is no older than its sources."""
+    """The program of a crate, as `rt ci` left it, which is no older than the sources of the crate and those below it."""
     crates = Crates()
     path = crates.folder(name) / "out" / name
-    assert is_up_to_date(path, crates, name, ["src"]), f"{name} isn't there, or is older than its sources: run rt ci"
+    sources = [it for crate in crates.needed(name) for it in (crates.folder(crate) / "src").rglob("*") if it.is_file()]
+    is_new = path.is_file() and all(it.stat().st_mtime <= path.stat().st_mtime for it in sources)
+    assert is_new, f"{name} isn't there, or is older than its sources: run rt ci"
     return path
 
 

@@ -14,7 +14,7 @@ from typing import Any, TypeVar
 import pytest
 from dependencies import TOP
 from hypothesis import settings
-from processes import end_descendants, end_on_signals
+from tests.processes import end_descendants, end_on_signals
 
 
 # What WITHOUT names, and lines that are printed at the end.
@@ -34,7 +34,6 @@ def pytest_addoption(parser: pytest.Parser) -> None:
     group.addoption("--seed", type=int, help="of what is random (1)")
     group.addoption("--program", type=Path, metavar="PATH", help="amqp_show, by default as rt ci left it")
     group.addoption("--library", metavar="PATH", help="the library of the C API, built otherwise")
-    group.addoption("--built", action="store_true", help="build it over what `rt ci` has left")
 
 
 def interrupted() -> None:

@@ -14,8 +14,6 @@ VERIFICATION, ANSWERS = "docs/VERIFICATION.md", "crates/test_calls/data/rust.cal
 STEPS = ".ci/steps.mk"
 # The page on what a new type touches.
 A_TYPE = "docs/ADDING-A-TYPE.md"
-# The page on building.
-BUILDING = "docs/C.md"
 # The page with the tables of bench/measure.py that docs/SPEED.md doesn't have.
 RESULTS = "bench/RESULTS.md"
 # The default limits on bytes and on levels: where they are, and patterns of which each has groups for `bytes` or `depth`.
@@ -151,7 +149,7 @@ def versions_by_hand() -> Iterator[str]:
 def other_logics() -> Iterator[str]:
     """Yields the pages that ask for a kit of another logic than CI does."""
     (wanted,) = re.findall(r"(?m)^LOGIC = (logic [0-9a-f]+)$", read(STEPS))
-    for name in ("README.md", CONTRIBUTING):
+    for name in ("README.md", CONTRIBUTING, "generated/README.md"):
         found = re.findall(r"logic [0-9a-f]{16}", read(name))
         if {*found} != {wanted}:
             yield f"{name}: it names {' and '.join(found) or 'no logic'}, and {STEPS} {wanted}: write that"
@@ -166,17 +164,6 @@ def other_versions() -> Iterator[str]:
         ):
             if wanted not in it.groups():
                 yield f"{place(page, it.start())}: the version of {it[0]} isn't {wanted}, as in {HEADER}: write that"
-
-
-def other_times() -> Iterator[str]:
-    """Yields the minutes of README.md's builds that aren't those of docs/C.md, which has them of all that is made."""
-    rows = re.findall(r"(?m)^\|[^|\n]*\|([^|\n]*)\|(\d+) minutes\|(\d+) minutes\|", read(BUILDING))
-    stated = re.findall(r"\|`(make[^`|]*)`[^|\n]*\|(\d+), (\d+)\|", read("README.md"))
-    for command, *minutes in stated:
-        if minutes not in ([four, two] for by, four, two in rows if f"`{command}`" in by):
-            yield f"README.md: {command} doesn't take {' and '.join(minutes)} minutes in the table of {BUILDING}: write that"
-    if not stated or not rows:
-        yield f"README.md, {BUILDING}: no minutes of builds are found: correct the patterns, in tests/figures.py"
 
 
 def files_of_a_type() -> Iterator[str]:
@@ -252,5 +239,5 @@ def other_lengths() -> Iterator[str]:
 def faults() -> Iterator[str]:
     """Yields what is repeated otherwise than it is made."""
     checks = [other_defaults, other_ratios, other_picture, long_pages, other_logics, tables_of_no_run, versions_by_hand]
-    for check in (*checks, other_versions, other_times, files_of_a_type, other_lengths):
+    for check in (*checks, other_versions, files_of_a_type, other_lengths):
         yield from check()

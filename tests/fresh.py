@@ -19,7 +19,7 @@ TOP = Path(__file__).resolve().parent.parent
 sys.path += [str(TOP), str(TOP / "packaging")]
 
 from dependencies import kit  # noqa: E402
-from processes import end_on_signals  # noqa: E402
+from tests.processes import end_on_signals  # noqa: E402
 
 from tests.checks import Checks  # noqa: E402
 

@@ -38,11 +38,11 @@ SOURCES = ("crates/*/src/**/*.rt", "crates/*/proofs/**/*.antt", "crates/*/specs/
 BINDINGS = """examples/**/*.[ch] bindings/**/*.rs bindings/python/**/*.[chp]* packaging/amqp_*
     Makefile vectors/*.py vectors/schema.json""".split()
 NOT_OURS = set(
-    """git nm ryu inf mine MINE PYTHONPATH UseNumber time_t memmove memset HANDLES Compare CompareResult Default SerializeFn readTable
+    """git nm ryu venv FetchContent add_subdirectory CC_aarch64_unknown_linux_gnu inf mine MINE PYTHONPATH UseNumber time_t memmove memset HANDLES Compare CompareResult Default SerializeFn readTable
     writeTable amqp_ IsBounded length_of_text ctypes TryFrom AMQ_PROTOCOL_TYPES crates/arguments/src/main.rt""".split()
 )
 # The folders from which a page may name a file.
-FOLDERS = ("", "crates/", "crates/*/", "bindings/rust/*/", "vectors/")
+FOLDERS = ("", "crates/", "crates/*/", "bindings/rust/*/", "generated/", "vectors/")
 # The code of which README.md has paragraphs, and the first of it the comments of items; docs/VERIFICATION.md and CALLING.md have
 # those of SOURCES.
 EXAMPLES = ("crates/examples/src/*.rt", "examples/c/*.c", "bindings/rust/amqp-values/examples/*.rs")
@@ -136,7 +136,8 @@ def is_target(page: Path, link: str) -> bool:
 def unknown_commands(command: str) -> Iterator[str]:
     """Yields what a command names of this repository and isn't there."""
     makefiles = read(TOP / "Makefile") + read(TOP / ".ci/steps.mk")
-    suites = [f"test-{it}" for it in re.findall(r"(?m)^SUITES := (.*)", makefiles)[0].split()]
+    lists = re.findall(r"(?m)^(?:OVER_\w+|ALONE) := (.*)", makefiles)
+    suites = {f"test-{it.removeprefix('test-')}" for names in lists for it in names.split()}
     for target in re.findall(r"\bmake(?: -\S+)* ([a-z][a-z-]*)", command):
         if target not in suites and not re.search(rf"(?m)^{target}:", makefiles):
             yield f"there is no target {target}: make help lists them"

@@ -9,14 +9,13 @@ from collections.abc import Iterator
 from pathlib import Path
 from typing import NamedTuple
 
-from building import C_API, MALLOC, archive, build_archive
+from building import MALLOC, build_archive, objects
 from dependencies import TOP, Crates
 
 from tests.checks import Words, assert_well, run
 from tests.counts.inputs import INPUTS
 
 SOURCE = Path(__file__).with_name("counts.c")
-LIBRARIES = (*C_API, "amqp_bench")
 # How counts.c is compiled. The libraries use no other function of the C library than these.
 WRAPPED = [f"-Wl,--wrap={it}" for it in ("malloc", "realloc", "free", "memcpy", "memmove", "memset")]
 C = ["cc", "-O1", "-g", "-std=c11", "-Wall", "-Wextra", "-Werror", f"-I{TOP}/include", *WRAPPED, "-Wl,-z,now"]
@@ -41,13 +40,12 @@ class Taken(NamedTuple):
 OfCall = dict[str, Taken]
 
 
-def build(program: Path, is_built: bool) -> None:
-    """Builds counts.c over the libraries."""
-    crates = Crates()
-    for name in LIBRARIES:
-        done = build_archive(crates, name, is_built)
-        assert done.returncode == 0, f"lib{name}.a: {(done.stderr or done.stdout)[-1000:]}"
-    words: Words = [*C, "-o", program, SOURCE, MALLOC, *(archive(crates, it) for it in LIBRARIES), "-lpthread"]
+def build(program: Path) -> None:
+    """Builds counts.c over the C API and crates/amqp_bench, which `rt ci` has proved here."""
+    library = program.with_name("libamqp_bench.a")
+    done = build_archive(Crates(), "amqp_bench", library)
+    assert done.returncode == 0, f"{library.name}: {(done.stderr or done.stdout)[-1000:]}"
+    words: Words = [*C, "-o", program, SOURCE, MALLOC, library, *objects(program.parent), "-lpthread"]
     assert_well(run(words))
 
 
@@ -78,12 +76,12 @@ def instructions(dump: str, program: Path) -> tuple[str, int]:
     return label, total
 
 
-def taken(is_built: bool) -> dict[str, OfCall]:
+def taken() -> dict[str, OfCall]:
     """What each call takes over each input. A byte that is copied or filled counts as an instruction."""
     found: dict[str, OfCall] = {}
     with tempfile.TemporaryDirectory(prefix="counts-") as made:
         folder, program = Path(made), Path(made) / "program"
-        build(program, is_built)
+        build(program)
         for name, given in INPUTS.items():
             (folder / name).write_bytes(given.given)
         counted = [folder / name for name, it in INPUTS.items() if it.size]

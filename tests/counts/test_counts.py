@@ -111,9 +111,9 @@ def fail_if(wrong: Sequence[str]) -> None:
 
 
 @pytest.fixture(scope="module")
-def found(request: pytest.FixtureRequest) -> dict[str, OfCall]:
+def found() -> dict[str, OfCall]:
     """What each call takes now."""
-    return taken(bool(request.config.getoption("--built")))
+    return taken()
 
 
 @pytest.fixture(scope="module")

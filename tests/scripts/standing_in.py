@@ -5,9 +5,8 @@ import re
 from pathlib import Path
 from typing import NamedTuple
 
-from building import copy_repository
-
 from tests.checks import Done, run
+from tests.copies import copy_repository
 
 # A call that the file `failing` names ends as its line says; every other one passes two tests. Each prints how it was called.
 STAND_IN = """\
@@ -32,7 +31,16 @@ help) echo "rt ci [--anew]" ;;
 *) exec sh stand_in rt "$@" ;;
 esac
 """
-SCRIPTS = ("tests/run", "tests/pages.py", "tests/lint", "tests/mutants.py", "tests/fresh.py", ".ci/setup")
+SCRIPTS = (
+    "tests/run",
+    "tests/pages.py",
+    "tests/lint",
+    "tests/mutants.py",
+    "tests/fresh.py",
+    "tests/clone.py",
+    "packaging/generated.py",
+    ".ci/setup",
+)
 MODULES = ("tests/unproved.py", "tests/model/stored_output.py")
 
 

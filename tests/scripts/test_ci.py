@@ -21,6 +21,8 @@ HOW = (
 )
 # What `make check` runs besides suites of tests.
 OTHERS = {"proofs", "docs", "lint", "mutants"}
+# The suites that need no proofs.
+ALONE = ("scripts", "model", "vendor", "vectors", "c", "python", "rust", "web", "broker")
 
 
 @pytest.fixture(scope="module")
@@ -53,7 +55,7 @@ def test_all_pass(copy: Copy, target: str) -> None:
 
 def test_steps() -> None:
     assert {it for it in steps_of("check") if not it.startswith("test-")} == OTHERS
-    assert {*steps_of("whole")} == {*steps_of("check"), "fresh"}
+    assert {*steps_of("whole")} == {*steps_of("check"), "fresh", "clone"}
     crates = Crates()
     programs = {f"{it}-runs" for it in crates.below if crates.is_program(it)}
     tested = {it.relative_to(TOP).parts[1] for it in TOP.glob("crates/*/src/**/*.rt") if "#[test]" in it.read_text()}
@@ -81,7 +83,7 @@ def test_step_fails(copy: Copy, target: str, step: str, how: str) -> None:
     copy.fail(steps[step], how)
     done = copy.make(target)
     assert done.returncode == 2
-    alone = {"docs", "lint", "test-scripts", "test-model", "test-vendor", "test-vectors"}
+    alone = {"docs", "lint", *(f"test-{it}" for it in ALONE)}
     assert {*re.findall(r"(?m)^FAILED (\S+): ", done.stdout)} == ({*steps} - alone if step == "proofs" else {step})
     assert f"{step}.log ends with" in done.stdout
     assert re.search(r"\n\d+ passed, [1-9]\d* failed; skipped: crate\n", done.stdout)
@@ -99,9 +101,9 @@ def test_options_of_whole(copy: Copy) -> None:
     assert copy.make("whole").returncode == 0
     assert copy.called("proofs") == "rt ci --anew"
     assert copy.called("mutants") == "mutants.py --built --all"
-    assert copy.called("test-c") == "run c --built --root"
+    assert copy.called("test-packages") == "run packages --root"
     assert copy.called("test-model") == "run model --random"
-    assert copy.called("test-broker") == "run rabbitmq --built --tables 10000 --rabbitmq=3.10.8 --rabbitmq=4.0.5"
+    assert copy.called("test-broker") == "run rabbitmq --tables 10000 --rabbitmq=3.10.8 --rabbitmq=4.0.5"
 
 
 def test_environment_narrows_nothing(copy: Copy) -> None:

@@ -3,14 +3,14 @@
 from pathlib import Path
 
 import pytest
-from building import copy_repository
 
 from tests.checks import assert_well, run
+from tests.copies import copy_repository
 
 # Of each tool, a file and what is added to it.
 FINDINGS = {
     "mypy": ("packaging/dependencies.py", "\nWRONG: int = str(TOP)\n"),
-    "black": ("packaging/processes.py", "\nMORE = ( 1 )\n"),
+    "black": ("packaging/programs.py", "\nMORE = ( 1 )\n"),
     "clang-format": ("c/amqp_values_rabbitmq.c", "\nint  more ;\n"),
     "rustfmt, over C": ("bindings/rust/amqp-values-sys/src/lib.rs", "\npub const MORE : u8 = 1;\n"),
     "rustfmt": ("tests/oracle/driver.rs", "\nconst MORE : u8 = 1;\n"),

@@ -1,82 +1,38 @@
-"""What `make` looks for, waits for and calls when it builds, packs or releases. Nothing is proved: rt is a stand-in."""
+"""What `make` makes and calls when it builds, packs or releases. Nothing is proved: rt is a stand-in."""
 
 import os
-import re
 import shutil
 from pathlib import Path
 
 import pytest
-from building import copy_repository
 from dependencies import TOP
 
 from tests.checks import assert_well, run
+from tests.conftest import WITHOUT
+from tests.copies import copy_repository
 
 
-@pytest.mark.parametrize(
-    ("target", "program", "package"),
-    (
-        ("all", "cc", "gcc"),
-        ("lib", "ar", "binutils"),
-        ("lib", "cmake", "cmake"),
-        ("lib", "rt", "the Rattle toolchain"),
-        ("dist", "aarch64-linux-gnu-gcc", "gcc-aarch64-linux-gnu"),
-        ("deb", "dh", "debhelper"),
-        ("wheel", "readelf", "binutils"),
-        ("wheels", "aarch64-linux-gnu-ar", "binutils-aarch64-linux-gnu"),
-        ("web", "wasm-opt", "binaryen"),
-    ),
-)
-def test_missing_program_is_named_before_any_proof(tmp_path: Path, target: str, program: str, package: str) -> None:
-    (tmp_path / "bin").mkdir()
-    for it in Path("/usr/bin").iterdir():
-        if it.name != program:
-            (tmp_path / "bin" / it.name).symlink_to(it)
-    if program != "rt":
-        (tmp_path / "bin/rt").write_text(f'#!/bin/sh\n[ "$1" = version ] || : >{tmp_path}/proved\n')
-        (tmp_path / "bin/rt").chmod(0o755)
-    done = run(["make", "-C", TOP, f"OUT={tmp_path}/out", target], env={"PATH": f"{tmp_path}/bin"})
-    assert done.returncode == 2
-    assert f"    {program}  ({package})\n" in done.stderr
-    assert not (tmp_path / "proved").exists()
+def test_what_needs_no_toolchain(tmp_path: Path) -> None:
+    """Each of these targets makes what it is for, and none calls rt. (`make deb` builds in the checkout: tests/packages tries it.)"""
+    (tmp_path / "path").mkdir()
+    for it in ("rt", "rattle"):
+        (tmp_path / "path" / it).write_text(f'#!/bin/sh\necho "$0 $*" >>{tmp_path}/called\nexit 1\n')
+        (tmp_path / "path" / it).chmod(0o755)
+    out, env = tmp_path / "out", {**os.environ, "PATH": f"{tmp_path}/path:{os.environ['PATH']}"}
+    for it in ("all", "dist", "wheel", "web", *(["rust"] * ("rust" not in WITHOUT))):
+        assert_well(run(["make", "-C", TOP, f"OUT={out}", "CMAKE_FLAGS=-DAMQP_SHOW=OFF", it], env=env))
+    made = {"build/libamqp_values.a", "build/libamqp_values.so", "aarch64/libamqp_values.a", "web/amqp.html"}
+    assert all((out / it).is_file() for it in made)
+    assert len([*out.glob("packed/*.tar.gz")]) == 2 and len([*out.glob("wheel/*.whl")]) == 1
+    assert not (tmp_path / "called").exists()
 
 
-@pytest.mark.parametrize(
-    ("target", "folders"),
-    (
-        ("dist", {"build", "aarch64"}),
-        ("deb", {"build"}),
-        ("wheel", {"lib"}),
-        ("wheels", {"lib", "aarch64"}),
-        ("rust", {"lib"}),
-        ("install", {"build"}),
-        ("install-lib", {"lib"}),
-    ),
-)
-def test_what_is_packed_was_built(tmp_path: Path, target: str, folders: set[str]) -> None:
-    """Only amqp_show and what has it wait for it."""
-    said = assert_well(run(["make", "-C", TOP, "-n", f"OUT={tmp_path}", target]))
-    built = {*re.findall(rf"mv {tmp_path}/(\w+)/begun", said)}
-    used = {*re.findall(rf"{tmp_path}/(build|lib|aarch64)\b", said.rpartition("/begun ")[2].partition("\n")[2])}
-    assert built == folders
-    assert used <= folders and (used or target == "deb")
-    assert ("--library x86_64" in said) == ("lib" in folders)
-
-
-def test_cmake_alone_says_what_is_missing(tmp_path: Path) -> None:
-    """By a processor for which nothing was proved."""
-    system = ("-DCMAKE_SYSTEM_NAME=Linux", "-DCMAKE_SYSTEM_PROCESSOR=riscv64")
-    done = run(["cmake", "-S", TOP, "-B", tmp_path, *system])
-    assert done.returncode
-    assert "libamqp_c.a isn't there. 'make lib' proves and builds it" in " ".join(done.stderr.split())
-
-
-def test_measured(tmp_path: Path) -> None:
-    """It ends as the command does, and prints what a command took that ended well."""
-    measured = TOP / "packaging/measured.py"
-    done = run([measured, "something", "sh", "-c", "exit 7"])
-    assert (done.returncode, done.stdout) == (7, "")
-    said = assert_well(run([measured, "something", "sleep", "1"]))
-    assert re.fullmatch(r"something: [1-9]\d* s on \d+ processors, \d+ s of their time, at most \d+ MB\n", said)
+def test_show_is_proved(tmp_path: Path) -> None:
+    """`make show` has rt run it, which proves and builds it first."""
+    (tmp_path / "rt").write_text('#!/bin/sh\necho "$(basename "$PWD"): rt $*"\n')
+    (tmp_path / "rt").chmod(0o755)
+    env = {**os.environ, "PATH": f"{tmp_path}:{os.environ['PATH']}"}
+    assert assert_well(run(["make", "-sC", TOP, "show"], env=env)) == "amqp_show: rt run -- --version\n"
 
 
 @pytest.fixture
