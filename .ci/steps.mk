@@ -45,9 +45,10 @@ fresh: ## try the README on a machine that has only the kit, as root
 clone: ## build from a clone on a machine without the kit, as root
 	$(step) tests/clone.py --root
 
-# (`rt ci` refuses links, which a build by CMake has)
+# (`rt ci` refuses links, which a build by CMake has. It puts back libraries that `rt check` has left, which may be older than what it
+# proves: the steps below would build over these.)
 proofs: ## prove all crates (an hour from nothing)
-	@rm -rf out/build out/aarch64
+	@rm -rf out/build out/aarch64 crates/*/out/rlib
 	$(step) rt ci $(if $(ANEW),$$(rt help | grep -om1 -e --anew))
 
 test-generated: proofs
