@@ -97,6 +97,14 @@ def test_one_step_by_itself(copy: Copy, how: str) -> None:
     assert bool(done.returncode) == (how in ("its status alone says so", "it is killed", "it can't be started"))
 
 
+def test_older_libraries_are_removed(copy: Copy) -> None:
+    """`rt ci` would put them back, and the steps that build over its libraries would take them."""
+    older = copy.top / "crates/amqp_json/out/rlib/amqp_json.rlib"
+    older.mkdir(parents=True)
+    assert copy.make("proofs").returncode == 0
+    assert not older.exists()
+
+
 def test_options_of_whole(copy: Copy) -> None:
     assert copy.make("whole").returncode == 0
     assert copy.called("proofs") == "rt ci --anew"
