@@ -203,6 +203,23 @@ def test_cmake_finds_no_version_1_0(prefix: Path, tmp_path: Path) -> None:
     assert done.returncode == 1
 
 
+# What CMake's file of a version sets.
+OWN_VERSION = """\
+set(PACKAGE_VERSION 7.3.1)
+set(PACKAGE_VERSION_EXACT own)
+set(PACKAGE_VERSION_COMPATIBLE own)
+set(PACKAGE_VERSION_UNSUITABLE own)
+find_package(amqp_values 0.1 REQUIRED)
+message("${PACKAGE_VERSION} ${PACKAGE_VERSION_EXACT} ${PACKAGE_VERSION_COMPATIBLE} ${PACKAGE_VERSION_UNSUITABLE}")
+"""
+
+
+def test_cmake_leaves_a_projects_own_version(prefix: Path, tmp_path: Path) -> None:
+    done = by_cmake(prefix, tmp_path, f"cmake_minimum_required(VERSION 3.13)\nproject(own C)\n{OWN_VERSION}")
+    assert_well(done)
+    assert done.stderr == "7.3.1 own own own\n"
+
+
 def test_install_at_other_places(tmp_path: Path) -> None:
     places = {"LIBDIR": "there/lib", "INCLUDEDIR": "inc", "MANDIR": "man", "DOCDIR": "doc"}
     flags = [f"-DCMAKE_INSTALL_{name}={place}" for name, place in places.items()]
