@@ -84,13 +84,16 @@ pub(crate) fn measure(bytes: &[u8], flags: u32, limits: Limits) -> Result<Measur
     Ok(Measure { bytes: size.bytes, values: size.values, levels: size.levels })
 }
 
-/// The first problem by RabbitMQ's rules.
+/// The first problem by RabbitMQ's rules or those of this crate, and otherwise that there are too many values.
 pub(crate) fn problem_for_rabbitmq(bytes: &[u8], flags: u32, limits: Limits) -> Option<Problem> {
-    match checked(amqpv_read, bytes, flags | AMQPV_RABBITMQ, limits).err()? {
-        Error::Problem(problem) => Some(problem),
+    let as_problem = |error| match error {
+        Error::Problem(problem) => problem,
         // (Error::Incomplete: reading doesn't allocate)
-        _ => Some(Problem { offset: 0, kind: ProblemKind::Cut }),
-    }
+        _ => Problem { offset: 0, kind: ProblemKind::Cut },
+    };
+    let by = |rules| checked::<amqpv_entry>(amqpv_read, bytes, flags | rules, limits).err().map(as_problem);
+    let first = by(AMQPV_RABBITMQ).into_iter().chain(by(0)).min_by_key(|it| it.offset);
+    first.or_else(|| read(bytes, flags, limits).err().map(as_problem))
 }
 
 /// What others than RabbitMQ may not accept, streams included.

@@ -203,17 +203,37 @@ fn rabbitmq_has_other_rules() {
         assert_eq!(of_value.map(|it| (it.kind, it.offset - 1)), of_table.map(|it| (it.kind, it.offset)));
         of_value.map(|it| (it.kind, it.offset))
     };
-    assert_eq!(found(b"\x01\xffV\x01kf\x7f\x7f\xff\xff"), None);
+    assert_eq!(found(b"\x01kf\x7f\x7f\xff\xff"), None);
     assert_eq!(found(b"\x01kU\0\0"), Some((ProblemKind::UnknownTag(b'U'), 7)));
     assert_eq!(found(b"\x01kf\x7f\x80\0\0"), Some((ProblemKind::NotFinite, 7)));
     assert_eq!(found(b"\x01kd\xff\xf8\0\0\0\0\0\0"), Some((ProblemKind::NotFinite, 7)));
 }
 
 #[test]
+fn what_has_no_problem_is_read() {
+    let limits = Limits { values: 3, ..LIMITS };
+    for (body, kind, offset) in [
+        // RabbitMQ accepts the key
+        (&b"\x01\xffV"[..], ProblemKind::KeyNotUtf8, 4),
+        // the first of two problems, whoever has it
+        (b"\x01\xffV\x01kf\x7f\x80\0\0", ProblemKind::KeyNotUtf8, 4),
+        (b"\x01kf\x7f\x80\0\0\x01\xffV", ProblemKind::NotFinite, 6),
+        // the limit on values is the last
+        (b"\x01kV\x01kV\x01kV", ProblemKind::TooManyValues, 0),
+        (b"\x01kV\x01kV\x01kU\0\0", ProblemKind::UnknownTag(b'U'), 12),
+    ] {
+        let found = rabbitmq::first_problem_in_table(&counted(b'F', body)[1..], limits);
+        assert_eq!(found, Some(Problem { kind, offset }));
+    }
+    let bytes = counted(b'F', b"\x01kV\x01kV");
+    assert_eq!(rabbitmq::first_problem(&bytes, limits), None);
+    assert!(read(&bytes, limits).is_ok());
+}
+
+#[test]
 fn warnings_are_of_what_rabbitmq_accepts() {
     let warned = |body: &[u8], frame_max, levels| {
         let bytes = counted(b'F', body);
-        assert_eq!(rabbitmq::first_problem(&bytes, LIMITS), None);
         let found = rabbitmq::warnings(&bytes, LIMITS, frame_max, levels).unwrap();
         let in_table = rabbitmq::warnings_in_table(&bytes[1..], LIMITS, frame_max, levels).unwrap();
         assert_eq!(found.repeated_key.map(|it| it - 1), in_table.repeated_key);
