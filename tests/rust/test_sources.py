@@ -106,5 +106,5 @@ def test_json_of_page() -> None:
 @pytest.mark.parametrize("name", functions_of_page())
 def test_function_of_page(name: str) -> None:
     """An example has it, or the client."""
-    sources = [*(RUST / "amqp-values/examples").glob("*.rs"), HERE / "client.rs"]
+    sources = [*(RUST / "amqp-values/examples").glob("*.rs"), RUST / "plain_json/src/main.rs", HERE / "client.rs"]
     assert any(functions_of_page()[name] in it.read_text() for it in sources)
