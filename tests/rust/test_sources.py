@@ -64,6 +64,22 @@ def test_memory(name: str) -> None:
     assert re.findall(r"at most (\d+) bytes of memory", text) == [figures[it] for it in MEMORY[name]]
 
 
+# The sources and pages that say how many bytes of JSON a byte of an encoding has at most.
+OF_JSON = {
+    "bindings/rust/amqp-values/src/calls.rs": r"JSON_FOR_A_BYTE: usize = (\d+);",
+    "bindings/rust/amqp-values/src/json.rs": r"a text has at most (\d+) times as many bytes",
+    "docs/RUST.md": r"A text may have at most (\d+) times `max_bytes`",
+    "docs/PYTHON.md": r"a text may have (\d+) times as many",
+}
+
+
+@pytest.mark.parametrize("name", OF_JSON)
+def test_length_of_json(name: str) -> None:
+    """It is that of the header, which tests/c/test_by_model.py looks at."""
+    wanted = re.findall(r"(\d+) times as many bytes as the encoding", HEADER.read_text())
+    assert re.findall(OF_JSON[name], (TOP / name).read_text()) == wanted != []
+
+
 def test_unsafe_code() -> None:
     """Is where docs/RUST.md says that it is: in the module that calls C, and not in what is added to the Rust crate."""
     found = {it.name for it in (RUST / "amqp-values/src").glob("*.rs") if re.search(r"\bunsafe\b", it.read_text())}
