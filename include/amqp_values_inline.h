@@ -335,24 +335,27 @@ static inline amqpv_result amqpv_finish(amqpv_writer *w, size_t *length) {
 
 /* ---- Calls that take more than the library's ---- */
 
-static inline amqpv_result amqpv_read_(const amqpv_input *in, amqpv_entry *entry, amqpv_problem *problem) {
+AMQPV_CHECKED_ static inline amqpv_result amqpv_read_(const amqpv_input *in, amqpv_entry *entry,
+                                                      amqpv_problem *problem) {
     amqpv_problem unused;
     return amqpv_read(in, entry, problem != NULL ? problem : &unused);
 }
 
-static inline amqpv_result amqpv_measure_(const amqpv_input *in, amqpv_size *size, amqpv_problem *problem) {
+AMQPV_CHECKED_ static inline amqpv_result amqpv_measure_(const amqpv_input *in, amqpv_size *size,
+                                                         amqpv_problem *problem) {
     amqpv_problem unused;
     return amqpv_measure(in, size, problem != NULL ? problem : &unused);
 }
 
-static inline amqpv_result amqpv_from_json_(const char *text, size_t text_length, uint32_t nesting, uint8_t *buffer,
-                                            size_t capacity, size_t *length, amqpv_problem *problem) {
+AMQPV_CHECKED_ static inline amqpv_result amqpv_from_json_(const char *text, size_t text_length, uint32_t nesting,
+                                                           uint8_t *buffer, size_t capacity, size_t *length,
+                                                           amqpv_problem *problem) {
     amqpv_problem unused;
     return amqpv_from_json(text, text_length, nesting, buffer, capacity, length, problem != NULL ? problem : &unused);
 }
 
-static inline amqpv_result amqpv_find_(const amqpv_input *in, const amqpv_entry *from, const amqpv_step *path,
-                                       size_t steps, amqpv_entry *entry) {
+AMQPV_CHECKED_ static inline amqpv_result amqpv_find_(const amqpv_input *in, const amqpv_entry *from,
+                                                      const amqpv_step *path, size_t steps, amqpv_entry *entry) {
     amqpv_entry start;
     size_t i;
     for (i = 0; i < steps; i++) {
@@ -387,11 +390,13 @@ static inline amqpv_result amqpv_ended_(amqpv_result result, char *buffer, size_
     return result;
 }
 
-static inline amqpv_result amqpv_to_json_(const amqpv_input *in, char *buffer, size_t capacity, size_t *length) {
+AMQPV_CHECKED_ static inline amqpv_result amqpv_to_json_(const amqpv_input *in, char *buffer, size_t capacity,
+                                                         size_t *length) {
     return amqpv_ended_(amqpv_to_json(in, buffer, capacity > 0 ? capacity - 1 : 0, length), buffer, length);
 }
 
-static inline amqpv_result amqpv_write_json_(const amqpv_input *in, char *buffer, size_t capacity, size_t *length) {
+AMQPV_CHECKED_ static inline amqpv_result amqpv_write_json_(const amqpv_input *in, char *buffer, size_t capacity,
+                                                            size_t *length) {
     return amqpv_ended_(amqpv_write_json(in, buffer, capacity > 0 ? capacity - 1 : 0, length), buffer, length);
 }
 

@@ -6,7 +6,8 @@
  * bytes were taken, and the table. The thread has a stack of STACK bytes. With IS_LIMITED the program sets the limits
  * of what is before librabbitmq.
  *
- * With BY_PLUGIN, the path of librabbitmq, that is loaded as a plug-in is, and decodes the headers of a message.
+ * With BY_PROPERTIES librabbitmq decodes the headers of a message, as in a consumer, which doesn't itself call
+ * amqp_decode_table. With BY_PLUGIN, the path of librabbitmq, it does that as it is loaded by a plug-in.
  */
 #define _GNU_SOURCE
 #include <amqp.h>
@@ -22,7 +23,7 @@
 #include <string.h>
 
 #ifdef BY_PLUGIN
-typedef int of_properties(uint16_t id, amqp_pool_t *pool, amqp_bytes_t encoded, void **decoded);
+#define BY_PROPERTIES
 #endif
 
 static void show_table(const amqp_table_t *table);
@@ -76,11 +77,15 @@ static void show_table(const amqp_table_t *table) {
 
 /* Decodes the table after the first two bytes, which are for the flags of properties. */
 static int decode(amqp_pool_t *pool, uint8_t *bytes, size_t length, amqp_table_t *table, size_t *count) {
+#ifdef BY_PROPERTIES
+    int (*properties)(uint16_t id, amqp_pool_t * pool, amqp_bytes_t encoded, void **decoded);
+    void *decoded = NULL;
 #ifdef BY_PLUGIN
-    void *library = dlopen(BY_PLUGIN, RTLD_NOW | RTLD_LOCAL), *found = dlsym(library, "amqp_decode_properties"),
-         *decoded = NULL;
-    of_properties *properties;
+    void *library = dlopen(BY_PLUGIN, RTLD_NOW | RTLD_LOCAL), *found = dlsym(library, "amqp_decode_properties");
     memcpy(&properties, &found, sizeof properties);
+#else
+    properties = amqp_decode_properties;
+#endif
     bytes[0] = AMQP_BASIC_HEADERS_FLAG >> 8, bytes[1] = AMQP_BASIC_HEADERS_FLAG & 255;
     int status = properties(AMQP_BASIC_CLASS, pool, (amqp_bytes_t){length, bytes}, &decoded);
     *count = 0;
@@ -142,7 +147,9 @@ int main(int count, char **words) {
         for (int i = 0; i < 3; i++) {
             numbers[i] = (uint32_t)strtoul(words[2 + i], NULL, 10);
         }
-        amqpv_before_rabbitmq(numbers[0], numbers[1], numbers[2]);
+        if (!amqpv_before_rabbitmq(numbers[0], numbers[1], numbers[2])) {
+            return 3;
+        }
     }
 #endif
     pthread_attr_init(&attributes);

@@ -10,8 +10,10 @@ from pathlib import Path
 NAMED = re.compile(r"`([\w./-]+\.(?:[ch]|py|so|a|md|antt|rt|rows|t|pc|cmake)|[\w.-]+/[\w./-]+)`|\]\(([^)#]+)")
 # What is no file, though it looks like one, or is one that a reader makes.
 NO_FILES = {"/usr/local", "CMakeLists.txt"}
+# How docs/C.md links a consumer with the library before librabbitmq, which test_before_librabbitmq.py does.
+LINKS_CONSUMER = "cc -o consumer"
 # What isn't run: what needs to be root, or another program.
-NOT_RUN = ("sudo ", "LD_PRELOAD", "cc -o consumer")
+NOT_RUN = ("sudo ", "LD_PRELOAD", LINKS_CONSUMER)
 
 
 def names_that_lack(doc: Path, top: Path) -> list[str]:
@@ -46,9 +48,16 @@ def commands_of_building(page: str) -> list[str]:
     ]
 
 
-def blocks_of_cmake(page: str) -> list[str]:
-    """What docs/C.md has for a project that uses CMake."""
-    return re.findall(r"(?ms)^```cmake\n(.*?)^```", page)
+def command_of_consumer(page: str) -> str:
+    """The command of docs/C.md that links a consumer with the library before librabbitmq."""
+    (found,) = re.findall(rf"(?m)^\$ ({LINKS_CONSUMER} .*)$", page)
+    return str(found)
+
+
+def blocks_of_cmake(page: str, program: str = "program") -> list[str]:
+    """What docs/C.md has for a project that uses CMake, and has a program of this name."""
+    blocks = re.findall(r"(?ms)^```cmake\n(.*?)^```", page)
+    return [it for it in blocks if f"target_link_libraries({program} " in it]
 
 
 def commands_of_linking(page: str) -> tuple[list[str], str]:
@@ -96,9 +105,17 @@ key: Void
 """
 
 
+# What a block of C includes that is about the library before librabbitmq.
+INCLUDES_BEFORE = '#include "amqp_values_rabbitmq.h"'
+
+
+def blocks_of_c(page: str) -> list[str]:
+    return re.findall(r"(?ms)^```c\n(.*?)^```", page)
+
+
 def program_of_page(page: str) -> str:
-    """A program of all blocks of C of a page, as docs/C.md has them."""
-    blocks = re.findall(r"(?ms)^```c\n(.*?)^```", page)
+    """A program of all blocks of C of a page over the library, as docs/C.md has them."""
+    blocks = [it for it in blocks_of_c(page) if not it.startswith(INCLUDES_BEFORE)]
     files = [it.replace('#include "amqp_values.h"\n', "") for it in blocks if it.startswith("#include")]
     bodies = [it for it in blocks if not it.startswith("#include")]
     functions = [

@@ -455,6 +455,16 @@ def test_larger_buffer(seed: int) -> None:
 
 # The canonical encoding and JSON
 
+# How many bytes of JSON the header states at most for a byte of the encoding, with the NUL.
+(JSON_FOR_A_BYTE,) = map(int, re.findall(r"(\d+) times as many bytes as the encoding", HEADER.read_text()))
+
+
+def test_longest_json() -> None:
+    """It has as many bytes as the header says. (No other value has more, which assert_written looks at.)"""
+    result, text = c_api.to_json(b"b\x80", 0, c_api.MAX_BYTES, c_api.MAX_DEPTH)
+    assert (result, text) == (OK, b'{"$ShortShortInt":-128}')
+    assert isinstance(text, bytes) and len(text) + 1 == JSON_FOR_A_BYTE * 2
+
 
 def assert_written(data: bytes, left_out: int, others: int = 0) -> None:
     """The canonical encoding and the JSON of a value, which means it, whatever other flags there are."""
@@ -468,6 +478,7 @@ def assert_written(data: bytes, left_out: int, others: int = 0) -> None:
     wanted, text = write(value), json_of(value).encode()
     assert c_api.canonical(data, *limits) == (OK, wanted[flags:]), data.hex()
     assert c_api.to_json(data, *limits) == (OK, text)
+    assert len(text) + 1 <= JSON_FOR_A_BYTE * (extent(b"F" * flags + data) - flags)
     assert c_api.write_json(wanted[flags:], *limits) == (OK, text)
     assert c_api.write_json(data, *limits) == ((OK, text) if ascends(b"F" * flags + data) else (c_api.UNORDERED, 0))
     if text.count(b"[") + text.count(b"{") <= LEVELS:

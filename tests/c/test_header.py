@@ -64,6 +64,29 @@ def test_misuse(compiler: Compiler, line: str) -> None:
     assert run(words, input=f"{head}{declared};\n{line}\n").returncode == 1
 
 
+# Results
+
+# What the header declares that returns a result: its name, and its arguments.
+RETURNING = dict(
+    re.findall(r"(?m)^(?:static inline )?amqpv_result (amqpv_\w+)\(([^;{]*)\)[^;{)]*;", HEADER.read_text())
+)
+
+
+@pytest.mark.parametrize("compiler", [pytest.param(it, id=it.name, marks=it.needs()) for it in COMPILERS])
+def test_ignored_result(compiler: Compiler) -> None:
+    """It gets a warning, except of a conversion, which leaves a default."""
+    calls = [f"{name}({', '.join('0' for _ in arguments.split(','))});" for name, arguments in RETURNING.items()]
+    source = "\n".join(['#include "amqp_values.h"', "void ignore(void) {", *calls, "}\n"])
+    # (gcc says where the macros are that stand for six calls, unless it doesn't track them)
+    tracked = [] if "clang" in compiler.name else ["-ftrack-macro-expansion=0"]
+    words = [compiler.name, f"-x{compiler.language}", f"-I{HEADER.parent}", *tracked, "-S", "-o", "/dev/null", "-"]
+    done = run(words, input=source)
+    assert_well(done)
+    warned = {int(it) - 3 for it in re.findall(r"(?m)^<stdin>:(\d+):.*\[-Wunused-result\]$", done.stderr)}
+    ignored = {name for line, name in enumerate(RETURNING) if line not in warned}
+    assert ignored and ignored == {it for it in RETURNING if it.startswith("amqpv_as_")}
+
+
 # What stays
 
 

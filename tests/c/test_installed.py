@@ -145,18 +145,33 @@ def test_manual(prefix: Path) -> None:
     assert printed(["mandoc", "-Tlint", "-Wwarning", *pages]) == ""
 
 
+def declared(name: str) -> list[tuple[str, str, list[str]]]:
+    """The type, the name and the parameters of each function that a header declares."""
+    text = (TOP / "include" / name).read_text()
+    found = re.findall(r"(?m)^(?:static inline )?((?:const )?\w+ \*?)(amqpv_\w+)\(([^;{]*?)\)[^;{)]*;", text)
+    return [(of.strip(), call, re.split(r",\s+", parameters)) for of, call, parameters in found]
+
+
+def test_manual_has_the_prototypes(prefix: Path) -> None:
+    """In the order of the header."""
+    text = (prefix / f"share/man/man3/{NAME}.3").read_text()
+    found = re.findall(r'(?m)^\.Ft "?(.*?)"?\n\.Fn (\w+) (.*)$', text)
+    shown = [(of, call, re.findall(r'"(.*?)"', parameters) or [parameters]) for of, call, parameters in found]
+    assert shown == declared("amqp_values.h") + declared("amqp_values_rabbitmq.h")
+    calls = {it for names in CALLS.values() for it in names}
+    assert calls < {call for _, call, _ in shown}
+
+
 @pytest.mark.parametrize(
     ("name", "pattern"),
     (
-        ("packaging/amqp_values.3", r"(?m)^\.Fn (amqpv_\w+)"),
         ("packaging/amqp_values.map", r"(?m)^    (amqpv_\w+);$"),
         ("debian/libamqp-values0.symbols", r"(?m)^ (amqpv_\w+)@AMQPV_"),
     ),
 )
 def test_list_has_the_calls_of_the_header(name: str, pattern: str) -> None:
     calls = {it for names in CALLS.values() for it in names}
-    inline = {"amqpv_begin", "amqpv_finish"} if name.endswith(".3") else set()
-    assert sorted(re.findall(pattern, (TOP / name).read_text())) == sorted(calls | inline)
+    assert sorted(re.findall(pattern, (TOP / name).read_text())) == sorted(calls)
 
 
 # CMake
@@ -201,6 +216,23 @@ def test_built_by_cmake(by_kind: Path, kind: str) -> None:
 def test_cmake_finds_no_version_1_0(prefix: Path, tmp_path: Path) -> None:
     done = by_cmake(prefix, tmp_path, CMAKE.replace("amqp_values 0.1", "amqp_values 1.0"))
     assert done.returncode == 1
+
+
+# What CMake's file of a version sets.
+OWN_VERSION = """\
+set(PACKAGE_VERSION 7.3.1)
+set(PACKAGE_VERSION_EXACT own)
+set(PACKAGE_VERSION_COMPATIBLE own)
+set(PACKAGE_VERSION_UNSUITABLE own)
+find_package(amqp_values 0.1 REQUIRED)
+message("${PACKAGE_VERSION} ${PACKAGE_VERSION_EXACT} ${PACKAGE_VERSION_COMPATIBLE} ${PACKAGE_VERSION_UNSUITABLE}")
+"""
+
+
+def test_cmake_leaves_a_projects_own_version(prefix: Path, tmp_path: Path) -> None:
+    done = by_cmake(prefix, tmp_path, f"cmake_minimum_required(VERSION 3.13)\nproject(own C)\n{OWN_VERSION}")
+    assert_well(done)
+    assert done.stderr == "7.3.1 own own own\n"
 
 
 def test_install_at_other_places(tmp_path: Path) -> None:

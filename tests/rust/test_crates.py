@@ -12,8 +12,9 @@ from pathlib import Path
 import pytest
 from dependencies import TOP
 
+from tests.oracle.crate import DEBIAN
 from tests.rust.cargo import CRATES, OF_DEBIAN, OLDEST, PACKAGES, RUST, TARGET, TRIPLE, Given
-from tests.rust.cargo import assert_well, cargo, count_of_tests, last_line, package, run
+from tests.rust.cargo import assert_well, cargo, copied, count_of_tests, last_line, package, run
 from tests.transcripts import Case, cases
 
 # Of random inputs, one in so many is tried under valgrind, and under the address sanitizer.
@@ -62,6 +63,28 @@ def test_example(examples: Path, example: str, case: Case) -> None:
     done = subprocess.run([examples / example, *case.words], input=case.given, capture_output=True)
     wanted = b"" if case.wants.status else case.wants.out
     assert (done.stdout, done.returncode) == (wanted, case.wants.status), done.stderr
+
+
+# The table that the example plain_json converts, and what it prints: of each type a value, and an equal key.
+PLAIN = b"".join(
+    bytes([1]) + it
+    for it in (
+        b"bb\xff", b"at\1", b"bI\0\0\0\5", b"cf\x3f\xc0\0\0", b"dd\x7f\xf0\0\0\0\0\0\0", b"eD\2\0\0\0\x05",
+        b"fS\0\0\0\2a\xff", b"gx\0\0\0\1b", b"hA\0\0\0\6Vu\xff\xffB\xff", b"iT" + b"\xff" * 8, b"jF\0\0\0\0",
+    )
+)  # fmt: skip
+PRINTED = '{"a":true,"b":5,"c":1.5,"d":null,"e":0.05,"f":"a\ufffd","g":"b","h":[null,65535,255],"i":18446744073709551615,"j":{}}\n'
+
+
+def test_plain_json(copies: Path) -> None:
+    """The example over serde_json, as Debian has it."""
+    folder = copied(RUST / "plain_json", copies / "plain_json")
+    debian = ["source.crates-io.replace-with='debian'", f"source.debian.directory='{DEBIAN}'"]
+    config = [word for it in debian for word in ("--config", it)]
+    assert_well(cargo(folder, "build", *config))
+    table = len(PLAIN).to_bytes(4, "big") + PLAIN
+    done = subprocess.run([TARGET / "debug/plain_json"], input=table, capture_output=True)
+    assert (done.stdout.decode(), done.returncode) == (PRINTED, 0), done.stderr
 
 
 # amqp-values and the Rust crate

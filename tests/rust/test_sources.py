@@ -26,6 +26,29 @@ def test_duties_are_those_of_the_header() -> None:
     assert re.sub(r"(?m)^ \*   ", "//! ", duties) in (RUST / "amqp-values-sys/src/lib.rs").read_text()
 
 
+def test_each_call_has_the_comment_of_the_header() -> None:
+    """Or refers to the call before, with which it shares the comment."""
+    header, declared = HEADER.read_text(), (RUST / "amqp-values-sys/src/bindings.rs").read_text()
+    of_header = dict[str, list[str]]()
+    for comment, call in re.findall(r"(?s)/\*((?:(?!\*/).)*)\*/\n(?:amqpv_result|uint32_t) (\w+)\(", header):
+        of_header[call] = re.findall(r"\w+", comment)
+    found = re.findall(r"((?: +///.*\n)*) +pub fn (\w+)", declared)
+    assert {call for _, call in found} > {*of_header} > {"amqpv_read", "amqpv_put", "amqpv_to_json"}
+    for comment, call in found:
+        words = re.findall(r"\w+", comment)
+        assert words[: len(of_header[call])] == of_header[call] if call in of_header else words[0] == "See", call
+
+
+def test_calls_that_take_less_are_those_of_the_header() -> None:
+    """The crate says what six exported calls don't take that C's inline functions do, and each of the six refers to that."""
+    said = re.findall(r"(?s)of the same name:\n(.*?) \*\n", HEADER.read_text())
+    lines = [re.sub(r"(?m)^ \*   ", "//! ", it).replace(" there", "") for it in said]
+    assert len(lines) == 1 and lines[0] in (RUST / "amqp-values-sys/src/lib.rs").read_text()
+    declared = (RUST / "amqp-values-sys/src/bindings.rs").read_text()
+    found = re.findall(r"takes less\]\(crate\)\.\n +pub fn (\w+)", declared)
+    assert sorted(found) == sorted(re.findall(r"amqpv_\w+(?=\(\))", lines[0]))
+
+
 @pytest.mark.parametrize("name", CRATES)
 def test_version(name: str) -> None:
     """A crate has the header's version, also where it names the other."""
@@ -62,6 +85,22 @@ def test_memory(name: str) -> None:
     figures = dict(re.findall(r"(?m)^ \*     amqpv_(\w+) +(\d+) per byte", HEADER.read_text()))
     text = " ".join(re.sub(r"(?m)^ *///", "", (TOP / name).read_text()).split())
     assert re.findall(r"at most (\d+) bytes of memory", text) == [figures[it] for it in MEMORY[name]]
+
+
+# The sources and pages that say how many bytes of JSON a byte of an encoding has at most.
+OF_JSON = {
+    "bindings/rust/amqp-values/src/calls.rs": r"JSON_FOR_A_BYTE: usize = (\d+);",
+    "bindings/rust/amqp-values/src/json.rs": r"a text has at most (\d+) times as many bytes",
+    "docs/RUST.md": r"A text may have at most (\d+) times `max_bytes`",
+    "docs/PYTHON.md": r"a text may have (\d+) times as many",
+}
+
+
+@pytest.mark.parametrize("name", OF_JSON)
+def test_length_of_json(name: str) -> None:
+    """It is that of the header, which tests/c/test_by_model.py looks at."""
+    wanted = re.findall(r"(\d+) times as many bytes as the encoding", HEADER.read_text())
+    assert re.findall(OF_JSON[name], (TOP / name).read_text()) == wanted != []
 
 
 def test_unsafe_code() -> None:
@@ -106,5 +145,5 @@ def test_json_of_page() -> None:
 @pytest.mark.parametrize("name", functions_of_page())
 def test_function_of_page(name: str) -> None:
     """An example has it, or the client."""
-    sources = [*(RUST / "amqp-values/examples").glob("*.rs"), HERE / "client.rs"]
+    sources = [*(RUST / "amqp-values/examples").glob("*.rs"), RUST / "plain_json/src/main.rs", HERE / "client.rs"]
     assert any(functions_of_page()[name] in it.read_text() for it in sources)

@@ -1,4 +1,4 @@
-//! The calls of `libamqp_values.a`, as `include/amqp_values.h` declares them, which describes each.
+//! The calls of `libamqp_values.a`, as `include/amqp_values.h` declares and describes them.
 //!
 //! bindgen makes the declarations. C's `char` is `u8` here, since each text has a length. The crate `amqp-values` is safe Rust
 //! over it. `build.rs` assembles the library with `cc` and `ar`, unless the variable `AMQP_VALUES_LIB_DIR` names the folder of one.
@@ -10,6 +10,12 @@
 //! - What a call writes to does not overlap anything else that is passed to it.
 //! - No length of what a pointer is passed to exceeds PTRDIFF_MAX. (Numbers in an entry, a cursor or
 //!   a container may.)
+//!
+//! The comments are those of the header. Six calls take less here than they say:
+//! - amqpv_read(), amqpv_measure() and amqpv_from_json() don't take NULL for `problem`;
+//! - amqpv_find() doesn't take `from` as `entry`, and returns AMQPV_NONE for a step whose `into`
+//!   is neither of the two;
+//! - amqpv_to_json() and amqpv_write_json() write no NUL, and need no room for it.
 #![no_std]
 
 #[allow(non_camel_case_types)]

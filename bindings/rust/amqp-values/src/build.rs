@@ -1,15 +1,17 @@
 //! `TableBuilder` and `ArrayBuilder`, which write values into a buffer of the caller.
 
-use crate::calls::{Body, Built, LENGTH};
+use crate::calls::Body;
 use crate::{ValueRef, WriteError};
 use amqp_values_sys::{AMQPV_ARRAY, AMQPV_TABLE};
+#[cfg(feature = "std")]
+use std::vec::Vec;
 
-/// Builds a table in a buffer, pair by pair.
+/// Builds a table in a slice or at the end of a vector, pair by pair.
 ///
-/// After an error nothing of the pair is in the table, and others may be put. Nothing is allocated.
+/// After an error nothing of the pair is in the table, and others may be put.
 ///
-/// If the buffer is too small, the builder goes on counting, and [`finish`](Self::finish) returns how many bytes the whole table
-/// needs. So the same function measures a table, by an empty buffer, and builds it.
+/// In a slice nothing is allocated. If the slice is too small, the builder goes on counting, and [`finish`](Self::finish) returns how
+/// many bytes the whole table needs. So the same function measures a table, by an empty slice, and builds it.
 ///
 /// # Examples
 ///
@@ -32,10 +34,29 @@ pub struct TableBuilder<'b>(Body<'b>);
 pub struct ArrayBuilder<'b>(Body<'b>);
 
 impl<'b> TableBuilder<'b> {
-    /// Makes an empty table at the start of a buffer.
+    /// Makes an empty table at the start of a slice.
     pub fn new(buffer: &'b mut [u8]) -> Self {
-        let (offset, needed) = if buffer.len() < LENGTH { (0, Some(LENGTH)) } else { (LENGTH, None) };
-        Self(Body { buffer, built: Built::empty(AMQPV_TABLE, offset, needed) })
+        Self(Body::in_slice(buffer))
+    }
+
+    /// Makes an empty table after what a vector has. The vector grows as needed, and ends with the table once that is
+    /// [finished](Self::finish). Without that any bytes may be there.
+    ///
+    /// # Examples
+    ///
+    /// ```
+    /// use amqp_values::{TableBuilder, WriteError};
+    ///
+    /// let mut frame = vec![0x80];
+    /// let mut headers = TableBuilder::append_to(&mut frame);
+    /// headers.put("a", true)?;
+    /// headers.finish()?;
+    /// assert_eq!(frame, b"\x80\0\0\0\x04\x01at\x01");
+    /// # Ok::<(), WriteError>(())
+    /// ```
+    #[cfg(feature = "std")]
+    pub fn append_to(bytes: &'b mut Vec<u8>) -> Self {
+        Self(Body::after(bytes))
     }
 
     /// Appends a pair. A key may come again, but don't send such a table: RabbitMQ and clients take different pairs. A container
@@ -43,7 +64,7 @@ impl<'b> TableBuilder<'b> {
     ///
     /// # Errors
     ///
-    /// [`WriteError::KeyTooLong`] or [`WriteError::TooLarge`].
+    /// [`WriteError::KeyTooLong`] or [`WriteError::TooLarge`], and in a vector [`WriteError::OutOfMemory`].
     ///
     /// # Examples
     ///
@@ -67,12 +88,35 @@ impl<'b> TableBuilder<'b> {
     ///
     /// # Errors
     ///
-    /// Those of [`put`](Self::put), and that of the function.
-    pub fn put_table(
+    /// Those of [`put`](Self::put), and that of the function, whose type may be your own.
+    ///
+    /// # Examples
+    ///
+    /// ```
+    /// use amqp_values::{TableBuilder, WriteError};
+    ///
+    /// # #[derive(Debug)]
+    /// enum Failed {
+    ///     Parsing(std::num::ParseIntError),
+    ///     Writing(WriteError),
+    /// }
+    /// # impl From<std::num::ParseIntError> for Failed { fn from(why: std::num::ParseIntError) -> Self { Self::Parsing(why) } }
+    /// # impl From<WriteError> for Failed { fn from(why: WriteError) -> Self { Self::Writing(why) } }
+    ///
+    /// let mut buffer = [0; 64];
+    /// let mut arguments = TableBuilder::new(&mut buffer);
+    /// arguments.put_table("limits", |limits| {
+    ///     limits.put("low", "5".parse::<i16>()?)?;
+    ///     Ok::<(), Failed>(())
+    /// })?;
+    /// assert_eq!(arguments.finish()?, b"\0\0\0\x13\x06limitsF\0\0\0\x07\x03lows\0\x05");
+    /// # Ok::<(), Failed>(())
+    /// ```
+    pub fn put_table<E: From<WriteError>>(
         &mut self,
         key: &str,
-        fill: impl FnOnce(&mut TableBuilder<'_>) -> Result<(), WriteError>,
-    ) -> Result<(), WriteError> {
+        fill: impl FnOnce(&mut TableBuilder<'_>) -> Result<(), E>,
+    ) -> Result<(), E> {
         self.0.put_table(key, fill)
     }
 
@@ -80,7 +124,7 @@ impl<'b> TableBuilder<'b> {
     ///
     /// # Errors
     ///
-    /// Those of [`put`](Self::put), and that of the function.
+    /// Those of [`put`](Self::put), and that of the function, whose type may be your own.
     ///
     /// # Examples
     ///
@@ -96,11 +140,11 @@ impl<'b> TableBuilder<'b> {
     /// assert_eq!(table.finish()?, b"\0\0\0\x12\x05hostsA\0\0\0\x07S\0\0\0\x01aV");
     /// # Ok::<(), WriteError>(())
     /// ```
-    pub fn put_array(
+    pub fn put_array<E: From<WriteError>>(
         &mut self,
         key: &str,
-        fill: impl FnOnce(&mut ArrayBuilder<'_>) -> Result<(), WriteError>,
-    ) -> Result<(), WriteError> {
+        fill: impl FnOnce(&mut ArrayBuilder<'_>) -> Result<(), E>,
+    ) -> Result<(), E> {
         self.0.put_array(key, fill)
     }
 
@@ -108,11 +152,12 @@ impl<'b> TableBuilder<'b> {
     ///
     /// # Errors
     ///
-    /// [`WriteError::TooLarge`] if the pairs have 2^32 bytes or more, and else [`WriteError::BufferTooSmall`] if they don't fit.
+    /// [`WriteError::TooLarge`] if the pairs have 2^32 bytes or more, and else [`WriteError::BufferTooSmall`] if they don't fit a
+    /// slice. In a vector [`WriteError::OutOfMemory`].
     ///
     /// # Examples
     ///
-    /// A vector that is as large as it has to be:
+    /// A slice that is as large as it has to be:
     ///
     /// ```
     /// use amqp_values::{TableBuilder, WriteError};
@@ -132,14 +177,7 @@ impl<'b> TableBuilder<'b> {
     /// # Ok::<(), WriteError>(())
     /// ```
     pub fn finish(self) -> Result<&'b [u8], WriteError> {
-        let Body { buffer, built } = self.0;
-        let whole = built.needed.unwrap_or(LENGTH + built.into.written.length);
-        let length = u32::try_from(whole - LENGTH).map_err(|_| WriteError::TooLarge)?;
-        if built.needed.is_some() {
-            return Err(WriteError::BufferTooSmall { needed: whole });
-        }
-        buffer[..LENGTH].copy_from_slice(&length.to_be_bytes());
-        Ok(&buffer[..whole])
+        self.0.finish()
     }
 }
 
@@ -148,7 +186,7 @@ impl ArrayBuilder<'_> {
     ///
     /// # Errors
     ///
-    /// [`WriteError::TooLarge`].
+    /// [`WriteError::TooLarge`], and in a vector [`WriteError::OutOfMemory`].
     pub fn push<'v>(&mut self, value: impl Into<ValueRef<'v>>) -> Result<(), WriteError> {
         self.0.put("", value.into())
     }
@@ -157,11 +195,11 @@ impl ArrayBuilder<'_> {
     ///
     /// # Errors
     ///
-    /// Those of [`push`](Self::push), and that of the function.
-    pub fn push_table(
+    /// Those of [`push`](Self::push), and that of the function, whose type may be your own.
+    pub fn push_table<E: From<WriteError>>(
         &mut self,
-        fill: impl FnOnce(&mut TableBuilder<'_>) -> Result<(), WriteError>,
-    ) -> Result<(), WriteError> {
+        fill: impl FnOnce(&mut TableBuilder<'_>) -> Result<(), E>,
+    ) -> Result<(), E> {
         self.0.put_table("", fill)
     }
 
@@ -169,35 +207,29 @@ impl ArrayBuilder<'_> {
     ///
     /// # Errors
     ///
-    /// Those of [`push`](Self::push), and that of the function.
-    pub fn push_array(
+    /// Those of [`push`](Self::push), and that of the function, whose type may be your own.
+    pub fn push_array<E: From<WriteError>>(
         &mut self,
-        fill: impl FnOnce(&mut ArrayBuilder<'_>) -> Result<(), WriteError>,
-    ) -> Result<(), WriteError> {
+        fill: impl FnOnce(&mut ArrayBuilder<'_>) -> Result<(), E>,
+    ) -> Result<(), E> {
         self.0.put_array("", fill)
     }
 }
 
 impl Body<'_> {
-    fn put_table(
+    fn put_table<E: From<WriteError>>(
         &mut self,
         key: &str,
-        fill: impl FnOnce(&mut TableBuilder<'_>) -> Result<(), WriteError>,
-    ) -> Result<(), WriteError> {
-        self.put_filled(key, AMQPV_TABLE, |body| {
-            let mut table = TableBuilder(body);
-            fill(&mut table).map(|()| table.0.built)
-        })
+        fill: impl FnOnce(&mut TableBuilder<'_>) -> Result<(), E>,
+    ) -> Result<(), E> {
+        self.put_filled(key, AMQPV_TABLE, |body| fill(&mut TableBuilder(body)))
     }
 
-    fn put_array(
+    fn put_array<E: From<WriteError>>(
         &mut self,
         key: &str,
-        fill: impl FnOnce(&mut ArrayBuilder<'_>) -> Result<(), WriteError>,
-    ) -> Result<(), WriteError> {
-        self.put_filled(key, AMQPV_ARRAY, |body| {
-            let mut array = ArrayBuilder(body);
-            fill(&mut array).map(|()| array.0.built)
-        })
+        fill: impl FnOnce(&mut ArrayBuilder<'_>) -> Result<(), E>,
+    ) -> Result<(), E> {
+        self.put_filled(key, AMQPV_ARRAY, |body| fill(&mut ArrayBuilder(body)))
     }
 }

@@ -84,13 +84,16 @@ pub(crate) fn measure(bytes: &[u8], flags: u32, limits: Limits) -> Result<Measur
     Ok(Measure { bytes: size.bytes, values: size.values, levels: size.levels })
 }
 
-/// The first problem by RabbitMQ's rules.
+/// The first problem by RabbitMQ's rules or those of this crate, and otherwise that there are too many values.
 pub(crate) fn problem_for_rabbitmq(bytes: &[u8], flags: u32, limits: Limits) -> Option<Problem> {
-    match checked(amqpv_read, bytes, flags | AMQPV_RABBITMQ, limits).err()? {
-        Error::Problem(problem) => Some(problem),
+    let as_problem = |error| match error {
+        Error::Problem(problem) => problem,
         // (Error::Incomplete: reading doesn't allocate)
-        _ => Some(Problem { offset: 0, kind: ProblemKind::Cut }),
-    }
+        _ => Problem { offset: 0, kind: ProblemKind::Cut },
+    };
+    let by = |rules| checked::<amqpv_entry>(amqpv_read, bytes, flags | rules, limits).err().map(as_problem);
+    let first = by(AMQPV_RABBITMQ).into_iter().chain(by(0)).min_by_key(|it| it.offset);
+    first.or_else(|| read(bytes, flags, limits).err().map(as_problem))
 }
 
 /// What others than RabbitMQ may not accept, streams included.
@@ -222,111 +225,224 @@ pub(crate) fn find(body: &[u8], tag: u8, step: PathStep<'_>, of_equal: EqualKeys
     (result == AMQPV_OK).then_some(entry)
 }
 
+/// Where a table is built.
+#[derive(Debug)]
+pub(crate) enum Buffer<'b> {
+    /// A slice, whose length is the limit.
+    Slice(&'b mut [u8]),
+    /// A vector, which grows: what it has from an offset on.
+    #[cfg(feature = "std")]
+    Vector { bytes: &'b mut Vec<u8>, start: usize },
+}
+
+impl<'b> Buffer<'b> {
+    fn reborrow(&mut self) -> Buffer<'_> {
+        match self {
+            Self::Slice(slice) => Buffer::Slice(slice),
+            #[cfg(feature = "std")]
+            Self::Vector { bytes, start } => Buffer::Vector { bytes, start: *start },
+        }
+    }
+
+    fn slice(&mut self) -> &mut [u8] {
+        match self {
+            Self::Slice(slice) => slice,
+            #[cfg(feature = "std")]
+            Self::Vector { bytes, start } => &mut bytes[*start..],
+        }
+    }
+
+    /// Has a vector grow to at least so many bytes, if it has fewer. Whether there is room for them.
+    fn has_room(&mut self, capacity: usize) -> Result<bool, WriteError> {
+        let length = self.slice().len();
+        match self {
+            #[cfg(feature = "std")]
+            Self::Vector { bytes, .. } if length < capacity => {
+                bytes.try_reserve(capacity - length).map_err(|_| WriteError::OutOfMemory)?;
+                bytes.resize(bytes.capacity(), 0);
+                Ok(true)
+            }
+            _ => Ok(length >= capacity),
+        }
+    }
+
+    /// The table that begins and ends at these offsets, after which a vector ends too.
+    fn table(self, begin: usize, end: usize) -> &'b mut [u8] {
+        match self {
+            Self::Slice(slice) => &mut slice[begin..end],
+            #[cfg(feature = "std")]
+            Self::Vector { bytes, start } => {
+                bytes.truncate(start + end);
+                &mut bytes[start + begin..]
+            }
+        }
+    }
+}
+
 /// A container that is being built in a buffer.
 #[derive(Debug)]
 pub(crate) struct Body<'b> {
-    pub(crate) buffer: &'b mut [u8],
-    pub(crate) built: Built,
+    buffer: Buffer<'b>,
+    built: Progress<'b>,
+}
+
+/// How far a container is built, or, of one in another, where that stands: so it is known even if a function puts another builder in
+/// the place of the one that it fills.
+#[derive(Debug)]
+enum Progress<'b> {
+    Own(Built),
+    Lent(&'b mut Built),
 }
 
 /// How far a container is built.
 #[derive(Clone, Copy, Debug)]
-pub(crate) struct Built {
+struct Built {
     /// What is written. Once the buffer is too small the container counts as empty, in a buffer of no bytes, so that each entry
     /// needs as many as it has.
-    pub(crate) into: amqpv_container,
+    into: amqpv_container,
     /// If the buffer is too small, how many bytes the outermost table needs up to here.
-    pub(crate) needed: Option<usize>,
+    needed: Option<usize>,
 }
 
 impl Built {
     /// Of an empty container, whose bytes begin at an offset.
-    pub(crate) fn empty(tag: u8, offset: usize, needed: Option<usize>) -> Self {
+    fn empty(tag: u8, offset: usize, needed: Option<usize>) -> Self {
         let written = amqpv_span { offset, length: 0 };
         Self { into: amqpv_container { written, tag, ..amqpv_container::default() }, needed }
     }
+
+    /// Where what is written ends.
+    fn end(&self) -> usize {
+        self.into.written.offset + self.into.written.length
+    }
 }
 
-impl Body<'_> {
-    /// The buffer as calls take it.
-    fn parts(&mut self) -> (*mut u8, usize, &mut amqpv_container) {
-        let capacity = if self.built.needed.is_some() { 0 } else { self.buffer.len() };
-        (self.buffer.as_mut_ptr(), capacity, &mut self.built.into)
+impl<'b> Body<'b> {
+    /// Of an empty table without its type tag, at the start of a slice.
+    pub(crate) fn in_slice(slice: &'b mut [u8]) -> Self {
+        let (offset, needed) = if slice.len() < LENGTH { (0, Some(LENGTH)) } else { (LENGTH, None) };
+        let built = Progress::Own(Built::empty(AMQPV_TABLE, offset, needed));
+        Self { buffer: Buffer::Slice(slice), built }
     }
 
-    pub(crate) fn put(&mut self, key: &str, value: ValueRef<'_>) -> Result<(), WriteError> {
-        let (buffer, capacity, into) = self.parts();
-        let (key, key_length) = (key.as_ptr(), key.len());
-        // a value that was read is within the most that limits can be
-        let most = Limits { max_bytes: u32::MAX, depth: Limits::MOST_DEPTH, values: u32::MAX };
-        // SAFETY: the buffer can be written, the key and what is put can be read, and `into` is borrowed alone
-        let result = unsafe {
-            match value.payload() {
-                Payload::Fixed { tag, bits, scale } => {
-                    amqpv_put(buffer, capacity, into, key, key_length, tag, bits, scale)
-                }
-                Payload::Bytes { tag, bytes } => {
-                    let (at, length) = (bytes.as_ptr().cast(), bytes.len());
-                    amqpv_put_bytes(buffer, capacity, into, key, key_length, tag, at, length)
-                }
-                Payload::Container { encoding, flags } => {
-                    amqpv_put_value(buffer, capacity, into, key, key_length, &input(encoding, flags, most))
-                }
-            }
-        };
-        self.done(result)
+    /// Of an empty table without its type tag, after what a vector has.
+    #[cfg(feature = "std")]
+    pub(crate) fn after(bytes: &'b mut Vec<u8>) -> Self {
+        let start = bytes.len();
+        Self { buffer: Buffer::Vector { bytes, start }, built: Progress::Own(Built::empty(AMQPV_TABLE, LENGTH, None)) }
     }
 
-    /// Appends an array or a table, which a function fills; it returns how far that is built. After an error nothing of it is
-    /// there.
-    pub(crate) fn put_filled(
-        &mut self,
-        key: &str,
-        tag: u8,
-        fill: impl FnOnce(Body<'_>) -> Result<Built, WriteError>,
-    ) -> Result<(), WriteError> {
-        let (before, mut inner) = (self.built, amqpv_container::default());
-        let (buffer, capacity, into) = self.parts();
-        // SAFETY: the buffer can be written, `key` can be read, and both containers are borrowed alone
-        let result = unsafe { amqpv_open(buffer, capacity, into, key.as_ptr(), key.len(), tag, &mut inner) };
-        self.done(result)?;
-        let opened = match self.built.needed {
-            None => Built { into: inner, needed: None },
-            needed => Built::empty(tag, 0, needed),
-        };
-        let closed = fill(Body { buffer: self.buffer, built: opened }).and_then(|filled| {
-            if let Some(needed) = filled.needed {
-                self.count(needed);
-                return Ok(());
-            }
-            let (buffer, capacity, into) = self.parts();
-            // SAFETY: the buffer can be written, and `into` is borrowed alone
-            let result = unsafe { amqpv_close(buffer, capacity, into, &filled.into) };
-            self.done(result)
-        });
-        if closed.is_err() {
-            self.built = before;
+    fn built(&mut self) -> &mut Built {
+        match &mut self.built {
+            Progress::Own(built) => built,
+            Progress::Lent(built) => built,
         }
-        closed
     }
 
-    /// What a call returned that puts something.
-    fn done(&mut self, result: amqpv_result) -> Result<(), WriteError> {
-        match result {
-            AMQPV_OK => Ok(()),
-            AMQPV_NO_ROOM => {
-                let before = self.built.needed.unwrap_or(0);
-                self.count(before.saturating_add(self.built.into.needed));
-                Ok(())
+    /// Makes a call that puts something into the container, and makes it again once a vector has grown.
+    fn put_by(
+        &mut self,
+        mut call: impl FnMut(*mut u8, usize, &mut amqpv_container) -> amqpv_result,
+    ) -> Result<(), WriteError> {
+        let Built { mut into, needed } = *self.built();
+        // (a vector may not have room for the length of the table yet)
+        self.buffer.has_room(into.written.offset)?;
+        loop {
+            let slice = self.buffer.slice();
+            let capacity = if needed.is_some() { 0 } else { slice.len() };
+            match call(slice.as_mut_ptr(), capacity, &mut into) {
+                AMQPV_OK => {
+                    self.built().into = into;
+                    return Ok(());
+                }
+                AMQPV_NO_ROOM if needed.is_none() && self.buffer.has_room(into.needed)? => {}
+                AMQPV_NO_ROOM => {
+                    self.count(needed.unwrap_or(0).saturating_add(into.needed));
+                    return Ok(());
+                }
+                AMQPV_BAD_KEY => return Err(WriteError::KeyTooLong),
+                // AMQPV_TOO_LARGE: the structs are right, and so are tags, bits and scales
+                _ => return Err(WriteError::TooLarge),
             }
-            AMQPV_BAD_KEY => Err(WriteError::KeyTooLong),
-            // AMQPV_TOO_LARGE: the structs are right, and so are tags, bits and scales
-            _ => Err(WriteError::TooLarge),
         }
     }
 
     /// From here on only counts what is put, after so many bytes.
     fn count(&mut self, needed: usize) {
-        self.built = Built::empty(self.built.into.tag, 0, Some(needed));
+        *self.built() = Built::empty(self.built().into.tag, 0, Some(needed));
+    }
+
+    pub(crate) fn put(&mut self, key: &str, value: ValueRef<'_>) -> Result<(), WriteError> {
+        let (key, key_length) = (key.as_ptr(), key.len());
+        // a value that was read is within the most that limits can be
+        let most = Limits { max_bytes: u32::MAX, depth: Limits::MOST_DEPTH, values: u32::MAX };
+        let payload = value.payload();
+        self.put_by(|buffer, capacity, into| {
+            // SAFETY: the buffer can be written, the key and what is put can be read, and `into` is borrowed alone
+            unsafe {
+                match payload {
+                    Payload::Fixed { tag, bits, scale } => {
+                        amqpv_put(buffer, capacity, into, key, key_length, tag, bits, scale)
+                    }
+                    Payload::Bytes { tag, bytes } => {
+                        let (at, length) = (bytes.as_ptr().cast(), bytes.len());
+                        amqpv_put_bytes(buffer, capacity, into, key, key_length, tag, at, length)
+                    }
+                    Payload::Container { encoding, flags } => {
+                        amqpv_put_value(buffer, capacity, into, key, key_length, &input(encoding, flags, most))
+                    }
+                }
+            }
+        })
+    }
+
+    /// Appends an array or a table, which a function fills. After an error, also of the function, nothing of it is there.
+    pub(crate) fn put_filled<E: From<WriteError>>(
+        &mut self,
+        key: &str,
+        tag: u8,
+        fill: impl FnOnce(Body<'_>) -> Result<(), E>,
+    ) -> Result<(), E> {
+        let (before, mut inner) = (*self.built(), amqpv_container::default());
+        self.put_by(|buffer, capacity, into| {
+            // SAFETY: the buffer can be written, `key` can be read, and both containers are borrowed alone
+            unsafe { amqpv_open(buffer, capacity, into, key.as_ptr(), key.len(), tag, &mut inner) }
+        })?;
+        let opened = *self.built();
+        let mut filled = match opened.needed {
+            None => Built { into: inner, needed: None },
+            needed => Built::empty(tag, 0, needed),
+        };
+        // until the function has ended well, nothing is there
+        *self.built() = before;
+        fill(Body { buffer: self.buffer.reborrow(), built: Progress::Lent(&mut filled) })?;
+        if let Some(needed) = filled.needed {
+            self.count(needed);
+            return Ok(());
+        }
+        *self.built() = opened;
+        let closed = self.put_by(|buffer, capacity, into| {
+            // SAFETY: the buffer can be written, and `into` is borrowed alone
+            unsafe { amqpv_close(buffer, capacity, into, &filled.into) }
+        });
+        if closed.is_err() {
+            *self.built() = before;
+        }
+        Ok(closed?)
+    }
+
+    /// The table, with its length before it.
+    pub(crate) fn finish(mut self) -> Result<&'b [u8], WriteError> {
+        let built = *self.built();
+        let whole = built.needed.unwrap_or(LENGTH + built.into.written.length);
+        let length = u32::try_from(whole - LENGTH).map_err(|_| WriteError::TooLarge)?;
+        if built.needed.is_some() {
+            return Err(WriteError::BufferTooSmall { needed: whole });
+        }
+        let end = built.end();
+        self.buffer.has_room(end)?;
+        let table = self.buffer.table(end - whole, end);
+        table[..LENGTH].copy_from_slice(&length.to_be_bytes());
+        Ok(table)
     }
 }

@@ -4,6 +4,7 @@ use core::fmt;
 
 /// Why bytes aren't read.
 #[derive(Clone, Copy, Debug, PartialEq, Eq)]
+#[non_exhaustive]
 pub enum Error {
     /// The bytes end before the value does.
     Incomplete {
@@ -68,6 +69,8 @@ pub enum WriteError {
     KeyTooLong,
     /// A string, a byte array or a container has 2^32 bytes or more.
     TooLarge,
+    /// There isn't enough memory for the vector to grow.
+    OutOfMemory,
 }
 
 impl fmt::Display for Error {
@@ -116,6 +119,7 @@ impl fmt::Display for WriteError {
             Self::BufferTooSmall { needed } => write!(f, "the buffer needs {needed} bytes"),
             Self::KeyTooLong => f.write_str("the key has more than 255 bytes"),
             Self::TooLarge => f.write_str("too large"),
+            Self::OutOfMemory => f.write_str("out of memory"),
         }
     }
 }

@@ -6,14 +6,14 @@ use amqp_values_sys::{amqpv_cursor, AMQPV_ARRAY, AMQPV_TABLE};
 use core::iter::FusedIterator;
 
 /// The values of an array, in their order.
-#[derive(Clone, Debug)]
+#[derive(Clone)]
 pub struct ArrayValues<'a> {
     body: &'a [u8],
     cursor: amqpv_cursor,
 }
 
 /// The pairs of a table as they are written, each of several equal keys too.
-#[derive(Clone, Debug)]
+#[derive(Clone)]
 pub struct TablePairs<'a> {
     body: &'a [u8],
     cursor: amqpv_cursor,
@@ -42,6 +42,18 @@ impl FusedIterator for ArrayValues<'_> {}
 impl FusedIterator for TablePairs<'_> {}
 
 impl<'a> ArrayRef<'a> {
+    /// Counts the values, one by one.
+    #[must_use]
+    pub fn len(self) -> usize {
+        self.iter().count()
+    }
+
+    /// Returns whether there is no value.
+    #[must_use]
+    pub fn is_empty(self) -> bool {
+        self.body().is_empty()
+    }
+
     /// Returns an iterator over the values, in their order.
     #[must_use]
     pub fn iter(self) -> ArrayValues<'a> {
@@ -50,6 +62,18 @@ impl<'a> ArrayRef<'a> {
 }
 
 impl<'a> TableRef<'a> {
+    /// Counts the pairs, one by one. A key that comes again counts again.
+    #[must_use]
+    pub fn len(self) -> usize {
+        self.iter().count()
+    }
+
+    /// Returns whether there is no pair.
+    #[must_use]
+    pub fn is_empty(self) -> bool {
+        self.body().is_empty()
+    }
+
     /// Returns an iterator over the pairs, in the order in which they are written. A key may come more than once.
     ///
     /// # Examples

@@ -31,6 +31,7 @@ extern crate std;
 
 mod build;
 mod calls;
+mod debug;
 mod error;
 mod iter;
 #[cfg(feature = "std")]

@@ -14,21 +14,21 @@ pub struct DecimalValue {
 }
 
 /// An array in some bytes that were read. Two are equal if their bytes are.
-#[derive(Clone, Copy, Debug, PartialEq, Eq)]
+#[derive(Clone, Copy, PartialEq, Eq)]
 pub struct ArrayRef<'a> {
     /// A type tag, a length and values.
     encoding: &'a [u8],
 }
 
 /// A table in some bytes that were read. Two are equal if their bytes are.
-#[derive(Clone, Copy, Debug, PartialEq, Eq)]
+#[derive(Clone, Copy, PartialEq, Eq)]
 pub struct TableRef<'a> {
     /// A length and pairs.
     encoding: &'a [u8],
 }
 
 /// A value in some bytes that were read.
-#[derive(Clone, Copy, Debug, PartialEq)]
+#[derive(Clone, Copy, PartialEq)]
 pub enum ValueRef<'a> {
     /// A boolean.
     Boolean(bool),
@@ -81,6 +81,12 @@ impl<'a> ArrayRef<'a> {
         Self { encoding: bytes_of(bytes, entry.value) }
     }
 
+    /// Returns the encoding, its type tag included, as [`read`](crate::read) and `to_json` take it.
+    #[must_use]
+    pub fn as_bytes(self) -> &'a [u8] {
+        self.encoding
+    }
+
     pub(crate) fn body(self) -> &'a [u8] {
         &self.encoding[1 + LENGTH..]
     }
@@ -91,6 +97,24 @@ impl<'a> TableRef<'a> {
     pub(crate) fn of(bytes: &'a [u8], entry: &sys::amqpv_entry) -> Self {
         let sys::amqpv_span { offset, length } = entry.content;
         Self { encoding: &bytes[offset - LENGTH..offset + length] }
+    }
+
+    /// Returns the encoding without a type tag, as [`read_table`](crate::read_table) and `table_to_json` take it. So a table in another
+    /// can be converted.
+    ///
+    /// # Examples
+    ///
+    /// ```
+    /// use amqp_values::{read_table, Error, Limits, ValueRef};
+    ///
+    /// let (headers, _) = read_table(b"\0\0\0\x0b\x01aF\0\0\0\x04\x01bt\x01", Limits::DEFAULT)?;
+    /// let inner = headers.get("a").and_then(ValueRef::as_table).unwrap();
+    /// assert_eq!(inner.as_bytes(), b"\0\0\0\x04\x01bt\x01");
+    /// # Ok::<(), Error>(())
+    /// ```
+    #[must_use]
+    pub fn as_bytes(self) -> &'a [u8] {
+        self.encoding
     }
 
     pub(crate) fn body(self) -> &'a [u8] {
@@ -164,6 +188,41 @@ impl<'a> ValueRef<'a> {
             Self::LongLongInt(number) => number,
             _ => return None,
         })
+    }
+
+    /// Returns the number of an integer of any type, or `None` if it is negative or the value has another type. A timestamp isn't an
+    /// integer.
+    ///
+    /// # Examples
+    ///
+    /// ```
+    /// use amqp_values::ValueRef;
+    ///
+    /// assert_eq!(ValueRef::LongInt(5).as_uint(), Some(5));
+    /// assert_eq!(ValueRef::LongInt(-5).as_uint(), None);
+    /// ```
+    #[must_use]
+    pub fn as_uint(self) -> Option<u64> {
+        self.as_int()?.try_into().ok()
+    }
+
+    /// Returns a boolean, or `None` for a value of another type.
+    #[must_use]
+    pub fn as_bool(self) -> Option<bool> {
+        match self {
+            Self::Boolean(truth) => Some(truth),
+            _ => None,
+        }
+    }
+
+    /// Returns the number of a Float or a Double, or `None` for a value of another type, also an integer.
+    #[must_use]
+    pub fn as_f64(self) -> Option<f64> {
+        match self {
+            Self::Float(number) => Some(number.into()),
+            Self::Double(number) => Some(number),
+            _ => None,
+        }
     }
 
     /// Returns the text of a string, or `None` if it isn't UTF-8 or the value has another type.

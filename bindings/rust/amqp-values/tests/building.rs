@@ -31,7 +31,10 @@ fn values() -> [(&'static str, ValueRef<'static>); 15] {
 
 /// A table with these values, and with those of another table.
 fn build<'b>(buffer: &'b mut [u8], other: TableRef<'_>) -> Result<&'b [u8], WriteError> {
-    let mut table = TableBuilder::new(buffer);
+    build_by(TableBuilder::new(buffer), other)
+}
+
+fn build_by<'b>(mut table: TableBuilder<'b>, other: TableRef<'_>) -> Result<&'b [u8], WriteError> {
     values().into_iter().try_for_each(|(key, value)| table.put(key, value))?;
     table.put_array("A", |array| {
         array.push(7)?;
@@ -78,9 +81,84 @@ fn a_buffer_that_is_too_small_has_the_length_that_is_needed() {
     assert!(build(&mut vec![0; length], table(&other)).is_ok());
 }
 
+#[test]
+fn a_vector_grows_and_ends_with_the_table() {
+    let other = [0, 0, 0, 4, 1, b'k', b't', 1];
+    let mut large = [0; 512];
+    let wanted = build(&mut large, table(&other)).unwrap();
+    for before in [&b""[..], b"before"] {
+        for capacity in [0, 8, 100, 1000] {
+            let mut bytes = Vec::with_capacity(capacity);
+            bytes.extend_from_slice(before);
+            assert_eq!(build_by(TableBuilder::append_to(&mut bytes), table(&other)), Ok(wanted));
+            assert_eq!(bytes, [before, wanted].concat());
+        }
+    }
+    let mut bytes = Vec::new();
+    assert_eq!(TableBuilder::append_to(&mut bytes).finish(), Ok(&[0; 4][..]));
+    assert_eq!(bytes, [0; 4]);
+    // an entry that fails leaves nothing
+    let mut wanted = [0; 64];
+    let wanted = build_with_errors(TableBuilder::new(&mut wanted)).unwrap();
+    assert_eq!(build_with_errors(TableBuilder::append_to(&mut bytes)), Ok(wanted));
+    assert_eq!(bytes, [&[0; 4], wanted].concat());
+}
+
+#[test]
+fn an_error_of_a_function_may_have_any_type() {
+    #[derive(Debug, PartialEq)]
+    enum Failed {
+        Own(u8),
+        Writing(WriteError),
+    }
+    impl From<WriteError> for Failed {
+        fn from(why: WriteError) -> Self {
+            Self::Writing(why)
+        }
+    }
+    let (mut buffer, key) = ([0; 64], "k".repeat(256));
+    let mut built = TableBuilder::new(&mut buffer);
+    assert_eq!(built.put_table("t", |_| Err(Failed::Own(1))), Err(Failed::Own(1)));
+    assert_eq!(built.put_array("a", |array| array.push_table(|_| Err(Failed::Own(2)))), Err(Failed::Own(2)));
+    assert_eq!(built.put_array("a", |array| array.push_array(|_| Err(Failed::Own(3)))), Err(Failed::Own(3)));
+    let too_long = built.put_table("t", |table| {
+        table.put(&key, 1)?;
+        Err(Failed::Own(4))
+    });
+    assert_eq!(too_long, Err(Failed::Writing(WriteError::KeyTooLong)));
+    assert_eq!(built.put_table(&key, |_| Err(Failed::Own(5))), Err(Failed::Writing(WriteError::KeyTooLong)));
+    built.put("k", true).unwrap();
+    assert_eq!(built.finish().unwrap(), b"\0\0\0\x04\x01kt\x01");
+}
+
+#[test]
+fn a_builder_that_is_replaced_leaves_its_table_as_it_is() {
+    // another table, of which nothing is in the one that is built; with an empty buffer it only counts
+    let other: [Vec<u8>; 2] = [vec![], vec![0; 64]];
+    for (buffer, capacity) in other.into_iter().flat_map(|it| [(it.clone(), 0), (it.clone(), 64), (it, 12)]) {
+        let buffer = Box::leak(buffer.into_boxed_slice());
+        let mut own = vec![0; capacity];
+        let mut built = TableBuilder::new(&mut own);
+        let replaced: Result<(), WriteError> = built.put_table("t", |table| {
+            table.put("a", 1_i8)?;
+            let mut first = std::mem::replace(table, TableBuilder::new(buffer));
+            table.put("other", 2_i8)?;
+            first.put("b", 3_i8)?;
+            // what it returns is the inner table
+            let finished = first.finish();
+            assert_eq!(finished.is_ok(), capacity == 64);
+            assert!(finished.map_or(true, |it| it == b"\0\0\0\x08\x01ab\x01\x01bb\x03"));
+            Ok(())
+        });
+        assert_eq!(replaced, Ok(()));
+        let wanted = b"\0\0\0\x0f\x01tF\0\0\0\x08\x01ab\x01\x01bb\x03";
+        let too_small = Err(WriteError::BufferTooSmall { needed: wanted.len() });
+        assert_eq!(built.finish(), if capacity == 64 { Ok(&wanted[..]) } else { too_small });
+    }
+}
+
 /// A table in whose parts some keys are too long, which leave nothing.
-fn build_with_errors(buffer: &mut [u8]) -> Result<&[u8], WriteError> {
-    let mut built = TableBuilder::new(buffer);
+fn build_with_errors(mut built: TableBuilder<'_>) -> Result<&[u8], WriteError> {
     let key = "k".repeat(256);
     assert_eq!(built.put(&key, 1), Err(WriteError::KeyTooLong));
     assert_eq!(built.put_table(&key, |_| Ok(())), Err(WriteError::KeyTooLong));
@@ -108,7 +186,7 @@ fn an_entry_that_fails_leaves_nothing() {
         let mut buffer = vec![0; capacity];
         let too_small = Err(WriteError::BufferTooSmall { needed: wanted.len() });
         let expected = if capacity < wanted.len() { too_small } else { Ok(&wanted[..]) };
-        assert_eq!(build_with_errors(&mut buffer), expected, "of {capacity} bytes");
+        assert_eq!(build_with_errors(TableBuilder::new(&mut buffer)), expected, "of {capacity} bytes");
     }
 }
 

@@ -203,17 +203,87 @@ fn rabbitmq_has_other_rules() {
         assert_eq!(of_value.map(|it| (it.kind, it.offset - 1)), of_table.map(|it| (it.kind, it.offset)));
         of_value.map(|it| (it.kind, it.offset))
     };
-    assert_eq!(found(b"\x01\xffV\x01kf\x7f\x7f\xff\xff"), None);
+    assert_eq!(found(b"\x01kf\x7f\x7f\xff\xff"), None);
     assert_eq!(found(b"\x01kU\0\0"), Some((ProblemKind::UnknownTag(b'U'), 7)));
     assert_eq!(found(b"\x01kf\x7f\x80\0\0"), Some((ProblemKind::NotFinite, 7)));
     assert_eq!(found(b"\x01kd\xff\xf8\0\0\0\0\0\0"), Some((ProblemKind::NotFinite, 7)));
 }
 
 #[test]
+fn what_has_no_problem_is_read() {
+    let limits = Limits { values: 3, ..LIMITS };
+    for (body, kind, offset) in [
+        // RabbitMQ accepts the key
+        (&b"\x01\xffV"[..], ProblemKind::KeyNotUtf8, 4),
+        // the first of two problems, whoever has it
+        (b"\x01\xffV\x01kf\x7f\x80\0\0", ProblemKind::KeyNotUtf8, 4),
+        (b"\x01kf\x7f\x80\0\0\x01\xffV", ProblemKind::NotFinite, 6),
+        // the limit on values is the last
+        (b"\x01kV\x01kV\x01kV", ProblemKind::TooManyValues, 0),
+        (b"\x01kV\x01kV\x01kU\0\0", ProblemKind::UnknownTag(b'U'), 12),
+    ] {
+        let found = rabbitmq::first_problem_in_table(&counted(b'F', body)[1..], limits);
+        assert_eq!(found, Some(Problem { kind, offset }));
+    }
+    let bytes = counted(b'F', b"\x01kV\x01kV");
+    assert_eq!(rabbitmq::first_problem(&bytes, limits), None);
+    assert!(read(&bytes, limits).is_ok());
+}
+
+#[test]
+fn a_value_is_converted_to_its_own_type_only() {
+    let converted = |value: ValueRef<'_>| (value.as_bool(), value.as_int(), value.as_uint(), value.as_f64());
+    assert_eq!(converted(true.into()), (Some(true), None, None, None));
+    assert_eq!(converted(u32::MAX.into()), (None, Some(0xffff_ffff), Some(0xffff_ffff), None));
+    assert_eq!(converted(i64::MAX.into()), (None, Some(i64::MAX), Some(i64::MAX as u64), None));
+    assert_eq!(converted((-1_i8).into()), (None, Some(-1), None, None));
+    assert_eq!(converted(1.5_f32.into()), (None, None, None, Some(1.5)));
+    assert_eq!(converted((-0.1).into()), (None, None, None, Some(-0.1)));
+    for other in [ValueRef::Void, ValueRef::Timestamp(1), "1".into(), DecimalValue { scale: 0, value: 1 }.into()] {
+        assert_eq!(converted(other), (None, None, None, None));
+    }
+}
+
+#[test]
+fn a_container_has_its_bytes_and_its_length() {
+    let array = counted(b'A', &[b"V", &counted(b'F', b"\x01kV\x01kV")[..]].concat());
+    let bytes = counted(b'F', &[b"\x01a", &array[..], b"\x01bt\x01\x01cF\0\0\0\0"].concat());
+    let read = table(&bytes);
+    assert_eq!((read.len(), read.as_bytes(), read.is_empty()), (3, &bytes[1..], false));
+    let inner = read.get("a").and_then(ValueRef::as_array).unwrap();
+    assert_eq!((inner.len(), inner.as_bytes(), inner.is_empty()), (2, &array[..], false));
+    assert_eq!(to_json(inner.as_bytes(), LIMITS).unwrap(), r#"[null,{"k":null}]"#);
+    let last = inner.get(1).and_then(ValueRef::as_table).unwrap();
+    assert_eq!((last.len(), table_to_json(last.as_bytes(), LIMITS).unwrap()), (2, r#"{"k":null}"#.to_owned()));
+    let empty = read.get("c").and_then(ValueRef::as_table).unwrap();
+    assert_eq!((empty.len(), empty.is_empty()), (0, true));
+}
+
+#[test]
+fn debug_shows_the_entries_of_what_is_small_and_a_part_of_what_is_large() {
+    let shown = |bytes: &[u8]| format!("{:?}", read(bytes, LIMITS).unwrap().0);
+    let small = counted(b'F', &[b"\x01\x22I\0\0\0\x05\x01b", &counted(b'A', b"S\0\0\0\x02a\xffV")[..]].concat());
+    let entries = r#"{"\"": LongInt(5), "b": FieldArray([LongString(b"a\xff"), Void])}"#;
+    assert_eq!(shown(&small), format!("FieldTable({entries})"));
+    let (table, _) = read_table(&small[1..], LIMITS).unwrap();
+    assert_eq!((format!("{table:?}"), format!("{:?}", table.iter())), (entries.to_owned(), entries.to_owned()));
+
+    assert_eq!(shown(&counted(b'A', &[b'V'; 64])), format!("FieldArray([{}])", ["Void"; 64].join(", ")));
+    let large = counted(b'A', &[&counted(b'A', &[b'V'; 62])[..], b"VVV"].concat());
+    assert_eq!(shown(&large), format!("FieldArray([FieldArray([{}]), Void, .. 2 more])", ["Void"; 62].join(", ")));
+    let pairs = counted(b'F', &b"\x01kV".repeat(1000));
+    assert!(shown(&pairs).ends_with(r#""k": Void, ..: 936 more})"#) && shown(&pairs).len() < 1000);
+    let deep = format!("{:?}", read(&nested(4000), Limits { depth: 4096, ..LIMITS }).unwrap().0);
+    assert_eq!(deep.matches("FieldTable").count(), 65);
+    assert!(deep.contains("{..: 1 more}"));
+    let text = shown(&counted(b'S', &[b'x'; 65]));
+    assert_eq!(text, format!("LongString(b\"{}..\" of 65 bytes)", "x".repeat(64)));
+}
+
+#[test]
 fn warnings_are_of_what_rabbitmq_accepts() {
     let warned = |body: &[u8], frame_max, levels| {
         let bytes = counted(b'F', body);
-        assert_eq!(rabbitmq::first_problem(&bytes, LIMITS), None);
         let found = rabbitmq::warnings(&bytes, LIMITS, frame_max, levels).unwrap();
         let in_table = rabbitmq::warnings_in_table(&bytes[1..], LIMITS, frame_max, levels).unwrap();
         assert_eq!(found.repeated_key.map(|it| it - 1), in_table.repeated_key);
