@@ -141,6 +141,16 @@ static inline amqpv_result amqpv_as_double(const amqpv_entry *entry, double *num
     return AMQPV_OK;
 }
 
+static inline amqpv_result amqpv_get(const amqpv_input *in, const amqpv_entry *table, const char *key,
+                                     size_t key_length, amqpv_entry *entry) {
+    amqpv_step step;
+    step.key = key;
+    step.key_length = key_length;
+    step.index = 0;
+    step.into = AMQPV_TABLE;
+    return amqpv_find(in, table, &step, 1, entry);
+}
+
 /* ---- Writing ---- */
 
 /*
@@ -332,76 +342,6 @@ static inline amqpv_result amqpv_finish(amqpv_writer *w, size_t *length) {
     }
     return w->result;
 }
-
-/* ---- Calls that take more than the library's ---- */
-
-static inline amqpv_result amqpv_read_(const amqpv_input *in, amqpv_entry *entry, amqpv_problem *problem) {
-    amqpv_problem unused;
-    return amqpv_read(in, entry, problem != NULL ? problem : &unused);
-}
-
-static inline amqpv_result amqpv_measure_(const amqpv_input *in, amqpv_size *size, amqpv_problem *problem) {
-    amqpv_problem unused;
-    return amqpv_measure(in, size, problem != NULL ? problem : &unused);
-}
-
-static inline amqpv_result amqpv_from_json_(const char *text, size_t text_length, uint32_t nesting, uint8_t *buffer,
-                                            size_t capacity, size_t *length, amqpv_problem *problem) {
-    amqpv_problem unused;
-    return amqpv_from_json(text, text_length, nesting, buffer, capacity, length, problem != NULL ? problem : &unused);
-}
-
-static inline amqpv_result amqpv_find_(const amqpv_input *in, const amqpv_entry *from, const amqpv_step *path,
-                                       size_t steps, amqpv_entry *entry) {
-    amqpv_entry start;
-    size_t i;
-    for (i = 0; i < steps; i++) {
-        if (path[i].into != AMQPV_TABLE && path[i].into != AMQPV_ARRAY) {
-            return AMQPV_INVALID;
-        }
-    }
-    if (from == entry) {
-        start = *from;
-        from = &start;
-    }
-    return amqpv_find(in, from, path, steps, entry);
-}
-
-static inline amqpv_result amqpv_get(const amqpv_input *in, const amqpv_entry *table, const char *key,
-                                     size_t key_length, amqpv_entry *entry) {
-    amqpv_step step;
-    step.key = key;
-    step.key_length = key_length;
-    step.index = 0;
-    step.into = AMQPV_TABLE;
-    return amqpv_find_(in, table, &step, 1, entry);
-}
-
-/* (after a text was written to a buffer except its last byte: the NUL, or the room for it) */
-static inline amqpv_result amqpv_ended_(amqpv_result result, char *buffer, size_t *length) {
-    if (result == AMQPV_OK) {
-        buffer[*length] = 0;
-    } else if (result == AMQPV_NO_ROOM && *length < SIZE_MAX) {
-        ++*length;
-    }
-    return result;
-}
-
-static inline amqpv_result amqpv_to_json_(const amqpv_input *in, char *buffer, size_t capacity, size_t *length) {
-    return amqpv_ended_(amqpv_to_json(in, buffer, capacity > 0 ? capacity - 1 : 0, length), buffer, length);
-}
-
-static inline amqpv_result amqpv_write_json_(const amqpv_input *in, char *buffer, size_t capacity, size_t *length) {
-    return amqpv_ended_(amqpv_write_json(in, buffer, capacity > 0 ? capacity - 1 : 0, length), buffer, length);
-}
-
-/* (from here on these names mean the functions above) */
-#define amqpv_read amqpv_read_
-#define amqpv_measure amqpv_measure_
-#define amqpv_from_json amqpv_from_json_
-#define amqpv_find amqpv_find_
-#define amqpv_to_json amqpv_to_json_
-#define amqpv_write_json amqpv_write_json_
 
 /* ---- Names ---- */
 

@@ -194,11 +194,11 @@ def stepped(data: bytes, left: Span, tag: int) -> tuple[int, Any, Any]:
 
 def looked_up(data: bytes, entry: Any, path: list[Any], first: bool) -> tuple[int, Any]:
     """What a look-up returns."""
-    if not all(is_inside(it, len(data)) for it in entry[:3]):
+    if "S" in path or not all(is_inside(it, len(data)) for it in entry[:3]):
         return INVALID, None
     for part in path:
-        into = "F" if isinstance(part, bytes) else "A" if isinstance(part, int) else part
-        if into not in "AF" or entry[4] != ord(into):
+        into = "F" if isinstance(part, bytes) else "A"
+        if entry[4] != ord(into):
             return NONE, None
         left, found, count = entry[2], None, 0
         while True:
