@@ -173,6 +173,7 @@ static inline void amqpv_begin(amqpv_writer *w, uint8_t *buffer, size_t capacity
     w->level = 0;
     w->result = AMQPV_OK;
     w->needed = 4;
+    w->adds = 0;
     if (capacity < 4) {
         w->result = AMQPV_NO_ROOM;
         amqpv_count_(w);
@@ -184,6 +185,7 @@ static inline int amqpv_may_add_(amqpv_writer *w, const char *key) {
     if (w->result != AMQPV_OK && w->result != AMQPV_NO_ROOM) {
         return 0;
     }
+    w->adds++;
     if (key == NULL && w->open[w->level].tag == AMQPV_TABLE) {
         w->result = AMQPV_BAD_KEY;
         return 0;
@@ -204,63 +206,69 @@ static inline void amqpv_added_(amqpv_writer *w, amqpv_result result) {
 }
 
 /* (what these functions pass on) */
-#define AMQPV_INTO_ w->buffer, w->capacity, &w->open[w->level], key != NULL ? key : "", key != NULL ? strlen(key) : 0
-static inline void amqpv_add_bits_(amqpv_writer *w, const char *key, uint8_t tag, uint64_t bits, uint8_t scale) {
+#define AMQPV_INTO_ w->buffer, w->capacity, &w->open[w->level], key, key_length
+static inline void amqpv_add_bits_(amqpv_writer *w, const char *key, size_t key_length, uint8_t tag, uint64_t bits,
+                                   uint8_t scale) {
     if (amqpv_may_add_(w, key)) {
         amqpv_added_(w, amqpv_put(AMQPV_INTO_, tag, bits, scale));
     }
 }
 
-static inline void amqpv_add_int(amqpv_writer *w, const char *key, uint8_t tag, int64_t number) {
+static inline void amqpv_add_int(amqpv_writer *w, const char *key, size_t key_length, uint8_t tag, int64_t number) {
     int is_int =
         tag == AMQPV_SHORT_SHORT_INT || tag == AMQPV_SHORT_INT || tag == AMQPV_LONG_INT || tag == AMQPV_LONG_LONG_INT;
-    amqpv_add_bits_(w, key, is_int ? tag : 0, AMQPV_CAST_(uint64_t, number), 0);
+    amqpv_add_bits_(w, key, key_length, is_int ? tag : 0, AMQPV_CAST_(uint64_t, number), 0);
 }
 
-static inline void amqpv_add_uint(amqpv_writer *w, const char *key, uint8_t tag, uint64_t number) {
+static inline void amqpv_add_uint(amqpv_writer *w, const char *key, size_t key_length, uint8_t tag, uint64_t number) {
     int is_uint = tag == AMQPV_SHORT_SHORT_UINT || tag == AMQPV_SHORT_UINT || tag == AMQPV_LONG_UINT;
-    amqpv_add_bits_(w, key, is_uint ? tag : 0, number, 0);
+    amqpv_add_bits_(w, key, key_length, is_uint ? tag : 0, number, 0);
 }
 
-static inline void amqpv_add_bool(amqpv_writer *w, const char *key, int truth) {
-    amqpv_add_bits_(w, key, AMQPV_BOOLEAN, truth != 0, 0);
+static inline void amqpv_add_bool(amqpv_writer *w, const char *key, size_t key_length, int truth) {
+    amqpv_add_bits_(w, key, key_length, AMQPV_BOOLEAN, truth != 0, 0);
 }
 
-static inline void amqpv_add_timestamp(amqpv_writer *w, const char *key, uint64_t seconds) {
-    amqpv_add_bits_(w, key, AMQPV_TIMESTAMP, seconds, 0);
+static inline void amqpv_add_timestamp(amqpv_writer *w, const char *key, size_t key_length, uint64_t seconds) {
+    amqpv_add_bits_(w, key, key_length, AMQPV_TIMESTAMP, seconds, 0);
 }
 
-static inline void amqpv_add_decimal(amqpv_writer *w, const char *key, uint32_t number, uint8_t scale) {
-    amqpv_add_bits_(w, key, AMQPV_DECIMAL, number, scale);
+static inline void amqpv_add_decimal(amqpv_writer *w, const char *key, size_t key_length, uint32_t number,
+                                     uint8_t scale) {
+    amqpv_add_bits_(w, key, key_length, AMQPV_DECIMAL, number, scale);
 }
 
-static inline void amqpv_add_void(amqpv_writer *w, const char *key) { amqpv_add_bits_(w, key, AMQPV_VOID, 0, 0); }
+static inline void amqpv_add_void(amqpv_writer *w, const char *key, size_t key_length) {
+    amqpv_add_bits_(w, key, key_length, AMQPV_VOID, 0, 0);
+}
 
-static inline void amqpv_add_float(amqpv_writer *w, const char *key, float number) {
+static inline void amqpv_add_float(amqpv_writer *w, const char *key, size_t key_length, float number) {
     uint32_t bits;
     memcpy(&bits, &number, sizeof bits);
-    amqpv_add_bits_(w, key, AMQPV_FLOAT, bits, 0);
+    amqpv_add_bits_(w, key, key_length, AMQPV_FLOAT, bits, 0);
 }
 
-static inline void amqpv_add_double(amqpv_writer *w, const char *key, double number) {
+static inline void amqpv_add_double(amqpv_writer *w, const char *key, size_t key_length, double number) {
     uint64_t bits;
     memcpy(&bits, &number, sizeof bits);
-    amqpv_add_bits_(w, key, AMQPV_DOUBLE, bits, 0);
+    amqpv_add_bits_(w, key, key_length, AMQPV_DOUBLE, bits, 0);
 }
 
-static inline void amqpv_add_string(amqpv_writer *w, const char *key, const char *text, size_t length) {
+static inline void amqpv_add_string(amqpv_writer *w, const char *key, size_t key_length, const char *text,
+                                    size_t length) {
     if (amqpv_may_add_(w, key)) {
         amqpv_added_(w, amqpv_put_bytes(AMQPV_INTO_, AMQPV_LONG_STRING, text, length));
     }
 }
 
-static inline void amqpv_add_bytes(amqpv_writer *w, const char *key, const void *bytes, size_t length) {
+static inline void amqpv_add_bytes(amqpv_writer *w, const char *key, size_t key_length, const void *bytes,
+                                   size_t length) {
     if (amqpv_may_add_(w, key)) {
         amqpv_added_(w, amqpv_put_bytes(AMQPV_INTO_, AMQPV_BYTE_ARRAY, bytes, length));
     }
 }
 
-static inline void amqpv_add_value(amqpv_writer *w, const char *key, const amqpv_input *in) {
+static inline void amqpv_add_value(amqpv_writer *w, const char *key, size_t key_length, const amqpv_input *in) {
     if (amqpv_may_add_(w, key)) {
         amqpv_added_(w, amqpv_put_value(AMQPV_INTO_, in));
     }
@@ -287,8 +295,9 @@ static inline void amqpv_add_entry(amqpv_writer *w, const amqpv_input *in, const
     }
 }
 
-static inline void amqpv_add_container_(amqpv_writer *w, const char *key, uint8_t tag) {
+static inline void amqpv_add_container_(amqpv_writer *w, const char *key, size_t key_length, uint8_t tag) {
     if (w->level + 1 == AMQPV_MAX_DEPTH && (w->result == AMQPV_OK || w->result == AMQPV_NO_ROOM)) {
+        w->adds++;
         w->result = AMQPV_TOO_DEEP;
     }
     if (amqpv_may_add_(w, key)) {
@@ -302,9 +311,13 @@ static inline void amqpv_add_container_(amqpv_writer *w, const char *key, uint8_
     }
 }
 
-static inline void amqpv_add_array(amqpv_writer *w, const char *key) { amqpv_add_container_(w, key, AMQPV_ARRAY); }
+static inline void amqpv_add_array(amqpv_writer *w, const char *key, size_t key_length) {
+    amqpv_add_container_(w, key, key_length, AMQPV_ARRAY);
+}
 
-static inline void amqpv_add_table(amqpv_writer *w, const char *key) { amqpv_add_container_(w, key, AMQPV_TABLE); }
+static inline void amqpv_add_table(amqpv_writer *w, const char *key, size_t key_length) {
+    amqpv_add_container_(w, key, key_length, AMQPV_TABLE);
+}
 
 static inline void amqpv_end(amqpv_writer *w) {
     if (w->level == 0) {
