@@ -8,8 +8,8 @@ int64_t library_arguments(const uint8_t *bytes, size_t length, uint8_t *out, siz
     amqpv_writer w;
     size_t written;
     amqpv_begin(&w, out, capacity);
-    amqpv_add_int(&w, "x-max-length", AMQPV_LONG_INT, 10000);
-    amqpv_add_string(&w, "x-queue-type", AMQPV_STR("quorum"));
+    amqpv_add_int(&w, AMQPV_STR("x-max-length"), AMQPV_LONG_INT, 10000);
+    amqpv_add_string(&w, AMQPV_STR("x-queue-type"), AMQPV_STR("quorum"));
     return amqpv_finish(&w, &written) == AMQPV_OK ? (int64_t)written : -1;
 }
 

@@ -141,6 +141,16 @@ static inline amqpv_result amqpv_as_double(const amqpv_entry *entry, double *num
     return AMQPV_OK;
 }
 
+static inline amqpv_result amqpv_get(const amqpv_input *in, const amqpv_entry *table, const char *key,
+                                     size_t key_length, amqpv_entry *entry) {
+    amqpv_step step;
+    step.key = key;
+    step.key_length = key_length;
+    step.index = 0;
+    step.into = AMQPV_TABLE;
+    return amqpv_find(in, table, &step, 1, entry);
+}
+
 /* ---- Writing ---- */
 
 /*
@@ -163,6 +173,7 @@ static inline void amqpv_begin(amqpv_writer *w, uint8_t *buffer, size_t capacity
     w->level = 0;
     w->result = AMQPV_OK;
     w->needed = 4;
+    w->adds = 0;
     if (capacity < 4) {
         w->result = AMQPV_NO_ROOM;
         amqpv_count_(w);
@@ -174,6 +185,7 @@ static inline int amqpv_may_add_(amqpv_writer *w, const char *key) {
     if (w->result != AMQPV_OK && w->result != AMQPV_NO_ROOM) {
         return 0;
     }
+    w->adds++;
     if (key == NULL && w->open[w->level].tag == AMQPV_TABLE) {
         w->result = AMQPV_BAD_KEY;
         return 0;
@@ -194,63 +206,69 @@ static inline void amqpv_added_(amqpv_writer *w, amqpv_result result) {
 }
 
 /* (what these functions pass on) */
-#define AMQPV_INTO_ w->buffer, w->capacity, &w->open[w->level], key != NULL ? key : "", key != NULL ? strlen(key) : 0
-static inline void amqpv_add_bits_(amqpv_writer *w, const char *key, uint8_t tag, uint64_t bits, uint8_t scale) {
+#define AMQPV_INTO_ w->buffer, w->capacity, &w->open[w->level], key, key_length
+static inline void amqpv_add_bits_(amqpv_writer *w, const char *key, size_t key_length, uint8_t tag, uint64_t bits,
+                                   uint8_t scale) {
     if (amqpv_may_add_(w, key)) {
         amqpv_added_(w, amqpv_put(AMQPV_INTO_, tag, bits, scale));
     }
 }
 
-static inline void amqpv_add_int(amqpv_writer *w, const char *key, uint8_t tag, int64_t number) {
+static inline void amqpv_add_int(amqpv_writer *w, const char *key, size_t key_length, uint8_t tag, int64_t number) {
     int is_int =
         tag == AMQPV_SHORT_SHORT_INT || tag == AMQPV_SHORT_INT || tag == AMQPV_LONG_INT || tag == AMQPV_LONG_LONG_INT;
-    amqpv_add_bits_(w, key, is_int ? tag : 0, AMQPV_CAST_(uint64_t, number), 0);
+    amqpv_add_bits_(w, key, key_length, is_int ? tag : 0, AMQPV_CAST_(uint64_t, number), 0);
 }
 
-static inline void amqpv_add_uint(amqpv_writer *w, const char *key, uint8_t tag, uint64_t number) {
+static inline void amqpv_add_uint(amqpv_writer *w, const char *key, size_t key_length, uint8_t tag, uint64_t number) {
     int is_uint = tag == AMQPV_SHORT_SHORT_UINT || tag == AMQPV_SHORT_UINT || tag == AMQPV_LONG_UINT;
-    amqpv_add_bits_(w, key, is_uint ? tag : 0, number, 0);
+    amqpv_add_bits_(w, key, key_length, is_uint ? tag : 0, number, 0);
 }
 
-static inline void amqpv_add_bool(amqpv_writer *w, const char *key, int truth) {
-    amqpv_add_bits_(w, key, AMQPV_BOOLEAN, truth != 0, 0);
+static inline void amqpv_add_bool(amqpv_writer *w, const char *key, size_t key_length, int truth) {
+    amqpv_add_bits_(w, key, key_length, AMQPV_BOOLEAN, truth != 0, 0);
 }
 
-static inline void amqpv_add_timestamp(amqpv_writer *w, const char *key, uint64_t seconds) {
-    amqpv_add_bits_(w, key, AMQPV_TIMESTAMP, seconds, 0);
+static inline void amqpv_add_timestamp(amqpv_writer *w, const char *key, size_t key_length, uint64_t seconds) {
+    amqpv_add_bits_(w, key, key_length, AMQPV_TIMESTAMP, seconds, 0);
 }
 
-static inline void amqpv_add_decimal(amqpv_writer *w, const char *key, uint32_t number, uint8_t scale) {
-    amqpv_add_bits_(w, key, AMQPV_DECIMAL, number, scale);
+static inline void amqpv_add_decimal(amqpv_writer *w, const char *key, size_t key_length, uint32_t number,
+                                     uint8_t scale) {
+    amqpv_add_bits_(w, key, key_length, AMQPV_DECIMAL, number, scale);
 }
 
-static inline void amqpv_add_void(amqpv_writer *w, const char *key) { amqpv_add_bits_(w, key, AMQPV_VOID, 0, 0); }
+static inline void amqpv_add_void(amqpv_writer *w, const char *key, size_t key_length) {
+    amqpv_add_bits_(w, key, key_length, AMQPV_VOID, 0, 0);
+}
 
-static inline void amqpv_add_float(amqpv_writer *w, const char *key, float number) {
+static inline void amqpv_add_float(amqpv_writer *w, const char *key, size_t key_length, float number) {
     uint32_t bits;
     memcpy(&bits, &number, sizeof bits);
-    amqpv_add_bits_(w, key, AMQPV_FLOAT, bits, 0);
+    amqpv_add_bits_(w, key, key_length, AMQPV_FLOAT, bits, 0);
 }
 
-static inline void amqpv_add_double(amqpv_writer *w, const char *key, double number) {
+static inline void amqpv_add_double(amqpv_writer *w, const char *key, size_t key_length, double number) {
     uint64_t bits;
     memcpy(&bits, &number, sizeof bits);
-    amqpv_add_bits_(w, key, AMQPV_DOUBLE, bits, 0);
+    amqpv_add_bits_(w, key, key_length, AMQPV_DOUBLE, bits, 0);
 }
 
-static inline void amqpv_add_string(amqpv_writer *w, const char *key, const char *text, size_t length) {
+static inline void amqpv_add_string(amqpv_writer *w, const char *key, size_t key_length, const char *text,
+                                    size_t length) {
     if (amqpv_may_add_(w, key)) {
         amqpv_added_(w, amqpv_put_bytes(AMQPV_INTO_, AMQPV_LONG_STRING, text, length));
     }
 }
 
-static inline void amqpv_add_bytes(amqpv_writer *w, const char *key, const void *bytes, size_t length) {
+static inline void amqpv_add_bytes(amqpv_writer *w, const char *key, size_t key_length, const void *bytes,
+                                   size_t length) {
     if (amqpv_may_add_(w, key)) {
         amqpv_added_(w, amqpv_put_bytes(AMQPV_INTO_, AMQPV_BYTE_ARRAY, bytes, length));
     }
 }
 
-static inline void amqpv_add_value(amqpv_writer *w, const char *key, const amqpv_input *in) {
+static inline void amqpv_add_value(amqpv_writer *w, const char *key, size_t key_length, const amqpv_input *in) {
     if (amqpv_may_add_(w, key)) {
         amqpv_added_(w, amqpv_put_value(AMQPV_INTO_, in));
     }
@@ -277,8 +295,9 @@ static inline void amqpv_add_entry(amqpv_writer *w, const amqpv_input *in, const
     }
 }
 
-static inline void amqpv_add_container_(amqpv_writer *w, const char *key, uint8_t tag) {
+static inline void amqpv_add_container_(amqpv_writer *w, const char *key, size_t key_length, uint8_t tag) {
     if (w->level + 1 == AMQPV_MAX_DEPTH && (w->result == AMQPV_OK || w->result == AMQPV_NO_ROOM)) {
+        w->adds++;
         w->result = AMQPV_TOO_DEEP;
     }
     if (amqpv_may_add_(w, key)) {
@@ -292,9 +311,13 @@ static inline void amqpv_add_container_(amqpv_writer *w, const char *key, uint8_
     }
 }
 
-static inline void amqpv_add_array(amqpv_writer *w, const char *key) { amqpv_add_container_(w, key, AMQPV_ARRAY); }
+static inline void amqpv_add_array(amqpv_writer *w, const char *key, size_t key_length) {
+    amqpv_add_container_(w, key, key_length, AMQPV_ARRAY);
+}
 
-static inline void amqpv_add_table(amqpv_writer *w, const char *key) { amqpv_add_container_(w, key, AMQPV_TABLE); }
+static inline void amqpv_add_table(amqpv_writer *w, const char *key, size_t key_length) {
+    amqpv_add_container_(w, key, key_length, AMQPV_TABLE);
+}
 
 static inline void amqpv_end(amqpv_writer *w) {
     if (w->level == 0) {
@@ -332,81 +355,6 @@ static inline amqpv_result amqpv_finish(amqpv_writer *w, size_t *length) {
     }
     return w->result;
 }
-
-/* ---- Calls that take more than the library's ---- */
-
-AMQPV_CHECKED_ static inline amqpv_result amqpv_read_(const amqpv_input *in, amqpv_entry *entry,
-                                                      amqpv_problem *problem) {
-    amqpv_problem unused;
-    return amqpv_read(in, entry, problem != NULL ? problem : &unused);
-}
-
-AMQPV_CHECKED_ static inline amqpv_result amqpv_measure_(const amqpv_input *in, amqpv_size *size,
-                                                         amqpv_problem *problem) {
-    amqpv_problem unused;
-    return amqpv_measure(in, size, problem != NULL ? problem : &unused);
-}
-
-AMQPV_CHECKED_ static inline amqpv_result amqpv_from_json_(const char *text, size_t text_length, uint32_t nesting,
-                                                           uint8_t *buffer, size_t capacity, size_t *length,
-                                                           amqpv_problem *problem) {
-    amqpv_problem unused;
-    return amqpv_from_json(text, text_length, nesting, buffer, capacity, length, problem != NULL ? problem : &unused);
-}
-
-AMQPV_CHECKED_ static inline amqpv_result amqpv_find_(const amqpv_input *in, const amqpv_entry *from,
-                                                      const amqpv_step *path, size_t steps, amqpv_entry *entry) {
-    amqpv_entry start;
-    size_t i;
-    for (i = 0; i < steps; i++) {
-        if (path[i].into != AMQPV_TABLE && path[i].into != AMQPV_ARRAY) {
-            return AMQPV_INVALID;
-        }
-    }
-    if (from == entry) {
-        start = *from;
-        from = &start;
-    }
-    return amqpv_find(in, from, path, steps, entry);
-}
-
-static inline amqpv_result amqpv_get(const amqpv_input *in, const amqpv_entry *table, const char *key,
-                                     size_t key_length, amqpv_entry *entry) {
-    amqpv_step step;
-    step.key = key;
-    step.key_length = key_length;
-    step.index = 0;
-    step.into = AMQPV_TABLE;
-    return amqpv_find_(in, table, &step, 1, entry);
-}
-
-/* (after a text was written to a buffer except its last byte: the NUL, or the room for it) */
-static inline amqpv_result amqpv_ended_(amqpv_result result, char *buffer, size_t *length) {
-    if (result == AMQPV_OK) {
-        buffer[*length] = 0;
-    } else if (result == AMQPV_NO_ROOM && *length < SIZE_MAX) {
-        ++*length;
-    }
-    return result;
-}
-
-AMQPV_CHECKED_ static inline amqpv_result amqpv_to_json_(const amqpv_input *in, char *buffer, size_t capacity,
-                                                         size_t *length) {
-    return amqpv_ended_(amqpv_to_json(in, buffer, capacity > 0 ? capacity - 1 : 0, length), buffer, length);
-}
-
-AMQPV_CHECKED_ static inline amqpv_result amqpv_write_json_(const amqpv_input *in, char *buffer, size_t capacity,
-                                                            size_t *length) {
-    return amqpv_ended_(amqpv_write_json(in, buffer, capacity > 0 ? capacity - 1 : 0, length), buffer, length);
-}
-
-/* (from here on these names mean the functions above) */
-#define amqpv_read amqpv_read_
-#define amqpv_measure amqpv_measure_
-#define amqpv_from_json amqpv_from_json_
-#define amqpv_find amqpv_find_
-#define amqpv_to_json amqpv_to_json_
-#define amqpv_write_json amqpv_write_json_
 
 /* ---- Names ---- */
 

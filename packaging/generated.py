@@ -28,17 +28,21 @@ LOWERING = ("--enable-memory64", "--enable-bulk-memory", "--memory64-lowering", 
 TARGETS = {ALLOCATING: (X86_64, AARCH64), PLAIN: (X86_64, AARCH64, WASM64)}
 
 
-def stand_in(folder: Path, *beside: Path) -> Path:
-    """Makes a toolchain whose clang also writes assembly, with the files that it finds beside that."""
-    own = kit() / "toolchain"
-    for name in ("bin", "real"):
-        (folder / name).mkdir(parents=True)
+def stand_in(folder: Path, name: str) -> Path:
+    """Makes a toolchain whose clang also writes assembly, with the C that becomes part of a crate's module."""
+    own, sources = kit() / "toolchain", TOP / "c"
+    shutil.copytree(TOP / "include", folder / "c")
+    shutil.copytree(sources / "freestanding", folder / "c/freestanding")
+    shutil.copy(sources / "terminated.h", folder / "c")
+    shutil.copy(sources / f"{name}.c", folder / "c/calls.c")
+    if name == ALLOCATING:
+        shutil.copy(MALLOC, folder / "c")
+    for it in ("bin", "real"):
+        (folder / it).mkdir()
     for it in (own / "bin").iterdir():
         (folder / "bin" / it.name).symlink_to(TOP / "packaging/clang_to_assembly" if it.name == "clang" else it)
     (folder / "real/clang").symlink_to(own / "bin/clang")
     (folder / "lib").symlink_to(own / "lib")
-    for it in beside:
-        shutil.copy(it, folder)
     return folder
 
 
@@ -47,7 +51,7 @@ def make(crates: Crates, name: str, target: str, to: Path) -> None:
     with tempfile.TemporaryDirectory(prefix="generated-") as work:
         toolchain, archive = kit() / "toolchain", Path(work) / f"lib{name}.a"
         if target != WASM64:
-            toolchain = stand_in(Path(work) / "toolchain", *[MALLOC] * (name == ALLOCATING))
+            toolchain = stand_in(Path(work) / "toolchain", name)
         done = build_archive(crates, name, archive, target, toolchain)
         end_if_failed("generated", f"{name} for {target}", done)
         (to / FOLDERS[target]).mkdir(parents=True, exist_ok=True)

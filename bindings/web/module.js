@@ -51,7 +51,7 @@ export class Module {
 
     // Reads the value: the code, how many bytes it has, or are missing, and the problem, or null.
     read(frame, depth, flags) {
-        const code = this.calls.amqpv_read(this.input(frame, depth, flags), this.entry, this.problem);
+        const code = this.calls.amqpv_proved_read(this.input(frame, depth, flags), this.entry, this.problem);
         const [offset, missing, tag] = [0, 8, 16].map((it) => this.word(PROBLEM + it));
         return code === AMQPV.OK ? { code, count: this.word(ENTRY + 24), problem: null }
             : { code, count: missing, problem: { kind: code, offset, tag: tag & 255 } };
@@ -75,7 +75,7 @@ export class Module {
 
     // The JSON of the value, or null. It is written after the bytes.
     json(frame, depth) {
-        const from = PAGE + this.length, write = (capacity) => this.calls.amqpv_write_json(
+        const from = PAGE + this.length, write = (capacity) => this.calls.amqpv_proved_write_json(
             this.input(frame, depth), this.address(from), BigInt(capacity), this.address(LENGTH));
         if (write(0) !== AMQPV.NO_ROOM) {
             return null;

@@ -11,15 +11,15 @@
 static amqpv_result write_arguments(uint8_t *buffer, size_t capacity, size_t *length) {
     amqpv_writer w;
     amqpv_begin(&w, buffer, capacity);
-    amqpv_add_int(&w, "x-max-length", AMQPV_LONG_INT, 10000);
-    amqpv_add_string(&w, "x-queue-type", AMQPV_STR("quorum"));
-    amqpv_add_table(&w, "limits");
-    amqpv_add_int(&w, "low", AMQPV_SHORT_INT, -5);
-    amqpv_add_bool(&w, "strict", 1);
+    amqpv_add_int(&w, AMQPV_STR("x-max-length"), AMQPV_LONG_INT, 10000);
+    amqpv_add_string(&w, AMQPV_STR("x-queue-type"), AMQPV_STR("quorum"));
+    amqpv_add_table(&w, AMQPV_STR("limits"));
+    amqpv_add_int(&w, AMQPV_STR("low"), AMQPV_SHORT_INT, -5);
+    amqpv_add_bool(&w, AMQPV_STR("strict"), 1);
     amqpv_end(&w);
-    amqpv_add_array(&w, "hosts");
-    amqpv_add_string(&w, NULL, AMQPV_STR("a"));
-    amqpv_add_void(&w, NULL);
+    amqpv_add_array(&w, AMQPV_STR("hosts"));
+    amqpv_add_string(&w, NULL, 0, AMQPV_STR("a"));
+    amqpv_add_void(&w, NULL, 0);
     amqpv_end(&w);
     return amqpv_finish(&w, length);
 }

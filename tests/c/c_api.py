@@ -109,9 +109,10 @@ def given(data: bytes, flags: int = 0, max_bytes: int = MAX_BYTES, max_depth: in
 
 
 def read(data: bytes, *limits: int, call: str = "read", of: type[Struct] = Entry) -> tuple[int, Found, Found]:
-    """The result, the entry and the problem."""
-    entry, problem = of.fresh(), Problem.fresh()
+    """The result, the entry and the problem. Without a place for the problem the first two are the same."""
+    entry, problem, alone = of.fresh(), Problem.fresh(), of.fresh()
     result = called(call, byref(given(data, *limits)), byref(entry), byref(problem))
+    assert called(call, byref(given(data, *limits)), byref(alone), None) == result and alone.found() == entry.found()
     return result, entry.found(), problem.found()
 
 
@@ -155,8 +156,13 @@ def find(data: bytes, start: Any, path: list[bytes | int | Any], flags: int = 0)
             to.index, to.into = it, ord("A")
         else:
             to.into = ord(it)
-    arguments = byref(start), steps if path else None, c_size_t(len(path)), byref(entry)
-    return called("find", byref(given(data, flags)), *arguments), entry.found()
+    arguments = steps if path else None, c_size_t(len(path))
+    result = called("find", byref(given(data, flags)), byref(start), *arguments, byref(entry))
+    # (`entry` may be `from`)
+    assert called("find", byref(given(data, flags)), byref(start), *arguments, byref(start)) == result
+    found = entry.found()
+    assert found is None or start.found() == found
+    return result, found
 
 
 def as_number(name: str, tag: str, bits: int) -> tuple[int, int | None]:
@@ -223,14 +229,16 @@ def _key(key: bytes) -> tuple[Any, Any]:
 # What is written to a buffer
 
 
-def written(name: str, *arguments: Any, most: int = 8 << 20) -> tuple[int, bytes | int]:
-    """The result, and what a call writes, or the length that it sets."""
+def written(name: str, *arguments: Any, end: bytes = b"", most: int = 8 << 20) -> tuple[int, bytes | int]:
+    """The result, and what a call writes before the bytes with which it ends, or the length that it sets."""
     buffer, length = Buffer(0), c_size_t(77)
     while True:
         at = ctypes.c_void_p(_buffer.end - buffer.capacity), c_size_t(buffer.capacity)
         result = called(name, *arguments[:3], *at, byref(length), *arguments[3:])
         if result != NO_ROOM or not buffer.capacity < length.value <= most:
-            return result, buffer.content()[: length.value] if result == OK else length.value
+            content = buffer.content()
+            assert result != OK or content[length.value :].startswith(end)
+            return result, content[: length.value] if result == OK else length.value
         buffer = Buffer(length.value)
 
 
@@ -238,18 +246,21 @@ def canonical(data: bytes, *limits: int) -> tuple[int, bytes | int]:
     return written("canonical", byref(given(data, *limits)))
 
 
-def to_json(data: bytes, *limits: int) -> tuple[int, bytes | int]:
-    return written("to_json", byref(given(data, *limits)))
+def to_json(data: bytes, *limits: int, call: str = "to_json") -> tuple[int, bytes | int]:
+    """The result, and the text, after which there is a NUL, or the length that is set."""
+    return written(call, byref(given(data, *limits)), end=b"\0")
 
 
 def write_json(data: bytes, *limits: int) -> tuple[int, bytes | int]:
-    return written("write_json", byref(given(data, *limits)))
+    return to_json(data, *limits, call="write_json")
 
 
 def from_json(text: bytes, nesting: int = NESTING) -> tuple[int, bytes | int, Found]:
     """The result, the encoding or the length that is set, and the problem."""
     problem = Problem.fresh()
-    made = written("from_json", _given.put(text), c_size_t(len(text)), c_uint32(nesting), byref(problem))
+    arguments = "from_json", _given.put(text), c_size_t(len(text)), c_uint32(nesting)
+    made = written(*arguments, byref(problem))
+    assert written(*arguments, None) == made
     return *made, problem.found()
 
 

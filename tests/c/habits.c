@@ -20,9 +20,9 @@ static size_t length;
 static amqpv_input dead_lettered(void) {
     amqpv_writer w;
     amqpv_begin(&w, buffer, sizeof buffer);
-    amqpv_add_array(&w, "x-death");
-    amqpv_add_table(&w, NULL);
-    amqpv_add_int(&w, "count", AMQPV_LONG_LONG_INT, 3);
+    amqpv_add_array(&w, AMQPV_STR("x-death"));
+    amqpv_add_table(&w, NULL, 0);
+    amqpv_add_int(&w, AMQPV_STR("count"), AMQPV_LONG_LONG_INT, 3);
     amqpv_end(&w);
     amqpv_end(&w);
     TRY(AMQPV_OK, amqpv_finish(&w, &length));
@@ -98,8 +98,8 @@ static void as_string(void) {
     of_table = amqpv_of(&in, &table);
     CHECK(of_string.flags == 0 && of_table.flags == AMQPV_UNTAGGED);
     amqpv_begin(&w, buffer, sizeof buffer);
-    amqpv_add_value(&w, "string", &of_string);
-    amqpv_add_value(&w, "table", &of_table);
+    amqpv_add_value(&w, AMQPV_STR("string"), &of_string);
+    amqpv_add_value(&w, AMQPV_STR("table"), &of_table);
     TRY(AMQPV_OK, amqpv_finish(&w, &count));
     in = amqpv_table(buffer, count);
     TRY(AMQPV_OK, amqpv_read(&in, &table, NULL));
@@ -113,14 +113,14 @@ static void as_string(void) {
 static amqpv_result write_arguments(uint8_t *to, size_t capacity, size_t *count, int is_wrong) {
     amqpv_writer w;
     amqpv_begin(&w, to, capacity);
-    amqpv_add_string(&w, "x-queue-type", AMQPV_STR("quorum"));
-    amqpv_add_array(&w, "hosts");
-    amqpv_add_table(&w, NULL);
-    amqpv_add_int(&w, "port", AMQPV_LONG_INT, 5672);
+    amqpv_add_string(&w, AMQPV_STR("x-queue-type"), AMQPV_STR("quorum"));
+    amqpv_add_array(&w, AMQPV_STR("hosts"));
+    amqpv_add_table(&w, NULL, 0);
+    amqpv_add_int(&w, AMQPV_STR("port"), AMQPV_LONG_INT, 5672);
     amqpv_end(&w);
-    amqpv_add_void(&w, is_wrong ? "key" : NULL);
+    amqpv_add_void(&w, is_wrong ? "key" : NULL, is_wrong ? 3 : 0);
     amqpv_end(&w);
-    amqpv_add_bool(&w, "durable", 1);
+    amqpv_add_bool(&w, AMQPV_STR("durable"), 1);
     return amqpv_finish(&w, count);
 }
 
@@ -149,12 +149,12 @@ static void grow(void) {
     amqpv_writer w, copy;
     size_t count;
     amqpv_begin(&w, first, sizeof first);
-    amqpv_add_bool(&w, "a", 1);
+    amqpv_add_bool(&w, AMQPV_STR("a"), 1);
     copy = w;
     memcpy(second, first, sizeof first);
     copy.buffer = second;
     copy.capacity = sizeof second;
-    amqpv_add_string(&copy, "b", AMQPV_STR("longer than the first"));
+    amqpv_add_string(&copy, AMQPV_STR("b"), AMQPV_STR("longer than the first"));
     TRY(AMQPV_OK, amqpv_finish(&copy, &count));
     CHECK(count == 4 + 4 + 2 + 5 + 21);
     TRY(AMQPV_OK, amqpv_finish(&w, &count));
@@ -173,7 +173,7 @@ static amqpv_result write_again(const amqpv_input *in, uint8_t *to, size_t capac
         calls++;
         amqpv_add_entry(&w, in, &entry);
     }
-    amqpv_add_int(&w, "n", AMQPV_SHORT_INT, 7);
+    amqpv_add_int(&w, AMQPV_STR("n"), AMQPV_SHORT_INT, 7);
     return amqpv_finish(&w, count);
 }
 
@@ -202,7 +202,7 @@ static void copy_entries(void) {
     amqpv_begin(&w, copied, sizeof copied);
     amqpv_add_entry(&w, &in, &entries[1]);
     TRY(AMQPV_OK, amqpv_finish(&w, &count));
-    amqpv_add_void(&w, "\xff");
+    amqpv_add_void(&w, AMQPV_STR("\xff"));
     TRY(AMQPV_BAD_KEY, amqpv_finish(&w, &count));
     in.flags = AMQPV_UNTAGGED;
     amqpv_begin(&w, copied, sizeof copied);
@@ -210,7 +210,7 @@ static void copy_entries(void) {
     TRY(AMQPV_BAD_KEY, amqpv_finish(&w, &count));
     /* a value of an array has no key, and a pair of a table has one, though it may be empty */
     amqpv_begin(&w, copied, sizeof copied);
-    amqpv_add_array(&w, "a");
+    amqpv_add_array(&w, AMQPV_STR("a"));
     amqpv_add_entry(&w, &other, &value);
     amqpv_end(&w);
     amqpv_add_entry(&w, &in, &entries[2]);
@@ -219,7 +219,7 @@ static void copy_entries(void) {
     amqpv_add_entry(&w, &other, &value);
     TRY(AMQPV_BAD_KEY, amqpv_finish(&w, &count));
     amqpv_begin(&w, copied, sizeof copied);
-    amqpv_add_array(&w, "a");
+    amqpv_add_array(&w, AMQPV_STR("a"));
     amqpv_add_entry(&w, &in, &entries[2]);
     TRY(AMQPV_BAD_KEY, amqpv_finish(&w, &count));
     /* an entry of other bytes */
@@ -235,25 +235,25 @@ static void errors_of_writer(void) {
         amqpv_writer w;
         size_t count = 77;
         amqpv_begin(&w, to, capacity);
-        amqpv_add_table(&w, "t");
+        amqpv_add_table(&w, AMQPV_STR("t"));
         TRY(AMQPV_INVALID, amqpv_finish(&w, &count));
         CHECK(count == 0);
         amqpv_begin(&w, to, capacity);
-        amqpv_add_int(&w, "t", AMQPV_LONG_UINT, 1);
+        amqpv_add_int(&w, AMQPV_STR("t"), AMQPV_LONG_UINT, 1);
         TRY(AMQPV_BAD_TAG, amqpv_finish(&w, &count));
         amqpv_begin(&w, to, capacity);
-        amqpv_add_int(&w, "t", AMQPV_SHORT_INT, 70000);
+        amqpv_add_int(&w, AMQPV_STR("t"), AMQPV_SHORT_INT, 70000);
         TRY(AMQPV_OUT_OF_RANGE, amqpv_finish(&w, &count));
         amqpv_begin(&w, to, capacity);
-        amqpv_add_array(&w, "t");
-        amqpv_add_bool(&w, "key", 1);
+        amqpv_add_array(&w, AMQPV_STR("t"));
+        amqpv_add_bool(&w, AMQPV_STR("key"), 1);
         TRY(AMQPV_BAD_KEY, amqpv_finish(&w, &count));
         amqpv_begin(&w, to, capacity);
         amqpv_end(&w);
         TRY(AMQPV_INVALID, amqpv_finish(&w, &count));
         amqpv_begin(&w, to, capacity);
         for (int i = 0; i < AMQPV_MAX_DEPTH; i++) {
-            amqpv_add_table(&w, "t");
+            amqpv_add_table(&w, AMQPV_STR("t"));
         }
         TRY(AMQPV_TOO_DEEP, amqpv_finish(&w, &count));
         CHECK(count == 0);
@@ -328,8 +328,8 @@ static void unordered(void) {
     char json[64];
     size_t count;
     amqpv_begin(&w, buffer, sizeof buffer);
-    amqpv_add_bool(&w, "b", 1);
-    amqpv_add_bool(&w, "a", 1);
+    amqpv_add_bool(&w, AMQPV_STR("b"), 1);
+    amqpv_add_bool(&w, AMQPV_STR("a"), 1);
     TRY(AMQPV_OK, amqpv_finish(&w, &count));
     in = amqpv_table(buffer, count);
     TRY(AMQPV_UNORDERED, amqpv_write_json(&in, json, sizeof json, &count));

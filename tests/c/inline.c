@@ -17,14 +17,14 @@ static char *word(void) {
 
 static uint64_t number(void) { return strtoull(word(), NULL, 0); }
 
-/* The bytes of the next word, with a NUL after them if they are a key; NULL for `-`. */
-static uint8_t *bytes(size_t *length, size_t after) {
+/* The bytes of the next word; NULL for `-`. */
+static uint8_t *bytes(size_t *length) {
     const char *digits = word();
     *length = strlen(digits) / 2;
     if (digits[0] == '-') {
         return NULL;
     }
-    uint8_t *found = (uint8_t *)calloc(*length + after, 1);
+    uint8_t *found = (uint8_t *)calloc(*length, 1);
     for (size_t i = 0; i < *length; i++) {
         unsigned byte = 0;
         sscanf(digits + 1 + 2 * i, "%2x", &byte);
@@ -34,45 +34,46 @@ static uint8_t *bytes(size_t *length, size_t after) {
 }
 
 static void add(amqpv_writer *w, const char *what) {
-    size_t length;
-    char *key = (char *)bytes(&length, 1);
+    size_t length, key_length;
+    char *key = (char *)bytes(&key_length);
     if (strcmp(what, "int") == 0 || strcmp(what, "uint") == 0) {
         uint8_t tag = (uint8_t)number();
         uint64_t n = number();
-        what[0] == 'i' ? amqpv_add_int(w, key, tag, (int64_t)n) : amqpv_add_uint(w, key, tag, n);
+        what[0] == 'i' ? amqpv_add_int(w, key, key_length, tag, (int64_t)n)
+                       : amqpv_add_uint(w, key, key_length, tag, n);
     } else if (strcmp(what, "bool") == 0) {
-        amqpv_add_bool(w, key, (int)(int64_t)number());
+        amqpv_add_bool(w, key, key_length, (int)(int64_t)number());
     } else if (strcmp(what, "timestamp") == 0) {
-        amqpv_add_timestamp(w, key, number());
+        amqpv_add_timestamp(w, key, key_length, number());
     } else if (strcmp(what, "decimal") == 0) {
         uint32_t n = (uint32_t)number();
-        amqpv_add_decimal(w, key, n, (uint8_t)number());
+        amqpv_add_decimal(w, key, key_length, n, (uint8_t)number());
     } else if (strcmp(what, "void") == 0) {
-        amqpv_add_void(w, key);
+        amqpv_add_void(w, key, key_length);
     } else if (strcmp(what, "float") == 0) {
         uint32_t bits = (uint32_t)number();
         float real;
         memcpy(&real, &bits, sizeof real);
-        amqpv_add_float(w, key, real);
+        amqpv_add_float(w, key, key_length, real);
     } else if (strcmp(what, "double") == 0) {
         uint64_t bits = number();
         double real;
         memcpy(&real, &bits, sizeof real);
-        amqpv_add_double(w, key, real);
+        amqpv_add_double(w, key, key_length, real);
     } else if (strcmp(what, "array") == 0) {
-        amqpv_add_array(w, key);
+        amqpv_add_array(w, key, key_length);
     } else if (strcmp(what, "table") == 0) {
-        amqpv_add_table(w, key);
+        amqpv_add_table(w, key, key_length);
     } else {
-        uint8_t *content = bytes(&length, 0);
+        uint8_t *content = bytes(&length);
         if (strcmp(what, "string") == 0) {
-            amqpv_add_string(w, key, (const char *)content, length);
+            amqpv_add_string(w, key, key_length, (const char *)content, length);
         } else if (strcmp(what, "bytes") == 0) {
-            amqpv_add_bytes(w, key, content, length);
+            amqpv_add_bytes(w, key, key_length, content, length);
         } else {
             amqpv_input in = amqpv_value(content, length);
             in.flags = (uint32_t)number();
-            amqpv_add_value(w, key, &in);
+            amqpv_add_value(w, key, key_length, &in);
         }
         free(content);
     }
@@ -82,7 +83,7 @@ static void add(amqpv_writer *w, const char *what) {
 /* Adds an entry of the bytes, whose key and value are at these places; any numbers are given. */
 static void add_entry(amqpv_writer *w) {
     size_t length;
-    uint8_t *given = bytes(&length, 0);
+    uint8_t *given = bytes(&length);
     amqpv_input in = amqpv_value(given, length);
     amqpv_entry entry = {{0, 0}, {0, 0}, {0, 0}, 0, 0, 0};
     in.flags = (uint32_t)number();
@@ -100,7 +101,7 @@ static void add_entry(amqpv_writer *w) {
 static void finish(amqpv_writer *w) {
     size_t length = 77;
     amqpv_result result = amqpv_finish(w, &length);
-    printf("%d %zu %zu ", result, length, result == AMQPV_NO_ROOM ? w->needed : 0);
+    printf("%d %zu %zu %zu ", result, length, result == AMQPV_NO_ROOM ? w->needed : 0, w->adds);
     for (size_t i = 0; result == AMQPV_OK && i < length; i++) {
         printf("%02x", w->buffer[i]);
     }
@@ -150,7 +151,7 @@ static void place(void) {
 /* The entries of a container, at that many places, and what is found at the key of each. */
 static void list(void) {
     size_t length, places, count = 77;
-    uint8_t *given = bytes(&length, 0);
+    uint8_t *given = bytes(&length);
     amqpv_input in = amqpv_value(given, length);
     amqpv_entry outer, found, behind;
     in.flags = (uint32_t)number();

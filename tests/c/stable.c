@@ -70,13 +70,14 @@ FIELD(amqpv_warnings, reserved, 56, 32);
 FIELD(amqpv_warnings, exceeds_frame, 88, 1);
 FIELD(amqpv_warnings, reserved_flags, 89, 7);
 
-STRUCT(amqpv_writer, 1056, 8);
+STRUCT(amqpv_writer, 1064, 8);
 FIELD(amqpv_writer, buffer, 0, 8);
 FIELD(amqpv_writer, capacity, 8, 8);
 FIELD(amqpv_writer, open, 16, 1024);
 FIELD(amqpv_writer, level, 1040, 4);
 FIELD(amqpv_writer, result, 1044, 4);
 FIELD(amqpv_writer, needed, 1048, 8);
+FIELD(amqpv_writer, adds, 1056, 8);
 
 CONSTANT(AMQPV_OK, 0);
 CONSTANT(AMQPV_NONE, 1);

@@ -194,11 +194,11 @@ def stepped(data: bytes, left: Span, tag: int) -> tuple[int, Any, Any]:
 
 def looked_up(data: bytes, entry: Any, path: list[Any], first: bool) -> tuple[int, Any]:
     """What a look-up returns."""
-    if not all(is_inside(it, len(data)) for it in entry[:3]):
+    if "S" in path or not all(is_inside(it, len(data)) for it in entry[:3]):
         return INVALID, None
     for part in path:
-        into = "F" if isinstance(part, bytes) else "A" if isinstance(part, int) else part
-        if into not in "AF" or entry[4] != ord(into):
+        into = "F" if isinstance(part, bytes) else "A"
+        if entry[4] != ord(into):
             return NONE, None
         left, found, count = entry[2], None, 0
         while True:
@@ -387,6 +387,7 @@ class Builder:
 
 
 KEYS = [b"", b"a", b"key", "é".encode(), b"\xff", b"\xed\xa0\x80", b"k" * 255, b"k" * 256, "é".encode() * 127 + b"k"]
+KEYS += [b"a\0b"]
 VALUES = [
     b"V", b"t\7", b"I\0", b"U\0\1", b"z", b"S\0\0\0\1ab", b"F\0\0\0\3\1\xffV", b"F\0\0\0\6\1aV\1aV", b"A\0\0\0\5A\0\0\0\0", b"",
     b"F\0\0\0\3\1az", b"f\x7f\x80\0\0", b"x\0\0\4\0", b"A\0\0\0\1I",

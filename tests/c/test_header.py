@@ -49,7 +49,7 @@ REFUSED = (
     "amqpv_step by_pointer(const char *key) { amqpv_step it = AMQPV_KEY(key); return it; }",
     "amqpv_result get(const amqpv_input *in, amqpv_entry *it, const char *key) { return amqpv_get(in, it, AMQPV_STR(key), it); }",
     "amqpv_step by_negative(void) { amqpv_step it = AMQPV_INDEX(-1); return it; }",
-    "void add(amqpv_writer *w, const char *n) { amqpv_add_int(w, 0, AMQPV_LONG_INT, n); }",
+    "void add(amqpv_writer *w, const char *n) { amqpv_add_int(w, 0, 0, AMQPV_LONG_INT, n); }",
 )
 
 

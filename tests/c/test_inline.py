@@ -44,11 +44,12 @@ class Writer:
 
     def __init__(self, capacity: int, any_keys: int) -> None:
         self.capacity, self.any_keys, self.bytes, self.open = capacity, any_keys, bytearray(4), [("F", 4)]
-        self.result = OK
+        self.result, self.adds = OK, 0
 
     def append(self, key: bytes | None, it: bytes, wrong: int = OK) -> bool:
         """Appends an entry, unless something is wrong or was; whether it does."""
         name, in_table = key or b"", self.open[-1][0] == "F"
+        self.adds += self.result == OK
         named = bytes([len(name) % 256]) + name if in_table else b""
         is_key = len(name) < 256 and (self.any_keys or is_utf8(name)) if in_table else not name
         if self.result == OK and in_table and key is None:
@@ -63,9 +64,9 @@ class Writer:
         if self.result != OK:
             return
         if not is_inside(key, len(data)) or not is_inside(value, len(data)):
-            self.result = INVALID
+            self.result, self.adds = INVALID, self.adds + 1
         elif (key[0] > 0) != (self.open[-1][0] == "F"):
-            self.result = c_api.BAD_KEY
+            self.result, self.adds = c_api.BAD_KEY, self.adds + 1
         else:
             it, before = data[value[0] : sum(value)], self.any_keys
             by_reading = wanted_problem(it, flags & ~1 | is_untagged, MAX_BYTES, MAX_DEPTH)[0]
@@ -76,7 +77,7 @@ class Writer:
 
     def begin(self, key: bytes | None, tag: str) -> None:
         if self.result == OK and len(self.open) == MAX_DEPTH:
-            self.result = c_api.TOO_DEEP
+            self.result, self.adds = c_api.TOO_DEEP, self.adds + 1
         if self.append(key, tag.encode() + b"\0" * 4):
             self.open.append((tag, len(self.bytes)))
 
@@ -93,11 +94,11 @@ class Writer:
         if self.result == OK and len(self.open) > 1:
             self.result = INVALID
         if self.result != OK:
-            return f"{self.result} 0 0 "
+            return f"{self.result} 0 0 {self.adds} "
         if len(self.bytes) > self.capacity:
-            return f"{c_api.NO_ROOM} {len(self.bytes)} {len(self.bytes)} "
+            return f"{c_api.NO_ROOM} {len(self.bytes)} {len(self.bytes)} {self.adds} "
         self.close(4)
-        return f"0 {len(self.bytes)} 0 {self.bytes.hex()}"
+        return f"0 {len(self.bytes)} 0 {self.adds} {self.bytes.hex()}"
 
 
 # Offsets and lengths that are in no bytes, or in few.

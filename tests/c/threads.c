@@ -31,11 +31,11 @@ static void build(void) {
     amqpv_begin(&w, shared, CAPACITY);
     for (int i = KEYS; i > 0; i--) {
         snprintf(key, sizeof key, "k\xc3\xa9y %03d", i);
-        amqpv_add_int(&w, key, AMQPV_LONG_LONG_INT, i);
+        amqpv_add_int(&w, key, strlen(key), AMQPV_LONG_LONG_INT, i);
     }
-    amqpv_add_array(&w, "x-death");
-    amqpv_add_table(&w, NULL);
-    amqpv_add_int(&w, "count", AMQPV_LONG_LONG_INT, 7);
+    amqpv_add_array(&w, AMQPV_STR("x-death"));
+    amqpv_add_table(&w, NULL, 0);
+    amqpv_add_int(&w, AMQPV_STR("count"), AMQPV_LONG_LONG_INT, 7);
     amqpv_end(&w);
     amqpv_end(&w);
     CHECK(amqpv_finish(&w, &length) == AMQPV_OK);
@@ -54,9 +54,7 @@ static void make_calls(made *all) {
     for (size_t i = 0; i < all->count; i++) {
         const amqpv_entry *it = &all->entries[i];
         amqpv_input value = amqpv_value(shared + it->value.offset, it->value.length);
-        char key[16] = "";
-        memcpy(key, amqpv_key(&in, it), it->key.length);
-        amqpv_add_value(&w, key, &value);
+        amqpv_add_value(&w, amqpv_key(&in, it), it->key.length, &value);
     }
     CHECK(amqpv_finish(&w, &all->lengths[0]) == AMQPV_OK && memcmp(all->copy, shared, in.length) == 0);
     CHECK(amqpv_canonical(&in, all->canonical, CAPACITY, &all->lengths[1]) == AMQPV_OK);

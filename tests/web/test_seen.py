@@ -318,10 +318,10 @@ def test_a_module_without_stack_is_made_anew(browser: Browser) -> None:
     # (as the page reads, but without its bound of 1,000 levels)
     script = f"""
         {deep}
-        const module = amqp.modules[64], calls = {{...module.calls}}, {{amqpv_read}} = calls;
-        calls.amqpv_read = (input, ...more) => {{
+        const module = amqp.modules[64], calls = {{...module.calls}}, {{amqpv_proved_read}} = calls;
+        calls.amqpv_proved_read = (input, ...more) => {{
             module.words[Number(input) / 4 + 5] = n + 1;
-            return amqpv_read(input, ...more);
+            return amqpv_proved_read(input, ...more);
         }};
         module.calls = globalThis.ended = calls;
         amqp.put(it);

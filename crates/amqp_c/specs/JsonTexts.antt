@@ -1,4 +1,4 @@
--- `WritesOrderedJson`: what `amqpv_write_json` returns and writes, which can't allocate to sort
+-- `WritesOrderedJson`: what `amqpv_proved_write_json` returns and writes, which can't allocate to sort
 -- keys.
 use Rattle.std.specs.Prelude.{ℕ, ◌≡◌, ℤ, List, length, false, Result, Err, MatchResult, ◌⊎◌}
 use Rattle.amqp_value_core.specs.Outcomes.{found}

@@ -1,4 +1,4 @@
--- `FindsPath`: what `amqpv_find` returns, which follows a path from an entry one step after another
+-- `FindsPath`: what `amqpv_proved_find` returns, which follows a path from an entry one step after another
 -- (`StepsLead`).
 use Rattle.std.specs.Prelude.{ℕ, ◌≡◌, List, [], ◌∷◌, length, Bool, false, ◌==◌, if◌then◌else◌, Option, Some, None, IfSome, Result, Ok, Err, IfOk, ℤ}
 use Rattle.amqp_value_core.specs.Values.{Tree, array, table}

@@ -1,4 +1,4 @@
-//! `put_json`, for `amqpv_write_json`: writes the JSON text of a value without allocating. The one
+//! `put_json`, for `amqpv_proved_write_json`: writes the JSON text of a value without allocating. The one
 //! that may allocate is in amqp_c_alloc.
 
 ghost use Rattle.std.specs.Prelude.{◌≡◌, false, length, Err, MatchResult};

@@ -1,4 +1,4 @@
-//! `find`, for `amqpv_find`: follows a path from an entry by a look-up for each `Step`, which is a
+//! `find`, for `amqpv_proved_find`: follows a path from an entry by a look-up for each `Step`, which is a
 //! key or an index.
 
 ghost use Rattle.std.specs.Prelude.{◌≡◌, ◌<◌, ◌++◌, ℕ, List, [], length, drop, Option, None, MatchBool, MatchOption, MatchResult};

@@ -1,4 +1,4 @@
--- `WritesJson` and `WritesEncoding`: what `amqpv_to_json` and `amqpv_from_json` return and write.
+-- `WritesJson` and `WritesEncoding`: what `amqpv_proved_to_json` and `amqpv_proved_from_json` return and write.
 use Rattle.std.specs.Prelude.{ℕ, min, ◌≡◌, ◌<◌, ◌≤◌, ℤ, false, List, ◌++◌, length, Option, Some, None, IfSome, Result, Ok, Err, IfErr, MatchResult, ◌⊎◌}
 use Rattle.std.specs.Str.{IsUtf8, IsValidUpTo}
 use Rattle.amqp_value_core.specs.Values.{Tree}

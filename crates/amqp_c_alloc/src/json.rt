@@ -1,5 +1,5 @@
-//! `put_json`, for `amqpv_to_json`, writes the JSON text of an encoded value, and `put_encoding`,
-//! for `amqpv_from_json`, the canonical encoding of a JSON text's value.
+//! `put_json`, for `amqpv_proved_to_json`, writes the JSON text of an encoded value, and `put_encoding`,
+//! for `amqpv_proved_from_json`, the canonical encoding of a JSON text's value.
 
 ghost use Rattle.std.specs.Prelude.{◌≡◌, ◌≤◌, false, min, length, Some, None, Err, IfErr, IfSome, OnErr, MatchResult};
 ghost use Rattle.amqp_json.specs.Meaning.{most_levels};

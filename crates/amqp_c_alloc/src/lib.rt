@@ -41,7 +41,7 @@ pub extern "C" fn amqpv_canonical(
 /// Writes the JSON text of the value at the start of the input to the start of `buffer`. `length` is as for
 /// `amqpv_canonical`.
 #[unsafe(no_mangle)]
-pub extern "C" fn amqpv_to_json(
+pub extern "C" fn amqpv_proved_to_json(
     alloc: Global,
     input: &Input<'_>,
     buffer: &mut [u8],
@@ -56,7 +56,7 @@ pub extern "C" fn amqpv_to_json(
 /// text isn't the JSON of a value. A `nesting` of more than 127 counts as that. `length` is as for
 /// `amqpv_canonical`.
 #[unsafe(no_mangle)]
-pub extern "C" fn amqpv_from_json(
+pub extern "C" fn amqpv_proved_from_json(
     alloc: Global,
     text: &[u8],
     nesting: u32,

@@ -37,3 +37,12 @@ fn the_library_has_the_version_of_the_declarations() {
     // SAFETY: the call has no precondition
     assert_eq!(unsafe { amqpv_version() }, AMQPV_VERSION_NUMBER);
 }
+
+#[test]
+fn a_problem_may_be_null() {
+    let bytes = [0, 0, 0, 3, 1];
+    let input = amqpv_input { bytes: bytes.as_ptr(), length: 5, max_bytes: 9, max_depth: 1, flags: AMQPV_UNTAGGED };
+    let mut entry = amqpv_entry::default();
+    // SAFETY: the bytes can be read, and `entry` is borrowed alone
+    assert_eq!(unsafe { amqpv_read(&input, &mut entry, core::ptr::null_mut()) }, AMQPV_MORE);
+}

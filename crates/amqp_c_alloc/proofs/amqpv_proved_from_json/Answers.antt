@@ -1,7 +1,7 @@
--- `amqpv_from_json` returns and stores what `put_encoding` gives: the clauses of the functions that
+-- `amqpv_proved_from_json` returns and stores what `put_encoding` gives: the clauses of the functions that
 -- it calls are all that `PutsOrRejects` asks.
 use Rattle.std.proofs.Common.{rules}
-use Rattle.amqp_c_alloc.proofs.amqpv_from_json.Goals as goal
+use Rattle.amqp_c_alloc.proofs.amqpv_proved_from_json.Goals as goal
 
 pub returns : goal.returns
 returns c =

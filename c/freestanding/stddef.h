@@ -1,0 +1,3 @@
+/* What amqp_values.h takes of <stddef.h>. */
+typedef __SIZE_TYPE__ size_t;
+#define NULL ((void *)0)
