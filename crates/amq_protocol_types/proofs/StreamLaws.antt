@@ -86,8 +86,10 @@ stopped l (Some s) to vs e (left, begins, o) = (left, to, begins, o)
 
 -- ---- the clauses of the law
 
-pub reading_starts : (values : Values) (first : Option (List ℕ)) → kept values ≡ [] → has_failed values ≡ false → HasRead (limits_of values) first [] values first
-reading_starts values first none not_failed = record { limits = refl; not_failed = not_failed; read = nothing_read (limits_of values) (kept values) first none }
+pub reads_nothing : {R : Type 0} (source : Ghosts R) (l : Limits) (values : Values) (device from : R) → from ≡ device → limits_of values ≡ l → kept values ≡ [] → has_failed values ≡ false
+    → HasRead l (source.remaining device) [] values (source.remaining from)
+reads_nothing source l values device from same is none not_failed =
+    record { limits = is; not_failed = not_failed; read = subst (λ d. Split l (source.remaining d) [] (kept values) (source.remaining from)) same (nothing_read l (kept values) (source.remaining from) none) }
 
 module _ {R : Type 0} (source : Ghosts R) (l : Limits) (first : Option (List ℕ)) (vs : List Tree) where
   -- what the reader held is what the result is the outcome of

@@ -10,7 +10,7 @@ ghost use Rattle.amqp_value_core.specs.View.{view};
 ghost use Rattle.amq_protocol_types.specs.declared.parsing.within.Limits.{Limits};
 ghost use Rattle.amq_protocol_types.specs.declared.stream.error.StreamError.{StreamError};
 ghost use Rattle.amq_protocol_types.specs.declared.stream.values.Values.{Values};
-ghost use Rattle.amq_protocol_types.specs.stream.Readers.{kept, has_failed, limits_of, ReadsNext};
+ghost use Rattle.amq_protocol_types.specs.stream.Readers.{kept, has_failed, limits_of, NextResult, ReadsNext};
 ghost use Rattle.amq_protocol_types.specs.stream.ReadSoFar.{HasRead, AreAllValues, EndsAfterValues};
 ghost use Rattle.amq_protocol_types.specs.stream.Sources.{IsPassing};
 
@@ -21,21 +21,23 @@ use super::source::Source;
 /// nothing (`again`). After `None` the values are all that the reader had (`end`). After an error
 /// what follows them is what the error says (`error`).
 pub fn loop_over_values<R: Source>()
-    ensures start { (values : Values) (device : R) → kept values ≡ [] → has_failed values ≡ false
-        → HasRead (limits_of values) (R.remaining device) [] values (R.remaining device) }
+    ensures start { (l : Limits) (values : Values) (device from : R) → from ≡ device
+        → limits_of values ≡ l → kept values ≡ [] → has_failed values ≡ false
+        → HasRead l (R.remaining device) [] values (R.remaining from) }
     ensures value { (l : Limits) (first : Option (List ℕ)) (vs : List Tree) (v : AMQPValue)
-        (old new : Values) (from to : R) → HasRead l first vs old (R.remaining from)
-        → ReadsNext R.Source old from (Ok (Some v)) new to
+        (result : NextResult) (old new : Values) (from to : R) → result ≡ Ok (Some v)
+        → HasRead l first vs old (R.remaining from) → ReadsNext R.Source old from result new to
         → HasRead l first (vs ++ view v ∷ []) new (R.remaining to) }
     ensures again { (l : Limits) (first : Option (List ℕ)) (vs : List Tree) (e : StreamError)
-        (old new : Values) (from to : R) → HasRead l first vs old (R.remaining from)
-        → ReadsNext R.Source old from (Err e) new to → IsPassing e
+        (result : NextResult) (old new : Values) (from to : R) → result ≡ Err e → IsPassing e
+        → HasRead l first vs old (R.remaining from) → ReadsNext R.Source old from result new to
         → HasRead l first vs new (R.remaining to) }
     ensures end { (l : Limits) (first : Option (List ℕ)) (vs : List Tree)
-        (old new : Values) (from to : R) → HasRead l first vs old (R.remaining from)
-        → ReadsNext R.Source old from (Ok None) new to → AreAllValues l first vs }
+        (result : NextResult) (old new : Values) (from to : R) → result ≡ Ok None
+        → HasRead l first vs old (R.remaining from) → ReadsNext R.Source old from result new to
+        → AreAllValues l first vs }
     ensures error { (l : Limits) (first : Option (List ℕ)) (vs : List Tree) (e : StreamError)
-        (old new : Values) (from to : R) → HasRead l first vs old (R.remaining from)
-        → ReadsNext R.Source old from (Err e) new to
+        (result : NextResult) (old new : Values) (from to : R) → result ≡ Err e
+        → HasRead l first vs old (R.remaining from) → ReadsNext R.Source old from result new to
         → EndsAfterValues l first vs e }
 {}
