@@ -197,7 +197,7 @@ def misquoted() -> Iterator[str]:
     of_crates = [TOP / VERIFICATION, *files("crates/*/CALLING.md")]
     for pages, languages, forms in (
         ([TOP / "README.md"], "rust|c", EXAMPLES),
-        (of_crates, "rust|antt", SOURCES[:2]),
+        (of_crates, "rust|antt", SOURCES[:3]),
         (files("crates/*/src/**/*.rt"), "rust", EXAMPLES[:1]),
     ):
         sources = [plain(read(it)) for it in files(*forms)]

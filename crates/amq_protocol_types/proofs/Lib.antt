@@ -27,3 +27,4 @@ mod ReadBack
 mod FlagBits
 -- streams
 mod ReaderOutcomes
+mod StreamLaws

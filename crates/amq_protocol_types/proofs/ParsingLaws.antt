@@ -7,6 +7,8 @@ pub use Rattle.amq_protocol_types.proofs.MissingBytes.{more_wanted, wanted_more,
 pub use Rattle.amq_protocol_types.proofs.LimitLaws.{wire_extent}
 -- when the bytes of a value are all there
 pub use Rattle.amq_protocol_types.proofs.Extents.{found_all, failed_all, whole_wants_none}
+-- the values that bytes begin with
+pub use Rattle.amq_protocol_types.proofs.StreamLaws.{found_begins, begins_found, begins_after}
 -- what is ASCII is UTF-8
 pub use Rattle.amq_protocol_types.proofs.Frames.{ascii_is_utf8}
 -- what an error of one reading means for another

@@ -4,3 +4,5 @@
 pub mod Sources
 -- what readers of values retain and return
 pub mod Readers
+-- the values that a loop has read from a reader
+pub mod ReadSoFar

@@ -4,6 +4,7 @@
 //! after another from a reader ([`ValueReader`], or [`Values`] if each call is passed the reader).
 
 mod error;
+pub mod laws;
 mod pending;
 mod reader;
 mod source;

@@ -9,8 +9,8 @@ use Rattle.amqp_value_core.specs.declared.input.split.SplitInput.{SplitInput}
 abbrev pub IsBytes : List ℕ → Type 0
 IsBytes s = AllByRecursion (λ x. x < 256) s
 
+-- by AMQP 0-9-1, section 4.2.5.3,
 -- the bytes of a short string, and of a key: at most 255, and UTF-8 by RFC 3629
--- (AMQP 0-9-1, section 4.2.5.3)
 pub record IsShort (s : List ℕ) : Type 0 where
   pub few : length s ≤ 255
   pub utf8 : IsUtf8 s

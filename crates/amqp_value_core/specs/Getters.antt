@@ -10,8 +10,8 @@ abbrev pub truth_in : Tree → Option Bool
 truth_in (scalar (boolean b)) = Some b
 truth_in _ = None
 
--- the bits of a number of the type: a signed one's in two's complement, a Float's and a Double's as
--- they are
+-- The bits of a number of the type.
+-- A signed number is in two's complement, a Float's and a Double's bits are as they are.
 abbrev pub number_in : AMQPType → Tree → Option ℕ
 number_in type (scalar (number own n)) = if place_of type == place_of own then Some n else None
 number_in type _ = None

@@ -26,7 +26,7 @@ IsShortest v = (w : List ℕ) → IsBytes w → Wire w v → Wire (text v) v × 
 abbrev pub TellsApart : Tree → Type 0
 TellsApart v = (u : Tree) (w x : List ℕ) → IsBytes w → IsBytes x → Wire w v → Wire x u → (text v ≡ text u) ↔ (v ≡ u)
 
--- w is canonical for v by its bytes (`Canon`) exactly when it is `text v`, and v is readable; so of each v
--- that was written
+-- of a value v that was written:
+-- w is canonical for v by its bytes (`Canon`) exactly when it is `text v`, and v is readable
 abbrev pub IsCanonical : Tree → Type 0
 IsCanonical v = (w : List ℕ) → IsBytes w → Canon w v ↔ (IsTrue (readable v) × (w ≡ text v))

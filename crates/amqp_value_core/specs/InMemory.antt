@@ -5,8 +5,8 @@ use Rattle.amqp_value_core.specs.declared.types.amqp_type.AMQPType.TheVariants a
 use Rattle.amqp_value_core.specs.Values.{Scalar, number, decimal, Tree, scalar, short, array, table, Trees, no_trees, tree, Entries, no_entries, entry, ComesBefore}
 use Rattle.amqp_value_core.specs.Bytes.{IsShort}
 
--- n can be the bits of a number of the type; no value in memory has the type LongLongUInt, which is read
--- as a LongLongInt
+-- n can be the bits of a number of the type
+-- No value in memory has the type LongLongUInt, which is read as a LongLongInt.
 abbrev pub IsNumber : AMQPType → ℕ → Type 0
 IsNumber amqp.ShortShortInt n = n < 2 ^ 8
 IsNumber amqp.ShortShortUInt n = n < 2 ^ 8

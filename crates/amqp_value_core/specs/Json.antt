@@ -7,8 +7,8 @@ use Rattle.amqp_value_core.specs.declared.types.amqp_type.AMQPType.{AMQPType}
 use Rattle.amqp_value_core.specs.declared.types.amqp_type.AMQPType.TheVariants as amqp
 use Rattle.amqp_value_core.specs.Values.{boolean, number, void, Tree, scalar, short, long}
 
--- the integer that the JSON value is, if a signed number of 64 bits holds it, and if an
--- unsigned one does; a number with a point or an exponent isn't one
+-- The integer that the JSON value is, if a signed number of 64 bits holds it, and if an unsigned
+-- one does. A number with a point or an exponent isn't an integer.
 abbrev pub signed : Data → Option ℤ
 signed d = option_and_then as_i64 (as_number d)
 

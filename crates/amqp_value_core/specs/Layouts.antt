@@ -20,8 +20,8 @@ truth n = if n == 0 then false else true
 abbrev pub whole_number : Width → AMQPType → Layout
 whole_number w type = record { first = byte_len w; width = byte_len w; denotes = λ b. number type (from_be_bytes w b) }
 
--- the types of fixed width; a LongLongUInt means the signed number of the same bits, and a decimal
--- has two fields, its scale and its number
+-- The types of fixed width. A decimal has two fields, its scale and its number.
+-- A LongLongUInt means the signed number of the same bits.
 abbrev pub fixed : AMQPType → Option Layout
 fixed amqp.Boolean = Some (record { first = 1; width = 1; denotes = λ b. boolean (truth (from_be_bytes w8 b)) })
 fixed amqp.ShortShortInt = Some (whole_number w8 amqp.ShortShortInt)

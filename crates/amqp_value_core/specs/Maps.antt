@@ -19,8 +19,8 @@ abbrev pub value_at : List ℕ → Entries → Option Tree
 value_at k no_entries = None
 value_at k (entry j v es) = if same_bytes k j then Some v else value_at k es
 
--- the value of the last pair with the key, if a pair has it: of a later pair first (`option_or a b` is
--- b only if a is None)
+-- of a later pair first (`option_or a b` is b only if a is None):
+-- the value of the last pair with the key, if a pair has it
 abbrev pub last_at : List ℕ → Entries → Option Tree
 last_at k no_entries = None
 last_at k (entry j v ps) = option_or (last_at k ps) (if same_bytes k j then Some v else None)
@@ -30,16 +30,16 @@ abbrev pub IsRising : Entries → Type 0
 IsRising no_entries = Unit {0}
 IsRising (entry k v es) = ComesBefore k es × IsRising es
 
--- the pairs mean the entries: those have ascending keys, and at each key the value of the last pair
--- with it
+-- The pairs mean the entries.
+-- The entries have ascending keys, and at each key the value of the last pair with it.
 pub record Mean (ps es : Entries) : Type 0 where
   pub rising : IsRising es
   pub last : (k : List ℕ) → value_at k es ≡ last_at k ps
 
 -- ---- what `FieldTable::insert` does
 
--- the entries, with v at k: an equal key takes the value, and a new one goes to its place in the
--- order
+-- The entries, with v at k.
+-- An equal key takes the value, and a new one goes to its place in the order.
 abbrev pub insert : List ℕ → Tree → Entries → Entries
 insert k v no_entries = entry k v no_entries
 insert k v (entry j u es) = match_ordering (slice_cmp nat_cmp k j) (entry k v (entry j u es)) (entry j v es) (entry j u (insert k v es))

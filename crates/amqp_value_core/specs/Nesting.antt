@@ -36,8 +36,8 @@ mutual
     within_pair : (depth : ℕ) → (k : List ℕ) → (w : List ℕ) → (rest : List ℕ) → (v : Tree) → (ps : Entries) → IsShort k → WireWithin depth w v → PairsWithin depth rest ps
         → PairsWithin depth (short_field k ++ (w ++ rest)) (entry k v ps)
 
--- reading a payload of the type, or a value, results in o, where only encodings count in which
--- containers nest at most `depth` deep; a complete one that nests deeper is malformed
+-- Reading a payload of the type, or a value, results in o, where only encodings count in which
+-- containers nest at most `depth` deep. A complete one that nests deeper is malformed.
 abbrev pub RawOutcomeWithin : ℕ → AMQPType → List ℕ → Reading → Type 0
 RawOutcomeWithin depth type s o = RawOutcomeBy (RawWithin depth type) type s o
 

@@ -33,15 +33,15 @@ counted w b = from_be_bytes w (take (byte_len w) b)
 abbrev pub short_of : ℕ → List ℕ → ℕ
 short_of n s = n - length s
 
--- how many more bytes are needed: of the length field until it is complete, and then of the field and
--- what it counts
+-- how many more bytes are needed of the length field until it is complete,
+-- and how many more are needed then of the field and what it counts
 abbrev pub frame_lack : Width → List ℕ → ℕ
 frame_lack w b =
     if nat_lt (length b) (byte_len w) then short_of (byte_len w) b
     else short_of (byte_len w + counted w b) b
 
--- how many more bytes are needed: of a layout's first field until it is complete, and then of all its
--- fields
+-- how many more bytes are needed of a layout's first field until it is complete,
+-- and how many more are needed then of all its fields
 abbrev pub fields_lack : Layout → List ℕ → ℕ
 fields_lack f b = if nat_lt (length b) f.first then short_of f.first b else short_of f.width b
 
@@ -50,13 +50,13 @@ abbrev pub lack_of : Option Layout → Width → List ℕ → ℕ
 lack_of (Some f) w b = fields_lack f b
 lack_of None w b = frame_lack w b
 
--- how many more bytes are needed for the field that is being read, by the header only; 0 if the
--- bytes of the payload are all there
+-- 0 if the bytes of the payload are all there, and otherwise, by the header only,
+-- how many more bytes are needed for the field that is being read
 abbrev pub lack : AMQPType → List ℕ → ℕ
 lack type b = lack_of (fixed type) (length_field type) b
 
--- reading a payload of the type from s results in o, where P says which bytes are a payload of which
--- value: one is at the start, more bytes are needed, or the bytes are all there and none is
+-- Reading a payload of the type from s results in o, where P says which bytes are a payload of which
+-- value. One is at the start, more bytes are needed, or the bytes are all there and none is.
 abbrev pub RawOutcomeBy : (List ℕ → Tree → Type 0) → AMQPType → List ℕ → Reading → Type 0
 RawOutcomeBy P type s (found v rest) = (b : List ℕ) × P b v × (s ≡ b ++ rest)
 RawOutcomeBy P type s (more n) = (0 < n) × (lack type s ≡ n)
@@ -65,8 +65,8 @@ RawOutcomeBy P type s unknown = ⊥
 
 -- `(x : A) × B` reads: there is an x with B. `(x : A) → B` reads: for each x, B.
 
--- what reading a value from some bytes results in, where P says which bytes encode which value; it is
--- one result (law `one_outcome`)
+-- P says which bytes encode which value, and there is one result (law `one_outcome`).
+-- What reading a value from some bytes results in.
 pub data OutcomeBy (P : List ℕ → Tree → Type 0) : List ℕ → Reading → Type 0 where
   -- there is no byte, and one is needed
   no_byte : OutcomeBy P [] (more 1)
@@ -120,8 +120,8 @@ abbrev pub StillWaits : Reading → List ℕ → Type 0
 StillWaits (more n) t = length t < n
 StillWaits _ t = Unit {0}
 
--- what a value is rejected as that isn't readable: a short string for its type tag, which isn't read,
--- and a container with one inside for its body, which isn't encodings one after another
+-- What a value is rejected as that isn't readable. A short string is rejected for its type tag.
+-- A container with a short string inside is rejected for its body, which isn't all encodings.
 abbrev pub unread : Tree → Reading
 unread (short s) = unknown
 unread _ = malformed

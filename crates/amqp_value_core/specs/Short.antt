@@ -14,8 +14,8 @@ refused_length e = e.length
 abbrev pub IsTooLong : List ℕ → ShortStringError → Type 0
 IsTooLong s e = (255 < length s) × (refused_length e ≡ length s)
 
--- a copy is rejected for the string's length, or for a failed allocation if the string has at
--- most 255 bytes and isn't empty
+-- A copy is rejected for the string's length, or for a failed allocation.
+-- No allocation fails if the string is empty or has more than 255 bytes.
 abbrev pub IsCopyRefused : List ℕ → TryCopyError → Type 0
 IsCopyRefused s (TooLong e) = IsTooLong s e
 IsCopyRefused s OutOfMemory = (0 < length s) × (length s ≤ 255)
@@ -28,8 +28,8 @@ too_long_text e = codes "ShortString exceeds maximum length of 255 bytes (got " 
 abbrev pub first_too_long : List (List ℕ) → Option (List ℕ)
 first_too_long ss = find (λ s. nat_lt 255 (length s)) ss
 
--- copies of some strings are rejected for the first one's length that is too long, which the error
--- reports, or for a failed allocation if there is a string
+-- Copies of some strings are rejected for the first length that is too long, which the error reports.
+-- They are also rejected for a failed allocation, if there is a string.
 abbrev pub AreCopiesRefused : List (List ℕ) → TryCopyError → Type 0
 AreCopiesRefused ss (TooLong e) = IsSomeAnd (first_too_long ss) (λ s. refused_length e ≡ length s)
 AreCopiesRefused ss OutOfMemory = 0 < length ss

@@ -7,8 +7,8 @@ use Rattle.amqp_value_core.specs.declared.types.amqp_type.AMQPType.{AMQPType}
 use Rattle.amqp_value_core.specs.declared.types.amqp_type.AMQPType.TheVariants as amqp
 use Rattle.std.specs.declared.cmp.Ordering.TheVariants.{Less}
 
--- a value of fixed width: a boolean, a number as its type and its bits (a signed one in two's
--- complement, a Float and a Double as they are), a decimal as its scale and its number, or nothing
+-- A signed number's bits are in two's complement, a Float's and a Double's as they are.
+-- A value of fixed width: a boolean, a number (type and bits), a decimal (scale and number), or nothing.
 pub data Scalar : Type 0 where
   boolean : Bool → Scalar
   number : AMQPType → ℕ → Scalar
@@ -112,8 +112,8 @@ abbrev mutual
   entries_readable no_entries = true
   entries_readable (entry k v es) = readable v && entries_readable es
 
--- the key comes before the first key of the entries, and so before each if their keys ascend: at the
--- first byte that differs it has the smaller one, or it is a proper prefix
+-- The key comes before the first key of the entries, and so before each if their keys ascend.
+-- At the first byte that differs the key has the smaller one, or it is a proper prefix.
 abbrev pub ComesBefore : List ℕ → Entries → Type 0
 ComesBefore k no_entries = Unit {0}
 ComesBefore k (entry j u es) = slice_cmp nat_cmp k j ≡ Less

@@ -7,38 +7,25 @@ use Rattle.std.proofs.KnownBytes.{Appends-trans}
 use Rattle.amqp_value_core.specs.declared.value.AMQPValue.{AMQPValue}
 use Rattle.amqp_value_core.specs.Values.{Tree}
 use Rattle.amqp_value_core.specs.View.{view}
-use Rattle.amqp_value_core.specs.Nesting.{WireWithin}
 use Rattle.amqp_value_core.specs.Bytes.{IsBytes}
 use Rattle.amqp_value_core.specs.Outcomes.{Reading, found, more, unknown, malformed, no_byte}
 use Rattle.amqp_value_core.proofs.Bytes.{bytes_after}
-use Rattle.amqp_value_core.proofs.GrammarLaws.{wire_of, length-wire, one_reading, prefix_within, wire_found_within}
+use Rattle.amqp_value_core.proofs.GrammarLaws.{wire_of, length-wire, one_reading}
 use Rattle.amq_protocol_types.specs.declared.parsing.errors.ErrorKind.{ErrorKind}
 use Rattle.amq_protocol_types.specs.declared.parsing.errors.ErrorKind.TheVariants.{MapOpt, MapRes, Eof, OutOfMemory, TooLarge}
 use Rattle.amq_protocol_types.specs.declared.stream.error.StreamError.{StreamError}
 use Rattle.amq_protocol_types.specs.declared.stream.error.StreamError.TheVariants as stream
 use Rattle.amq_protocol_types.specs.declared.parsing.within.Limits.{Limits}
-use Rattle.amq_protocol_types.specs.parsing.Headers.{extent}
 use Rattle.amq_protocol_types.specs.parsing.Limits.{Within}
 use Rattle.amq_protocol_types.specs.stream.Readers.{IsOutcomeOfAll}
-use Rattle.amq_protocol_types.proofs.ParsingLaws.{wire_extent}
+use Rattle.amq_protocol_types.specs.stream.ReadSoFar.{BeginsWithValues}
+use Rattle.amq_protocol_types.proofs.ParsingLaws.{found_begins, begins_found, begins_after}
 use Rattle.amqp_wire.specs.Lines.{read_within, AppendsTextPrefix, kind_name}
-use Rattle.amqp_wire.specs.Streams.{value_line, last_line, stream_step, stream_text, BeginsWith, BeginsNone, AreStreamValues, value_lines, HasLines, LeavesAfterValues, IsLine}
+use Rattle.amqp_wire.specs.Streams.{value_line, last_line, stream_step, stream_text, BeginsNone, AreStreamValues, value_lines, HasLines, LeavesAfterValues, IsLine}
 use Rattle.amqp_wire.proofs.Output.{IsOutputUpTo, written_more, written_part}
 use Rattle.amqp_wire.proofs.Outcomes.{read_is, read_holds, too_large}
 
 -- ---- what is at the start
-
--- what is found begins with an encoding
-found_begins : (l : Limits) (s rest : List ℕ) (v : Tree) → Within l s (found v rest) → BeginsWith l s (v ∷ []) rest
-found_begins l s rest v (few, x) =
-    let f = prefix_within l.depth s rest v x in
-    let small : extent s ≡ length f.0 = ap extent f.2 ∙ wire_extent f.0 rest v (wire_of l.depth f.0 v f.1) in
-    (f.0, rest, f.2, f.1, omega (arith, few, small), refl)
-
--- and the other way round
-begins_found : (l : Limits) (s w rest : List ℕ) (v : Tree) → s ≡ w ++ rest → WireWithin l.depth w v → length w ≤ l.frame → Within l s (found v rest)
-begins_found l s w rest v e p few =
-    subst (λ (t : List ℕ). Within l t (found v rest)) (sym e) (omega (arith, few, wire_extent w rest v (wire_of l.depth w v p)), wire_found_within l.depth w rest v p)
 
 -- if reading results in no value, none is there
 abbrev HasNoValue : Option Reading → Type 0
@@ -61,26 +48,21 @@ value_or_none (Some unknown) = inr (λ v rest e. cc)
 value_or_none (Some malformed) = inr (λ v rest e. cc)
 
 -- that many values are followed by the same
-begins_unique : (l : Limits) (s a b : List ℕ) (us vs : List Tree) → BeginsWith l s us a → BeginsWith l s vs b → length us ≡ length vs → a ≡ b
+begins_unique : (l : Limits) (s a b : List ℕ) (us vs : List Tree) → BeginsWithValues l s us a → BeginsWithValues l s vs b → length us ≡ length vs → a ≡ b
 begins_unique l s a b [] [] p q e = sym p ∙ q
 begins_unique l s a b [] (v ∷ vs) p q e = absurd (omega (arith, e))
 begins_unique l s a b (u ∷ us) [] p q e = absurd (omega (arith, e))
 begins_unique l s a b (u ∷ us) (v ∷ vs) (w, rest, is, p, few, others) (x, left, is', q, few', others') e =
     let same = one_reading w x rest left u v (wire_of l.depth w u p) (wire_of l.depth x v q) (sym is ∙ is') in
-    begins_unique l left a b us vs (subst (λ (t : List ℕ). BeginsWith l t us a) same.2 others) others' (omega (arith, e))
+    begins_unique l left a b us vs (subst (λ (t : List ℕ). BeginsWithValues l t us a) same.2 others) others' (omega (arith, e))
 
 -- and if no value follows there are no more
-begins_more : (l : Limits) (s a b : List ℕ) (us vs : List Tree) → BeginsWith l s us a → BeginsNone l a → BeginsWith l s vs b → length us < length vs → ⊥
+begins_more : (l : Limits) (s a b : List ℕ) (us vs : List Tree) → BeginsWithValues l s us a → BeginsNone l a → BeginsWithValues l s vs b → length us < length vs → ⊥
 begins_more l s a b us [] p none q lt = omega (arith, lt)
 begins_more l s a b [] (v ∷ vs) p none (x, left, is, q, few, others) lt = none x left v (sym p ∙ is) q few
 begins_more l s a b (u ∷ us) (v ∷ vs) (w, rest, is, p, few, others) none (x, left, is', q, few', others') lt =
     let same = one_reading w x rest left u v (wire_of l.depth w u p) (wire_of l.depth x v q) (sym is ∙ is') in
-    begins_more l left a b us vs (subst (λ (t : List ℕ). BeginsWith l t us a) same.2 others) none others' (omega (arith, lt))
-
--- one value more
-begins_after : (l : Limits) (s a b : List ℕ) (us : List Tree) (v : Tree) → BeginsWith l s us a → BeginsWith l a (v ∷ []) b → BeginsWith l s (us ++ v ∷ []) b
-begins_after l s a b [] v p q = subst (λ (t : List ℕ). BeginsWith l t (v ∷ []) b) (sym p) q
-begins_after l s a b (u ∷ us) v (w, rest, is, p, few, others) q = (w, rest, is, p, few, begins_after l rest a b us v others q)
+    begins_more l left a b us vs (subst (λ (t : List ℕ). BeginsWithValues l t us a) same.2 others) none others' (omega (arith, lt))
 
 -- ---- the lines of all values
 
@@ -162,7 +144,7 @@ line_is l k (Some z) left line b r one none reported = λ bytes. one z bytes (su
 abbrev pub Progress : Limits → ℕ → ℕ → Option (List ℕ) → Option (List ℕ) → Option (List ℕ) → Option (List ℕ) → Type 0
 Progress l most left held now a b = IfSome held (λ s. IsBytes s → (rest : List ℕ) × IsBytes rest × (now ≡ Some rest)
     × IsOutputUpTo a b (stream_text l most s) (stream_text l left rest)
-    × ((us : List Tree) × BeginsWith l s us rest × (length us + left ≡ most)))
+    × ((us : List Tree) × BeginsWithValues l s us rest × (length us + left ≡ most)))
 
 pub starts : (l : Limits) (most : ℕ) (held a : Option (List ℕ)) → Appends a a [] → Progress l most most held held a a
 starts l most None a none = tt

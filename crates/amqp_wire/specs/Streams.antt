@@ -8,6 +8,7 @@ use Rattle.amqp_value_core.specs.Bytes.{IsBytes}
 use Rattle.amqp_value_core.specs.Outcomes.{Reading, found, more, unknown, malformed}
 use Rattle.amqp_value_core.specs.Texts.{text}
 use Rattle.amq_protocol_types.specs.declared.parsing.within.Limits.{Limits}
+use Rattle.amq_protocol_types.specs.stream.ReadSoFar.{BeginsWithValues}
 use Rattle.amqp_wire.specs.Lines.{read_within}
 
 -- the line of a value
@@ -39,19 +40,13 @@ stream_text l (suc n) s = stream_step (stream_text l n) s (read_within l s)
 
 -- ---- what a stream begins with, as a relation
 
--- s begins with encodings of these values, one after another, each within the limits, and `left` is
--- left
-abbrev pub BeginsWith : Limits → List ℕ → List Tree → List ℕ → Type 0
-BeginsWith l s [] left = s ≡ left
-BeginsWith l s (v ∷ vs) left = (w : List ℕ) × (rest : List ℕ) × (s ≡ w ++ rest) × WireWithin l.depth w v × (length w ≤ l.frame) × BeginsWith l rest vs left
-
 -- s begins with no value within the limits
 abbrev pub BeginsNone : Limits → List ℕ → Type 0
 BeginsNone l s = (w rest : List ℕ) (v : Tree) → s ≡ w ++ rest → WireWithin l.depth w v → length w ≤ l.frame → ⊥
 
 -- the values of a stream, as many as are one after another, and what is left after them
 abbrev pub AreStreamValues : Limits → List ℕ → List Tree → List ℕ → Type 0
-AreStreamValues l s vs left = BeginsWith l s vs left × BeginsNone l left
+AreStreamValues l s vs left = BeginsWithValues l s vs left × BeginsNone l left
 
 -- the lines of values
 abbrev pub value_lines : List Tree → List ℕ
@@ -71,12 +66,12 @@ HasLines l most = (s : List ℕ) → IsBytes s → ((vs : List Tree) × (left : 
 
 -- if s begins with n values, all after them is left
 abbrev pub LeavesAfterValues : Limits → ℕ → List ℕ → Option (List ℕ) → Type 0
-LeavesAfterValues l n s now = (vs : List Tree) (left : List ℕ) → BeginsWith l s vs left → length vs ≡ n → now ≡ Some left
+LeavesAfterValues l n s now = (vs : List Tree) (left : List ℕ) → BeginsWithValues l s vs left → length vs ≡ n → now ≡ Some left
 
 -- ---- one line
 
 -- a line of the stream s, and whether it is a value's, after which `left` is left; otherwise it is
 -- the last line
 abbrev pub IsLine : Limits → List ℕ → Option (List ℕ) → List ℕ → Bool → Type 0
-IsLine l s left line true = (v : Tree) × (rest : List ℕ) × IsBytes rest × (read_within l s ≡ Some (found v rest)) × BeginsWith l s (v ∷ []) rest × (line ≡ value_line v) × (left ≡ Some rest)
+IsLine l s left line true = (v : Tree) × (rest : List ℕ) × IsBytes rest × (read_within l s ≡ Some (found v rest)) × BeginsWithValues l s (v ∷ []) rest × (line ≡ value_line v) × (left ≡ Some rest)
 IsLine l s left line false = (line ≡ last_line s (read_within l s)) × BeginsNone l s

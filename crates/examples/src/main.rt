@@ -5,11 +5,13 @@
 #![tactic(auto)]
 
 mod arguments;
+mod count;
 mod headers;
 mod in_place;
 mod json;
 mod publishing;
 mod repeated_keys;
+mod retries;
 mod stream;
 mod untrusted;
 
@@ -40,10 +42,12 @@ fn main(rt: HostRuntime) -> Result<()> {
 fn print_all<P: Print>(rt: &P, alloc: Global) -> Result<()> {
     arguments::run(rt, alloc)?;
     headers::run(rt, alloc)?;
+    retries::run(rt, alloc)?;
     in_place::run(rt)?;
     repeated_keys::run(rt, alloc)?;
     publishing::run(rt, alloc)?;
     untrusted::run(rt, alloc)?;
     stream::run(rt, alloc)?;
+    count::run(rt, alloc)?;
     json::run(rt, alloc)
 }

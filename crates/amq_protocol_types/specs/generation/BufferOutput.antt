@@ -13,8 +13,8 @@ abbrev pub outcome_of : {T : Type 0} → Result T GenError → Result (Unit {0})
 outcome_of (Ok _) = Ok tt
 outcome_of (Err e) = Err e
 
--- what a buffer is viewed as: its bytes, as many as its position counts, and after them as many as
--- its capacity is
+-- What a buffer is viewed as.
+-- The buffer has as many bytes as its position counts, and after them as many as its capacity is.
 pub record IsConsistentOutput (s : OutputState) : Type 0 where
   pub written : IsSome s.written
   pub counted : IfSome s.written (λ put. length put ≡ s.position)
@@ -71,8 +71,8 @@ pub record TruncatesTo (at : ℕ) (before : OutputState) (after : OutputState) :
   pub capacity : after.capacity ≡ option_map (λ capacity. capacity + (before.position - at)) before.capacity
   pub faults : after.faults ≡ before.faults
 
--- The number of the bytes written after the four at `at` was filled in there, big-endian; if it
--- doesn't fit, all from `at` on was taken back.
+-- The number of the bytes written after the four at `at` was filled in there, big-endian.
+-- If the number doesn't fit, all from `at` on was taken back.
 pub record PatchesLength (at : ℕ) (before : OutputState) (result : Result (Unit {0}) GenError) (after : OutputState) : Type 0 where
   pub fits : OnOk result (before.position - at - 4 < 2 ^ 32)
   pub filled : OnOk result (after ≡ filled before at (to_be_bytes w32 (before.position - at - 4)))

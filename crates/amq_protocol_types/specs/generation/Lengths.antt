@@ -24,8 +24,8 @@ pub record IsReserved {W : Type 0} (seen : W → OutputState) (old before : Writ
   pub zeros : Writes true ⊤ (replicate 4 0) (state_of seen old) (Ok tt) (state_of seen before)
   pub start : start_of before ≡ start_of old
 
--- Bytes were written after their length in four bytes. They are what a call appended, of those that
--- `may` allows: from which context, with which result, to which.
+-- `may` states which calls there are: from which context, with which result, to which.
+-- What such a call appended was written after its length in four bytes.
 pub record AppendsWithLength {W : Type 0} (seen : W → OutputState) (may : WriteContext W → Result (Unit {0}) GenError → WriteContext W → Type 0) (old new : WriteContext W) : Type 0 where
   -- the context before the call and that after it
   pub before : WriteContext W
@@ -51,8 +51,8 @@ pub record MayRefuse {W : Type 0} (seen : W → OutputState) (may : WriteContext
   pub called : may before (Err e) after
   pub start : start_of new ≡ start_of after
 
--- a call may append more than four bytes count; the start of the context's count is as the call
--- left it
+-- A call may append more than four bytes count.
+-- The start of the context's count is as the call left it.
 pub record MayPassLength {W : Type 0} (seen : W → OutputState) (may : WriteContext W → Result (Unit {0}) GenError → WriteContext W → Type 0) (old new : WriteContext W) : Type 0 where
   pub before : WriteContext W
   pub after : WriteContext W
@@ -63,8 +63,8 @@ pub record MayPassLength {W : Type 0} (seen : W → OutputState) (may : WriteCon
   pub long : 2 ^ 32 ≤ length more
   pub start : start_of new ≡ start_of after
 
--- Why no length was put: the four bytes for it were rejected, or the call was, or what it appended
--- is too long.
+-- Why no length was put.
+-- The four bytes for the length were rejected, or the call was, or what it appended is too long.
 abbrev pub RefusesWithLength : {W : Type 0} → (W → OutputState) → (WriteContext W → Result (Unit {0}) GenError → WriteContext W → Type 0) → WriteContext W → WriteContext W → GenError → Type 0
 RefusesWithLength seen may old new e =
     (Writes true ⊤ (replicate 4 0) (state_of seen old) (Err e) (state_of seen new) × (start_of new ≡ start_of old))

@@ -13,13 +13,13 @@ pub record Sliced : Type 0 where
   pub put : List ℕ
   pub tail : List ℕ
 
--- the output that it is viewed as: the capacity left is fixed and can't be rejected, and it is no
--- device
+-- The output that a slice is viewed as.
+-- The capacity left is fixed and sure to be taken, and a slice is no device.
 abbrev pub seen_slice : Sliced → OutputState
 seen_slice s = record { written = Some s.put; position = length s.put; capacity = Some (length s.tail); promise = length s.tail; faults = 0; tail = s.tail }
 
--- the output that a vector is viewed as: its bytes are those written, its capacity is open, it
--- rejects what fits the memory that it has, and it is no device
+-- The output that a vector is viewed as: its bytes are those written, and its capacity is open.
+-- What fits the memory that a vector has is sure to be taken, and a vector is no device.
 abbrev pub seen_vector : {Z : Type 0} → Vec ℕ Z → OutputState
 seen_vector v = record { written = Some v.items; position = length v.items; capacity = None; promise = vec_capacity v - vec_len v; faults = 0; tail = [] }
 

@@ -57,8 +57,9 @@ pub record MayFail (is_buffer : Bool) (lengths : Type 0) (bytes : List ℕ) (bef
   pub memory : e ≡ OutOfMemory → IsTrue is_buffer
   pub no_other : IsSome before.capacity → (e ≡ BufferTooSmall) ⊎ (e ≡ LengthTooLong)
 
--- A call wrote `bytes`, or was rejected. `lengths` means that each length in what it writes fits its
--- field, `is_buffer` that the output is a buffer: it reports its bytes, and what is rejected adds none.
+-- `lengths` means that each length in what a call writes fits its field, `is_buffer` that the output is
+-- a buffer: it reports its bytes, and what is rejected adds none.
+-- The call wrote `bytes`, or was rejected.
 pub record Writes (is_buffer : Bool) (lengths : Type 0) (bytes : List ℕ) (before : OutputState) (result : Result (Unit {0}) GenError) (after : OutputState) : Type 0 where
   pub wrote : OnOk result (Wrote lengths bytes before after)
   -- an error leaves the position of a buffer, the bytes before it and the capacity as they were

@@ -15,8 +15,8 @@ use Rattle.amq_protocol_types.specs.declared.generation.error.GenError.{GenError
 use Rattle.amq_protocol_types.specs.declared.generation.error.GenError.TheVariants.{LengthTooLong}
 use Rattle.amq_protocol_types.specs.generation.Outputs.{OutputState}
 
--- If some bytes are as `Is` states, no length in what is written is rejected, and a capacity of
--- as many bytes is enough.
+-- This holds if some bytes are as `Is` states.
+-- No length in what is written is rejected, and a capacity of as many bytes is enough.
 pub record WritesWhatIs (Is : List ℕ → Type 0) (before : OutputState) (result : Result (Unit {0}) GenError) : Type 0 where
   pub never_too_long : (w : List ℕ) → Is w → IsErrOf result LengthTooLong → ⊥
   pub succeeds : (w : List ℕ) → Is w → IfSome before.capacity (λ capacity. length w ≤ capacity → IsOk result)
@@ -37,8 +37,8 @@ pub record IsReadBackAndCanonical (v : Tree) : Type 0 where
   pub read_back : (rest : List ℕ) → Outcome (text v ++ rest) (read_back v rest)
   pub canonical : IsCanonical v
 
--- the payload that was written of v, of that type, is read as v, whatever follows, or rejected if v isn't
--- readable
+-- the payload that was written of v, of that type, is read as v, whatever follows
+-- If v isn't readable, its payload is rejected.
 abbrev pub IsPayloadReadBack : AMQPType → Tree → Type 0
 IsPayloadReadBack type v = (rest : List ℕ) → RawOutcome type (payload v ++ rest) (read_back v rest)
 

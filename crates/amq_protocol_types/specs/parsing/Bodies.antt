@@ -16,8 +16,8 @@ pub record IsLengthPrefixed (s body rest : List ℕ) : Type 0 where
   pub framed : s ≡ long_field body ++ rest
   pub fits : length body < 2 ^ 32
 
--- the length-prefixed field isn't all there, and that many more bytes are needed: of its length, or
--- of what that counts
+-- The length-prefixed field isn't all there, and that many more bytes are needed.
+-- They are bytes of its length, or of what the length counts.
 abbrev pub IsCutLengthPrefixed : List ℕ → Reading → Type 0
 IsCutLengthPrefixed s o = (0 < frame_lack w32 s) × (o ≡ more (frame_lack w32 s))
 

@@ -7,8 +7,8 @@ use Rattle.amqp_value_core.specs.Ids.{kind}
 use Rattle.amqp_value_core.specs.Layouts.{Layout, fixed}
 use Rattle.amqp_value_core.specs.Outcomes.{length_field, counted, lack}
 
--- how many bytes a payload has at least: those of its fields, or of its length field until that is
--- complete, and then what it counts too
+-- How many bytes a payload has at least: those of its fields, or of its length field.
+-- Once the length field is complete, what it counts is included.
 abbrev pub extent_of : Option Layout → Width → List ℕ → ℕ
 extent_of (Some f) w b = f.width
 extent_of None w b = if nat_lt (length b) (byte_len w) then byte_len w else byte_len w + counted w b
@@ -31,8 +31,8 @@ abbrev pub wanted_at : Option AMQPType → List ℕ → ℕ
 wanted_at None b = 0
 wanted_at (Some type) b = lack type b
 
--- how many more bytes are needed for the field that is being read: 1 if there is no byte; 0 if the
--- first isn't a type tag, or the bytes of the payload are all there
+-- How many more bytes are needed for the field that is being read: 1 if there is no byte.
+-- None is needed if the first isn't a type tag, or the bytes of the payload are all there.
 abbrev pub wanted : List ℕ → ℕ
 wanted [] = 1
 wanted (c ∷ b) = wanted_at (kind c) b

@@ -18,13 +18,14 @@ use Rattle.amq_protocol_types.specs.declared.parsing.within.Limits.{Limits}
 use Rattle.amq_protocol_types.specs.parsing.Refusals.{Refusal}
 use Rattle.amq_protocol_types.specs.parsing.Headers.{extent, wanted, IsWholeValue}
 
--- reading s within limits results in o: the value has no more bytes than the limit `frame` allows,
--- by what has come of it, and containers nest within the depth
+-- Reading s within limits results in o. By what has come of it,
+-- the value has no more bytes than the limit `frame` allows, and containers nest within the depth.
 abbrev pub Within : Limits → List ℕ → Reading → Type 0
 Within l s o = (extent s ≤ l.frame) × OutcomeWithin l.depth s o
 
--- an error of reading s within limits is right: `TooLarge` if the value has more bytes than the limit
--- `frame` allows, `Eof` also if containers nest too deep, and the others as without limits
+-- An error of reading s within limits is right: as without limits, and `Eof` also if containers nest
+-- too deep.
+-- `TooLarge` means that the value has more bytes than the limit `frame` allows.
 abbrev pub RefusesWithin : Limits → List ℕ → Refusal → Type 0
 RefusesWithin l s (Error TooLarge) = l.frame < extent s
 RefusesWithin l s (Incomplete (Size n)) = Within l s (more n)
@@ -39,8 +40,7 @@ HasOneOutcomeWithin l s =
     (extent s ≤ l.frame → (o : Reading) × Within l s o × ((p : Reading) → Within l s p → p ≡ o))
     × ((o : Reading) → l.frame < extent s → Within l s o → ⊥)
 
--- more bytes come after the rest of a value, lower the number that is needed, and leave an error as it
--- is
+-- More bytes come after the rest of a value, lower the number that is needed, and keep an error.
 abbrev pub KeepsOutcomeWithin : Limits → List ℕ → Type 0
 KeepsOutcomeWithin l s =
     ((o : Reading) (t : List ℕ) → Within l s o → StillWaits o t → Within l (s ++ t) (with_more o t))
@@ -62,8 +62,7 @@ IsShortestWithin d v = (w : List ℕ) → IsBytes w → WireWithin d w v → Wir
 abbrev pub TellsApartWithin : ℕ → Tree → Type 0
 TellsApartWithin d v = (u : Tree) (w x : List ℕ) → IsBytes w → IsBytes x → WireWithin d w v → WireWithin d x u → (text v ≡ text u) ↔ (v ≡ u)
 
--- bytes are an encoding exactly when they are one within each depth from a fifth of their length
--- on
+-- bytes are an encoding exactly when they are one within each depth from a fifth of their length on
 abbrev pub IsDeepEnough : Type 0
 IsDeepEnough = (w : List ℕ) (v : Tree) → Wire w v ↔ ((d : ℕ) → length w / 5 ≤ d → WireWithin d w v)
 
@@ -84,8 +83,7 @@ pub record IsReadWithin (l : Limits) (n : ℕ) (v : Tree) : Type 0 where
   -- v is no larger than its encoding, and nests at most as deep as the limit allows
   pub bounded : IsWritableIn n v
   pub depth : depth v ≤ l.depth
-  -- its canonical encoding is read as it within the limits, is a shortest one, and is that of no
-  -- other value
+  -- its canonical encoding is read as it within the limits, is a shortest one, and no other value's
   pub read_again : IsReadAgain l v
   pub shortest : IsShortestWithin l.depth v
   pub injective : TellsApartWithin l.depth v

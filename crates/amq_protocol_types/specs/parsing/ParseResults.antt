@@ -8,8 +8,8 @@ use Rattle.amq_protocol_types.specs.declared.parsing.errors.ErrorKind.{ErrorKind
 use Rattle.amq_protocol_types.specs.declared.parsing.errors.ErrorKind.TheVariants.{MapOpt, Eof, OutOfMemory}
 use Rattle.amq_protocol_types.specs.parsing.Refusals.{Refusal}
 
--- reading a value from s may return the error: that many more bytes are needed, the first byte isn't a
--- type tag, no prefix is an encoding, or an allocation failed
+-- Reading a value from s may return the error: that many more bytes are needed,
+-- the first byte isn't a type tag, no prefix is an encoding, or an allocation failed.
 abbrev pub Refuses : List ℕ → Refusal → Type 0
 Refuses s (Incomplete (Size n)) = Outcome s (more n)
 Refuses s (Error MapOpt) = Outcome s unknown
@@ -17,8 +17,8 @@ Refuses s (Error Eof) = Outcome s malformed
 Refuses s (Failure kind) = (kind ≡ OutOfMemory) × Heavy s
 Refuses s _ = ⊥
 
--- a parser may return the error: `IsError` says which kinds of `Error`, `Is` what reading its input
--- results in, and `heavy` whether that may allocate
+-- A parser may return the error. `IsError` says which kinds of `Error` there are.
+-- `Is` says what reading the input results in, and `heavy` whether that may allocate.
 abbrev pub RefusesAs : (ErrorKind → Type 0) → (Reading → Type 0) → Type 0 → Refusal → Type 0
 RefusesAs IsError Is heavy (Incomplete Unknown) = ⊥
 RefusesAs IsError Is heavy (Incomplete (Size n)) = Is (more n)
@@ -37,7 +37,6 @@ IsRefusal Is heavy _ = ⊥
 abbrev pub HasOneOutcome : List ℕ → Type 0
 HasOneOutcome s = (o : Reading) × Outcome s o × ((p : Reading) → Outcome s p → p ≡ o)
 
--- more bytes come after the rest of a value, lower the number that is needed, and leave an error as it
--- is
+-- More bytes come after the rest of a value, lower the number that is needed, and keep an error.
 abbrev pub KeepsOutcome : List ℕ → Type 0
 KeepsOutcome s = (o : Reading) (t : List ℕ) → Outcome s o → StillWaits o t → Outcome (s ++ t) (with_more o t)

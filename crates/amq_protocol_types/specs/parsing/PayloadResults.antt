@@ -12,13 +12,13 @@ use Rattle.amq_protocol_types.specs.parsing.Refusals.{Refusal}
 use Rattle.amq_protocol_types.specs.parsing.ParseResults.{RefusesAs, IsRefusal}
 use Rattle.amqp_value_core.specs.Values.{Scalar, scalar, number}
 
--- a parser may return the error, if its only errors are that more bytes are needed, and that an
--- allocation failed
+-- A parser may return the error.
+-- Its only errors are that more bytes are needed, and that an allocation failed.
 abbrev pub OnlyLacks : (Reading → Type 0) → Type 0 → Refusal → Type 0
 OnlyLacks Is heavy e = RefusesAs (λ _. ⊥) Is heavy e
 
--- the kind of error if a length-prefixed field is complete and isn't a payload of the type: a short
--- string's bytes aren't UTF-8, and a container's aren't entries
+-- The kind of error if a length-prefixed field is complete and isn't a payload of the type.
+-- A short string's bytes aren't UTF-8, and a container's aren't entries.
 abbrev pub bad_kind : AMQPType → ErrorKind
 bad_kind amqp.ShortString = MapRes
 bad_kind _ = Eof
@@ -44,15 +44,15 @@ IsNumberRead w s n rest = s ≡ to_be_bytes w n ++ rest
 abbrev pub IsCutPayload : Width → List ℕ → Reading → Type 0
 IsCutPayload w s o = (length s < byte_len w) × (o ≡ more (byte_len w - length s))
 
--- the result is the unsigned number of the first bytes, big-endian, and what is left after them; or
--- more bytes are needed, and it counts how many
+-- The result is the unsigned number of the first bytes, big-endian, and what is left after them.
+-- If more bytes are needed, the result counts how many.
 abbrev pub ReadsUnsigned : {I : Type 0} → Width → (I → List ℕ) → I → Result (I × ℕ) Refusal → Type 0
 ReadsUnsigned w bytes i result = MatchResult result
     (λ x. IsNumberRead w (bytes i) x.1 (bytes x.0))
     (IsRefusal (IsCutPayload w (bytes i)) ⊥)
 
--- the result is what a payload of the type at the start means, as viewed by `shown`, and what is
--- left after it; or more bytes are needed, and it counts how many
+-- The result is what a payload of the type at the start means, as viewed by `shown`, and what is left.
+-- If more bytes are needed, the result counts how many.
 abbrev pub ReadsScalar : {I T : Type 0} → AMQPType → (T → Scalar) → (I → List ℕ) → I → Result (I × T) Refusal → Type 0
 ReadsScalar type shown bytes i result = MatchResult result
     (λ x. RawOutcome type (bytes i) (found (scalar (shown x.1)) (bytes x.0)))

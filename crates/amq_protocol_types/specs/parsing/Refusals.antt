@@ -30,9 +30,8 @@ error_of_kind kind = Error kind
 abbrev pub out_of_memory : Refusal
 out_of_memory = Failure OutOfMemory
 
--- what the error of an entry means for the container round it, whose body is complete: a failed
--- allocation stays one, and whatever else keeps the entry from being read keeps the body from being
--- a concatenation of entries
+-- What the error of an entry means for the container round it, whose body is complete.
+-- A failed allocation stays one, and with any other error the body isn't a concatenation of entries.
 abbrev pub inside : Refusal → Refusal
 inside (Failure kind) = Failure kind
 inside _ = Error Eof

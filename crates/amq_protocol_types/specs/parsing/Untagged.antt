@@ -17,8 +17,8 @@ use Rattle.amq_protocol_types.specs.parsing.Limits.{Within, RefusesWithin}
 abbrev pub tagged : AMQPType → List ℕ → List ℕ
 tagged type s = id_of type ∷ s
 
--- reading a payload of the type from s within limits results in o, as reading the value after its
--- type tag does: `frame` counts the tag too, and `depth` the container itself
+-- Reading a payload of the type from s within limits results in o, as reading the value does.
+-- The limit `frame` counts the missing type tag too, and `depth` the container itself.
 abbrev pub UntaggedWithin : Limits → AMQPType → List ℕ → Reading → Type 0
 UntaggedWithin l type s o = Within l (tagged type s) o
 
@@ -26,13 +26,13 @@ UntaggedWithin l type s o = Within l (tagged type s) o
 abbrev pub RefusesUntagged : Limits → AMQPType → List ℕ → Refusal → Type 0
 RefusesUntagged l type s e = RefusesWithin l (tagged type s) e
 
--- that is what reading the payload results in, if it has fewer bytes than `frame`, by what has come
--- of it, and containers nest within the depth
+-- That is what reading the payload results in, if it keeps the limits. By what has come of it,
+-- the payload has fewer bytes than `frame`, and containers nest within the depth.
 abbrev pub IsPayloadWithin : Limits → AMQPType → List ℕ → Type 0
 IsPayloadWithin l type s = (o : Reading) → UntaggedWithin l type s o ↔ ((raw_extent type s < l.frame) × RawOutcomeWithin l.depth type s o)
 
--- the payload that is written of a value of the type, which can be read and keeps the limits, is
--- read as it, whatever follows
+-- The value is of the type, can be read, and keeps the limits.
+-- The payload that is written of such a value is read as it, whatever follows.
 abbrev pub ReadsPayloadsBack : Limits → AMQPType → Type 0
 ReadsPayloadsBack l type =
     (v : Tree) (t : List ℕ) → type_of v ≡ type → IsValue v → Fits v → IsTrue (readable v) → depth v ≤ l.depth → size v ≤ l.frame

@@ -41,11 +41,11 @@ NextResult = Result (Option AMQPValue) StreamError
 abbrev pub UnlessFailed : Values → Type 0 → Type 0
 UnlessFailed r P = has_failed r ≡ false → P
 
--- a call for the next value may return this and lead to the state `new`, if s is what was retained
+-- A call for the next value may return this and lead to the state `new`, if s is what was retained
 -- and then what came (of a reader that reports no bytes, any list), and `left` is what the reader
 -- has left: a value, which s encodes; none, if nothing was retained or came, and the reader is at
--- its end; that s is rejected, as no shorter prefix is; that s is cut, if the reader is at its end;
--- a fault, if all of s is retained
+-- its end; that s is rejected, as no shorter prefix is; that s is cut, if the reader is at its end.
+-- After a fault of the reader, or of an allocation, all of s is retained.
 abbrev pub IsOutcomeOf : Limits → List ℕ → Option (List ℕ) → NextResult → Values → Type 0
 IsOutcomeOf l s left (Ok (Some v)) new = WireWithin l.depth s (view v) × (length s ≤ l.frame) × (kept new ≡ []) × (has_failed new ≡ false)
 IsOutcomeOf l s left (Ok None) new = (s ≡ []) × (kept new ≡ []) × (has_failed new ≡ false) × IsAtEnd left
@@ -74,9 +74,9 @@ abbrev pub IsFailed : NextResult → Type 0
 IsFailed (Err stream.Failed) = Unit {0}
 IsFailed _ = ⊥
 
--- a call for the next value may return this, if the reader reports its bytes, s is what was
--- retained and then all that the reader held, and `left` is what it has left: what reading s within
--- the limits results in, however the reader cuts its bytes, and with all after the value unread
+-- A call for the next value may return this, if the reader reports its bytes, s is what was
+-- retained and then all that the reader held, and `left` is what it has left.
+-- Reading s within the limits results in this, however the reader cuts its bytes.
 abbrev pub IsOutcomeOfAll : Limits → List ℕ → Option (List ℕ) → NextResult → Type 0
 IsOutcomeOfAll l s left (Ok (Some v)) = (rest : List ℕ) × Within l s (found (view v) rest) × (left ≡ Some rest)
 IsOutcomeOfAll l s left (Ok None) = (s ≡ []) × (left ≡ Some [])

@@ -16,8 +16,8 @@ pub data SourceReaches {S : Type 0} (goes : S → S → Type 0) : S → S → Ty
 abbrev pub SourceStops : {S : Type 0} → (S → S → Type 0) → (S → ErrorKind → S → Type 0) → S → ErrorKind → S → Type 0
 SourceStops {S} goes fails from kind to = (last : S) × SourceReaches goes from last × fails last kind to
 
--- an error of a source is returned as `Read`, with its kind; any other result comes only if no call
--- of the source returned an error
+-- An error of a source is returned as `Read`, with its kind.
+-- Any other result comes only if no call of the source returned an error.
 abbrev pub KeepsKind : {S T : Type 0} → (S → S → Type 0) → (S → ErrorKind → S → Type 0) → S → Result T StreamError → S → Type 0
 KeepsKind goes fails from (Err (stream.Read kind)) to = SourceStops goes fails from kind to
 KeepsKind goes fails from _ to = SourceReaches goes from to

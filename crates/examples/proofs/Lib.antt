@@ -1,0 +1,1 @@
+-- No lemmas: the laws that the examples call are enough. A folder is for a module of src/.
