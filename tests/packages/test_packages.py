@@ -14,7 +14,7 @@ import pytest
 from dependencies import TOP
 
 from tests.c.compiling import Words, assert_well, printed, run, version
-from tests.c.pages import commands_of_first, names_that_lack
+from tests.c.pages import command_of_consumer, commands_of_first, names_that_lack
 from tests.c.places import NAME, PATH, files_in
 
 OF_LIBRARY = ["libamqp-values-dev", "libamqp-values0"]
@@ -122,6 +122,17 @@ def test_program_over_packages(unpacked: Path, of_packages: dict[str, str], tmp_
     words: Words = ["cc", "-std=c11", "-Wall", "-Wextra", "-Werror", "-o", program, source, *flags]
     assert_well(run(words, env=of_packages))
     assert printed([program], input="49 00000007", env=of_packages) == "5 bytes\nLongInt 7\n"
+
+
+def test_consumer_over_packages(unpacked: Path, of_packages: dict[str, str], tmp_path: Path) -> None:
+    """The command of the page keeps the library before librabbitmq, though the consumer doesn't call it."""
+    (tmp_path / "consumer.c").write_text("#include <amqp.h>\nint main(void) { return amqp_version_number() == 0; }\n")
+    command = command_of_consumer((unpacked / "usr/share/doc/libamqp-values-dev/C.md").read_text())
+    # (a flag for a folder that a compiler knows isn't printed)
+    folders = {"CPATH": f"{unpacked}/usr/include", "LIBRARY_PATH": f"{unpacked}/usr/lib/x86_64-linux-gnu"}
+    assert_well(run(["sh", "-ec", command], cwd=tmp_path, env={**of_packages, **folders}))
+    needed = re.findall(r"NEEDED.*\[(.*?)\.so", printed(["readelf", "-d", tmp_path / "consumer"]))
+    assert needed[:2] == [f"lib{NAME}_rabbitmq", "librabbitmq"]
 
 
 def test_tool_of_package(unpacked: Path, of_packages: dict[str, str]) -> None:
