@@ -4,8 +4,8 @@ use amqp_values::{Limits, ValueRef, read_table};
 use serde_json::{Map, Value};
 use std::io::{self, Read};
 
-/// Converts a value to JSON with plain numbers. It loses types: LongInt, Timestamp and Decimal all become numbers, strings and byte
-/// arrays text, and what isn't finite null. Of equal keys the last counts. `amqp_values::to_json` keeps all types.
+/// Converts a value to JSON with plain numbers. It loses types: integers, timestamps and decimals all become numbers, strings and
+/// byte arrays become text, and infinities and NaN become null. Of equal keys the last counts. `amqp_values::to_json` keeps all types.
 fn plain(value: ValueRef<'_>) -> Value {
     match value {
         ValueRef::Boolean(truth) => truth.into(),
