@@ -322,6 +322,24 @@ def test_paths() -> None:
     assert own_error(lambda: own.find(data + b"V", "a")) == ("trailing bytes", len(data), 0)
 
 
+def test_what_find_checks() -> None:
+    """Of all data the structure, and of what it returns the rest. (`test_offsets_count_from_the_start` tries random tables.)"""
+    odd = b"\1\xffV" + b"\1sS\0\0\0\1\xff" + b"\1dd\x7f\xf0" + bytes(6) + b"\1tT" + b"\xff" * 8
+    how: dict[str, Any] = {"table": True, "default": 5, "finite": True, "plain": True, "equal_keys": "refuse"}
+    table = field(b"", odd + b"\1aV")
+    assert own.find(table, "a", **how) is None and own.find(table, "x", **how) == 5
+    of_paths: list[Any] = [("s", "text not UTF-8", 9), ("d", "not finite", 17), ("t", "out of range", 28)]
+    for key, kind, offset in [*of_paths, (b"\xff", "key not UTF-8", 0)]:
+        assert own_error(lambda: own.find(table, key, **how)) == (kind, offset, 0)
+    assert own_error(lambda: own.find(table, **how)) == ("key not UTF-8", 4, 0)
+    more = [(b"\1az", "unknown tag", 39), (b"\1aS\0\0\0\1", "cut", 39), (b"\5a", "key cut", 37)]
+    for pairs, kind, offset in [*more, (b"\1aV\1aV", "equal keys", 40)]:
+        assert own_error(lambda: own.find(field(b"", odd + pairs), "x", **how)) == (kind, offset, 0)
+    for limit, kind in (("depth", "too deep"), ("max_bytes", "too large")):
+        how[limit] = 0
+        assert own_error(lambda: own.find(table, "x", **how)) == (kind, 0, 0)
+
+
 def test_a_default_keeps_its_references() -> None:
     default = object()
     # (more references than are lost here, so that they are counted before the object is freed)
@@ -450,6 +468,7 @@ def test_offsets_count_from_the_start(seed: int) -> None:
         problem = first_problem(b"F" + data, "any keys")
         by_any = own_error(lambda: own.loads(b"F" + data, text="bytes", keys="bytes"))
         assert (by_any and by_any[:2]) == (problem and (KINDS[problem[1]], problem[0]))
+        assert own_error(lambda: own.find(b"F" + data, "no such key")) == by_any
     assert rejected > 200
 
 

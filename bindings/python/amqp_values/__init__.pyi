@@ -240,10 +240,13 @@ def find(
     max_bytes: int = 1048576,
 ) -> Any:
     r"""Returns the value at a path: keys into tables, and indexes from 0 into arrays. Returns the default if the path
-    leads nowhere. Only this value is built, but all of the data is checked as loads, or with table=True loads_table,
-    checks it, and raises the same errors.
+    leads nowhere.
 
-    Options, by name, and those of loads:
+    Only this value is built, and checked as loads checks it. Elsewhere in the data find checks type tags, lengths, depth
+    and max_bytes, and with equal_keys='refuse' that no key repeats; keys and strings there may have any bytes, and
+    numbers any value. So it reads each table that an adapter delivers with these limits. The errors are those of loads.
+
+    Options, by name, and those of loads, of which keys is also about the keys of the path:
 
         table=False            True for a table without its type tag, as headers and arguments are
         default=None           what is returned if the path leads nowhere

@@ -300,8 +300,10 @@ static PyObject *find(PyObject *module, PyObject *const *arguments, Py_ssize_t c
     if (take(state, "find", PY_SSIZE_T_MAX, READING | FIND, arguments, count, names, &how)) {
         content = begin_reading(&reader, state, &how, arguments[0]);
     }
-    if (content != NULL && read_whole(&reader, &entry)) {
-        made = found_at(&reader, &entry, arguments + 1, count - 1);
+    if (content != NULL) {
+        /* (`keys` is about the value that is found, of which `build` checks them) */
+        reader.in.flags |= AMQPV_ANY_KEYS;
+        made = read_whole(&reader, &entry) ? found_at(&reader, &entry, arguments + 1, count - 1) : NULL;
     }
     Py_XDECREF(content);
     return documented(state, made);
@@ -414,9 +416,11 @@ static PyMethodDef FUNCTIONS[] = {
     CALL(
         find, "($module, data, /, *path, table=False, default=None, " READ_OPTIONS ")",
         "Returns the value at a path: keys into tables, and indexes from 0 into arrays. Returns the default if the path\n"
-        "leads nowhere. Only this value is built, but all of the data is checked as loads, or with table=True loads_table,\n"
-        "checks it, and raises the same errors.\n\n"
-        "Options, by name, and those of loads:\n\n"
+        "leads nowhere.\n\n"
+        "Only this value is built, and checked as loads checks it. Elsewhere in the data find checks type tags, lengths, depth\n"
+        "and max_bytes, and with equal_keys='refuse' that no key repeats; keys and strings there may have any bytes, and\n"
+        "numbers any value. So it reads each table that an adapter delivers with these limits. The errors are those of loads.\n\n"
+        "Options, by name, and those of loads, of which keys is also about the keys of the path:\n\n"
         "    table=False            True for a table without its type tag, as headers and arguments are\n"
         "    default=None           what is returned if the path leads nowhere\n\n"
         ">>> data = dumps_table({'x-death': [{'queue': 'orders', 'count': 3}]})\n"
