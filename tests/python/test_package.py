@@ -448,7 +448,7 @@ def test_options_that_are_none() -> None:
     for options in BAD_OPTIONS:
         assert own_error(lambda: own.loads(b"V", **options)) == ("bad option", 0, 0)
     for call in MISTAKES:
-        assert error_of(call) is TypeError
+        assert error_of(call) in (TypeError, own.UnsupportedType)
     data = field(b"", b"")
     for offset in (-1, 5, 2**70):
         assert own_error(lambda: own.decode_table(data, offset)) == ("bad option", 0, 0)
@@ -502,6 +502,8 @@ WRITES: list[tuple[Any, tuple[str, int, int], tuple[Any, ...]]] = [
     ({"k": own.Encoded(b"S\0\0\0\5ab")}, ("cut", 7, 3), ("k",)),
     ([own.Encoded(b"VV")], ("trailing bytes", 6, 0), (0,)),
     ([own.Encoded(nested("A", 32, b""))], ("too deep", 5 + 5 * 31, 0), (0,)),
+    ({"a": [1, {"b": {5}}]}, ("unsupported type", 28, 0), ("a", 1, "b")),
+    ({"a": {5: 1}}, ("unsupported type", 12, 0), ("a", 5)),
 ]
 
 
@@ -510,6 +512,7 @@ def test_what_can_not_be_written() -> None:
         with pytest.raises(own.Error) as found:
             own.dumps(value)
         assert problem_of(found.value) == problem and found.value.path == path and repr([*path]) in str(found.value)
+        assert type(found.value) is (own.UnsupportedType if problem[0] == "unsupported type" else own.Error)
         if isinstance(value, dict):
             assert own_error(lambda: own.dumps_table(value)) == (problem[0], problem[1] - 1, problem[2])
 
@@ -562,7 +565,10 @@ KIND = re.compile(r"(?ms)^_Kind: TypeAlias = Literal\[\n(.*?)^\]")
 def test_every_kind_is_raised_and_typed() -> None:
     """The kinds in the sources are those of the typed interface, and of the page."""
     text = "".join(it.read_text() for it in sorted((TOP / "bindings/python/src").glob("*.c")))
-    raised = {*re.findall(r'raise_error\([\w>-]+, "([^"]+)"', text), *re.findall(r'"((?:key|text) not UTF-8)"', text)}
+    raised = {
+        *re.findall(r'raise_(?:error|of)\([\w>, -]+, "([^"]+)"', text),
+        *re.findall(r'"((?:key|text) not UTF-8)"', text),
+    }
     raised |= {*re.findall(r'\? "(out of range)" : "(too large)"', text)[0]}
     found = KIND.search((TOP / "bindings/python/amqp_values/__init__.pyi").read_text())
     assert found and raised == {*re.findall(r'"(.*?)"', found[1])}

@@ -39,6 +39,7 @@ _Kind: TypeAlias = Literal[
     "not JSON",
     "not a value",
     "not a table",
+    "unsupported type",
 ]
 
 __all__ = [
@@ -56,6 +57,7 @@ __all__ = [
     "ShortShortUInt",
     "ShortUInt",
     "Timestamp",
+    "UnsupportedType",
     "__version__",
     "decode_table",
     "dumps",
@@ -74,6 +76,8 @@ class Error(ValueError):
     missing: int
     path: tuple[Any, ...]
     def __init__(self, kind: _Kind, offset: int = 0, expected: str = "", missing: int = 0) -> None: ...
+
+class UnsupportedType(Error, TypeError): ...
 
 class _Integer(int):
     tag: str
@@ -125,8 +129,8 @@ def loads(
     r"""Returns the value that the bytes encode, with its type tag. No byte may follow it.
 
     Raises an Error if the bytes aren't such a value, or if it is beyond the limits: `kind`, `offset` and `expected`
-    say what is wrong and where, and `missing` how many more bytes the cut field needs. Data that isn't bytes, a
-    bytearray or a memoryview raises a TypeError.
+    say what is wrong and where, and `missing` how many more bytes the cut field needs, or 0 if more bytes can't help.
+    Data that isn't bytes, a bytearray or a memoryview raises a TypeError.
 
     Options, by name:
 
@@ -271,8 +275,8 @@ def dumps(
 ) -> bytes:
     r"""Returns the bytes of a value, with its type tag. The keys of a table keep their order.
 
-    Raises an Error if the value can't be written: `kind` and `expected` say why, and `path` leads to what can't. An
-    object of a type that has no encoding raises a TypeError.
+    Raises an Error if the value can't be written: `kind` and `expected` say why, and `path` leads to what can't. Of an
+    object whose type has no encoding it is an UnsupportedType, which is a TypeError too.
 
     Options, by name:
 

@@ -1,27 +1,46 @@
 /* Raises the extension's exceptions: `raise_error` and others an Error, with its text, and `raise_type` a TypeError. */
 #include "values.h"
 
-void raise_error(const State *state, const char *kind, size_t offset, size_t missing, const char *format, ...) {
-    va_list words;
-    va_start(words, format);
-    PyObject *expected = PyUnicode_FromFormatV(format, words);
-    va_end(words);
+/* Raises an Error of a class. It takes the reference to the text of what was expected, which may be NULL after an exception. */
+static void raise_of(const State *state, PyObject *class, const char *kind, size_t offset, size_t missing,
+                     PyObject *expected) {
     if (expected == NULL) {
         return;
     }
     /* (without a call of Python's, for which the stack may be too deep) */
     static const char *const NAMES[] = {"kind", "offset", "expected", "missing"};
     PyObject *parts = Py_BuildValue("(snNn)", kind, (Py_ssize_t)offset, expected, (Py_ssize_t)missing);
-    PyObject *error = parts != NULL ? state->new_error((PyTypeObject *)state->error, parts, NULL) : NULL;
+    PyObject *error = parts != NULL ? state->new_error((PyTypeObject *)class, parts, NULL) : NULL;
     int is_made = error != NULL;
     for (Py_ssize_t at = 0; is_made && at < 4; at++) {
         is_made = PyObject_SetAttrString(error, NAMES[at], PyTuple_GetItem(parts, at)) == 0;
     }
     if (is_made) {
-        PyErr_SetObject(state->error, error);
+        PyErr_SetObject(class, error);
     }
     Py_XDECREF(error);
     Py_XDECREF(parts);
+}
+
+void raise_error(const State *state, const char *kind, size_t offset, size_t missing, const char *format, ...) {
+    va_list words;
+    va_start(words, format);
+    raise_of(state, state->error, kind, offset, missing, PyUnicode_FromFormatV(format, words));
+    va_end(words);
+}
+
+/* "WHAT, not TYPE", by the type of an object, unless a metaclass hides its name. */
+static PyObject *with_type(const State *state, const char *what, PyObject *object) {
+    PyObject *name = PyObject_GetAttr((PyObject *)Py_TYPE(object), state->name);
+    int is_text = name != NULL && PyUnicode_Check(name);
+    PyErr_Clear();
+    PyObject *text = is_text ? PyUnicode_FromFormat("%s, not %U", what, name) : PyUnicode_FromString(what);
+    Py_XDECREF(name);
+    return text;
+}
+
+void raise_unsupported(const State *state, size_t offset, const char *what, PyObject *object) {
+    raise_of(state, state->unsupported, "unsupported type", offset, 0, with_type(state, what, object));
 }
 
 void raise_foreign(const State *state, size_t offset) {
@@ -82,13 +101,11 @@ void add_step(const State *state, PyObject *step) {
 }
 
 void raise_type(const State *state, const char *what, PyObject *object) {
-    PyObject *name = PyObject_GetAttr((PyObject *)Py_TYPE(object), state->name);
-    if (name != NULL && PyUnicode_Check(name)) {
-        PyErr_Format(PyExc_TypeError, "%s, not %U", what, name);
-    } else {
-        PyErr_SetString(PyExc_TypeError, what);
+    PyObject *text = with_type(state, what, object);
+    if (text != NULL) {
+        PyErr_SetObject(PyExc_TypeError, text);
+        Py_DECREF(text);
     }
-    Py_XDECREF(name);
 }
 
 void raise_problem(const State *state, const amqpv_input *in, size_t base, amqpv_result result,

@@ -394,8 +394,8 @@ static PyMethodDef FUNCTIONS[] = {
         loads, "($module, data, /, *, " READ_OPTIONS ")",
         "Returns the value that the bytes encode, with its type tag. No byte may follow it.\n\n"
         "Raises an Error if the bytes aren't such a value, or if it is beyond the limits: `kind`, `offset` and `expected`\n"
-        "say what is wrong and where, and `missing` how many more bytes the cut field needs. Data that isn't bytes, a\n"
-        "bytearray or a memoryview raises a TypeError.\n" HELP_READING
+        "say what is wrong and where, and `missing` how many more bytes the cut field needs, or 0 if more bytes can't help.\n"
+        "Data that isn't bytes, a bytearray or a memoryview raises a TypeError.\n" HELP_READING
         ">>> loads(b'A\\0\\0\\0\\x0cI\\0\\0\\0\\5t\\1S\\0\\0\\0\\0')\n"
         "[LongInt(5), True, '']\n"),
     CALL(
@@ -431,8 +431,9 @@ static PyMethodDef FUNCTIONS[] = {
     CALL(
         dumps, "($module, value, /, *, " WRITE_OPTIONS ")",
         "Returns the bytes of a value, with its type tag. The keys of a table keep their order.\n\n"
-        "Raises an Error if the value can't be written: `kind` and `expected` say why, and `path` leads to what can't. An\n"
-        "object of a type that has no encoding raises a TypeError.\n" HELP_WRITING ">>> dumps([None, ShortInt(-2)])\n"
+        "Raises an Error if the value can't be written: `kind` and `expected` say why, and `path` leads to what can't. Of an\n"
+        "object whose type has no encoding it is an UnsupportedType, which is a TypeError too.\n" HELP_WRITING
+        ">>> dumps([None, ShortInt(-2)])\n"
         "b'A\\x00\\x00\\x00\\x04Vs\\xff\\xfe'\n"),
     CALL(
         dumps_table, "($module, mapping, /, *, " WRITE_OPTIONS ")",
@@ -475,7 +476,9 @@ static int begin(PyObject *module) {
             return -1;
         }
     }
-    if ((state->error = imported(types, "Error")) == NULL || (state->integer = imported(types, "_Integer")) == NULL
+    if ((state->error = imported(types, "Error")) == NULL
+        || (state->unsupported = imported(types, "UnsupportedType")) == NULL
+        || (state->integer = imported(types, "_Integer")) == NULL
         || (state->of_float = imported(types, "Float")) == NULL
         || (state->long_string = imported(types, "LongString")) == NULL
         || (state->encoded = imported(types, "Encoded")) == NULL
