@@ -539,24 +539,27 @@ def test_the_error_is_copied_with_what_it_has() -> None:
     assert issubclass(own.Error, ValueError)
 
 
-def test_a_table_without_its_type_tag_is_recognized() -> None:
-    """If a value is expected, which doesn't begin with a zero, the error says what reads it; inside of a value it doesn't."""
-    table = own.dumps_table({"a": 1})
+def test_other_forms_are_recognized() -> None:
+    """Where the bytes begin the error says what they may be, and what reads that; also what it read as a length."""
+    table, digits, untagged = own.dumps_table({"a": 1}), b"0000000b0161", "0: is this a table without its type tag?"
     of_calls: list[tuple[Callable[[], Any], str]] = [
-        (lambda: own.loads(table), "loads_table, or table=True"),
-        (lambda: own.find(table, "a"), "loads_table, or table=True"),
-        (lambda: own.dumps([own.Encoded(table)]), "Encoded(b'F' + table)"),
+        (lambda: own.loads(table), f"not byte {untagged} loads_table, or table=True"),
+        (lambda: own.find(b"\0", "a"), f"not byte {untagged} loads_table, or table=True"),
+        (lambda: own.dumps([own.Encoded(table)]), f"not byte {untagged} Encoded(b'F' + table)"),
+        (lambda: own.loads(digits), "not byte 48: is this hexadecimal text? bytes.fromhex reads it"),
+        (lambda: own.loads(b'["a"]'), "not byte 91: is this JSON? from_json reads it"),
+        (lambda: own.loads(b"\7"), "not byte 7"),
+        (lambda: own.loads(field(b"A", b"7")), "not byte 55"),
+        (lambda: own.loads_table(digits), "length 808464432: is this hexadecimal text? bytes.fromhex reads it"),
+        (lambda: own.find(b"00 00", table=True), "length 808460336: is this hexadecimal text? bytes.fromhex reads it"),
+        (lambda: own.loads_table(b'{"a": 1}'), "length 2065850658: is this JSON? from_json reads it"),
+        (lambda: own.loads_table(b"F\0\0\0\0"), "1174405120: is this a table with its type tag? loads, or table=False"),
+        (lambda: own.decode_table(b"." + b"\xff" * 4, 1), "counted, but the first four are the length 4294967295"),
     ]
     for call, hint in of_calls:
         with pytest.raises(own.Error) as found:
             call()
-        assert found.value.kind == "unknown tag"
-        assert found.value.expected.endswith(f", not byte 0: a table without its type tag? {hint}")
-    for data in (b"\7", field(b"A", b"\0")):
-        with pytest.raises(own.Error) as found:
-            own.loads(data)
-        assert found.value.expected.endswith(f", not byte {data[-1]}")
-    assert own.dumps(own.Encoded(b"F" + table)) == b"F" + table
+        assert found.value.expected.endswith(hint)
 
 
 KIND = re.compile(r"(?ms)^_Kind: TypeAlias = Literal\[\n(.*?)^\]")
