@@ -14,7 +14,7 @@ from decimal import Decimal
 from enum import IntEnum
 from random import Random
 from types import MappingProxyType
-from typing import Any
+from typing import Any, assert_type
 
 import amqp_values as own
 import pytest
@@ -290,10 +290,11 @@ def test_equal_keys(seed: int) -> None:
 def test_encoded_values(seed: int) -> None:
     """They are written as they were, so that a pair of a table can be changed, and no other byte."""
     data = field(b"", b"\1aU\0\5\0F\0\0\0\6\1at\7\0V\1bL" + bytes(8))
-    found = own.loads_table(data, encoded=True)
+    found = assert_type(own.loads_table(data, encoded=True), dict[str, own.Encoded])
     assert {*map(type, found.values())} == {own.Encoded} and own.dumps_table(found) == data
     assert found.pop("b") == b"L" + bytes(8) and own.dumps_table(found) == field(b"", data[4:-11])
-    assert own.decode_table(b".\0\0\0\2\0V.", 1, encoded=True) == ({"": b"V"}, 7)
+    of_bytes = own.decode_table(b".\0\0\0\2\0V.", 1, encoded=True, keys="bytes")
+    assert assert_type(of_bytes, tuple[dict[str | bytes, own.Encoded], int]) == ({"": b"V"}, 7)
     make, how = Random(seed), dict[str, Any](keys="bytes", equal_keys="refuse")
     for _ in range(2000):
         data = make.choice([odd_table(make), table_of(make, [value_of(make, 2) for _ in range(3)])])[1:]
@@ -645,7 +646,8 @@ def test_adding_in_place_keeps_the_type() -> None:
 def test_signatures_are_those_of_the_types() -> None:
     text = (TOP / "bindings/python/amqp_values/__init__.pyi").read_text()
     for name in ("loads", "loads_table", "decode_table", "find", "dumps", "dumps_table", "to_json", "from_json"):
-        (typed, *_) = re.findall(rf"(?s)def {name}\((.*?)\) -> ", text)
+        # (of several types of a function the one that has most defaults)
+        typed = max(re.findall(rf"(?s)def {name}\((.*?)\) -> ", text), key=lambda it: str(it).count(" = "))
         names = [it.strip().partition(":")[0] for it in re.sub(r"\[.*?\]", "", typed).split(",") if it.strip()]
         signature = inspect.signature(getattr(own, name))
         assert [it.partition("=")[0] for it in str(signature)[1:-1].split(", ")] == names, name

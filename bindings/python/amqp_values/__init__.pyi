@@ -153,7 +153,7 @@ def loads_table(
     data: _Data,
     /,
     *,
-    encoded: bool = False,
+    encoded: Literal[True],
     keys: Literal["strict", "surrogateescape"] = "strict",
     text: _NotUtf8 = "strict",
     plain: bool = False,
@@ -162,7 +162,7 @@ def loads_table(
     finite: bool = False,
     depth: int = 32,
     max_bytes: int = 1048576,
-) -> dict[str, Any]:
+) -> dict[str, Encoded]:
     r"""Returns the dict that the bytes encode as a table without its type tag: its length, then its pairs. No byte may
     follow it. Errors and options are those of loads, and
 
@@ -174,6 +174,36 @@ def loads_table(
     {b'\xff': True}
     """
 
+@overload
+def loads_table(
+    data: _Data,
+    /,
+    *,
+    encoded: Literal[True],
+    keys: Literal["bytes"],
+    text: _NotUtf8 = "strict",
+    plain: bool = False,
+    equal_keys: _EqualKeys = "last",
+    signed_decimals: bool = False,
+    finite: bool = False,
+    depth: int = 32,
+    max_bytes: int = 1048576,
+) -> dict[Union[str, bytes], Encoded]: ...
+@overload
+def loads_table(
+    data: _Data,
+    /,
+    *,
+    encoded: bool = False,
+    keys: Literal["strict", "surrogateescape"] = "strict",
+    text: _NotUtf8 = "strict",
+    plain: bool = False,
+    equal_keys: _EqualKeys = "last",
+    signed_decimals: bool = False,
+    finite: bool = False,
+    depth: int = 32,
+    max_bytes: int = 1048576,
+) -> dict[str, Any]: ...
 @overload
 def loads_table(
     data: _Data,
@@ -195,6 +225,45 @@ def decode_table(
     /,
     offset: int = 0,
     *,
+    encoded: Literal[True],
+    keys: Literal["strict", "surrogateescape"] = "strict",
+    text: _NotUtf8 = "strict",
+    plain: bool = False,
+    equal_keys: _EqualKeys = "last",
+    signed_decimals: bool = False,
+    finite: bool = False,
+    depth: int = 32,
+    max_bytes: int = 1048576,
+) -> tuple[dict[str, Encoded], int]:
+    r"""Returns the table without its type tag that begins at an offset, and the offset of its end. Other bytes may
+    follow. Errors and options are those of loads_table; the offset of an Error counts from the start of the data.
+
+    >>> decode_table(b'..\0\0\0\4\1at\1..', 2)
+    ({'a': True}, 10)
+    """
+
+@overload
+def decode_table(
+    data: _Data,
+    /,
+    offset: int = 0,
+    *,
+    encoded: Literal[True],
+    keys: Literal["bytes"],
+    text: _NotUtf8 = "strict",
+    plain: bool = False,
+    equal_keys: _EqualKeys = "last",
+    signed_decimals: bool = False,
+    finite: bool = False,
+    depth: int = 32,
+    max_bytes: int = 1048576,
+) -> tuple[dict[Union[str, bytes], Encoded], int]: ...
+@overload
+def decode_table(
+    data: _Data,
+    /,
+    offset: int = 0,
+    *,
     encoded: bool = False,
     keys: Literal["strict", "surrogateescape"] = "strict",
     text: _NotUtf8 = "strict",
@@ -204,14 +273,7 @@ def decode_table(
     finite: bool = False,
     depth: int = 32,
     max_bytes: int = 1048576,
-) -> tuple[dict[str, Any], int]:
-    r"""Returns the table without its type tag that begins at an offset, and the offset of its end. Other bytes may
-    follow. Errors and options are those of loads_table; the offset of an Error counts from the start of the data.
-
-    >>> decode_table(b'..\0\0\0\4\1at\1..', 2)
-    ({'a': True}, 10)
-    """
-
+) -> tuple[dict[str, Any], int]: ...
 @overload
 def decode_table(
     data: _Data,
