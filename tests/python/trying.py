@@ -44,6 +44,12 @@ table, end = codec.read(codec.write({"a": [1, 2.5, decimal.Decimal("1.5")], "b":
 assert table == {"a": [1, 2.5, decimal.Decimal("1.5")], "b": {"": None}} and codec.write(table) == table.raw and end == 44, end
 for it in ("LICENSE", "THIRD-PARTY"):
     assert "Copyright" in next(here.parent.glob("amqp_values-*/" + it)).read_text()
+if sys.version_info >= (3, 13):
+    import _interpreters
+    code = f"import sys; sys.path[:] = {sys.path}; import amqp_values"
+    wrong = _interpreters.run_string(_interpreters.create("isolated"), code)
+    assert wrong.msg == "module amqp_values._native does not support loading in subinterpreters", wrong
+    assert not _interpreters.run_string(_interpreters.create("legacy"), code)
 print("%d.%d.%d: %d tried" % (*sys.version_info[:3], tried))
 """
 
