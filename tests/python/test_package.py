@@ -447,7 +447,7 @@ def test_options_that_are_none() -> None:
     for options in BAD_OPTIONS:
         assert own_error(lambda: own.loads(b"V", **options)) == ("bad option", 0, 0)
     for call in MISTAKES:
-        assert error_of(call) in (TypeError, own.UnsupportedType)
+        assert issubclass(error_of(call) or int, TypeError)
     data = field(b"", b"")
     for offset in (-1, 5, 2**70):
         assert own_error(lambda: own.decode_table(data, offset)) == ("bad option", 0, 0)
@@ -601,7 +601,7 @@ def test_classes() -> None:
     assert own.dumps(float.__new__(own.Float, largest)).hex() == "667f7fffff"
     assert repr(own.LongString(b"a")) == "LongString(b'a')" and own.dumps(own.LongString(b"a")) == own.dumps("a")
     for value in (own.Float(1), own.LongString(b""), own.Encoded(b"")):
-        assert not hasattr(value, "__dict__")
+        assert not hasattr(value, "__dict__") and shape(pickle.loads(pickle.dumps(value))) == shape(value)
 
 
 def test_adding_in_place_keeps_the_type() -> None:

@@ -310,7 +310,8 @@ def find(
 
     Only this value is built, and checked as loads checks it. Elsewhere in the data find checks type tags, lengths, depth
     and max_bytes, and with equal_keys='refuse' that no key repeats; keys and strings there may have any bytes, and
-    numbers any value. So it reads each table that an adapter delivers with these limits. The errors are those of loads.
+    numbers any value. So headers that an adapter delivers aren't rejected for what you don't ask for. The errors are
+    those of loads.
 
     Options, by name, and those of loads, of which keys is also about the keys of the path:
 
