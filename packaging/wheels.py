@@ -45,8 +45,9 @@ def copy_sources(to: Path, *targets: str) -> Path:
     shutil.copytree(INCLUDE, to / INCLUDE.name)
     for it in targets:
         shutil.copytree(GENERATED / FOLDERS[it], to / GENERATED.name / FOLDERS[it])
-    for name in ("LICENSE", "THIRD-PARTY"):
-        shutil.copy(TOP / name, to)
+    for name in ("LICENSE", "THIRD-PARTY", "docs/PYTHON.md", "packaging/installed_pages.py"):
+        (to / name).parent.mkdir(exist_ok=True)
+        shutil.copy(TOP / name, to / name)
     return Path(package)
 
 

@@ -2,8 +2,10 @@
 
 import re
 import shutil
+import subprocess
 import sys
 import sysconfig
+import tempfile
 from pathlib import Path
 from typing import Any
 
@@ -33,6 +35,13 @@ def assembly() -> list[str]:
         "amqp_values has compiled code for x86_64 and aarch64 Linux only, and not for"
         f" {processor} {NAMES.get(system, system)}: see docs/PLATFORMS.md"
     )
+
+
+def description() -> str:
+    """docs/PYTHON.md without its heading, and without links and text that are only for the repository."""
+    with tempfile.TemporaryDirectory() as folder:
+        subprocess.run([sys.executable, TOP / "packaging/installed_pages.py", folder, "PYTHON.md"], check=True)
+        return (Path(folder) / "PYTHON.md").read_text(encoding="utf-8").removeprefix("# Python\n\n")
 
 
 class BuildExtension(build_ext):
@@ -65,6 +74,8 @@ found = re.search(r'(?m)^#define AMQPV_VERSION "(.*)"$', (INCLUDE / "amqp_values
 setup(
     version=found[1] if found else sys.exit("the header has no version"),
     license="BSD-2-Clause",
+    long_description=description(),
+    long_description_content_type="text/markdown",
     cmdclass={"build_ext": BuildExtension, "egg_info": NameNotices},
     ext_modules=[
         Extension(

@@ -81,11 +81,14 @@ def says(command: Path, words: str, data: bytes, output: Output = Output.PIPE) -
 
 NEXT = "\0\0\0\4\1at\1 and more"
 TAG = "expected one of the type tags tbBsUuIilLfdDSxAFTV, not byte"
+LONG = "expected at most 1048576 bytes, the type tag counted, but the first four are the length"
 REFUSED = [
-    ("", "7401", f"unknown tag at 0: {TAG} 55: hexadecimal? --hex reads it"),
+    ("", "7401", f"unknown tag at 0: {TAG} 55: is this hexadecimal text? --hex reads it"),
     ("", "z", f"unknown tag at 0: {TAG} 122"),
     ("--hex", "7a", f"unknown tag at 0: {TAG} 122"),
-    ("", NEXT[:8], f"unknown tag at 0: {TAG} 0: a table without its type tag? --table reads it"),
+    ("", NEXT[:8], f"unknown tag at 0: {TAG} 0: is this a table without its type tag? --table reads it"),
+    ("", '{"a":1}', f"unknown tag at 0: {TAG} 123: is this JSON? --encode reads it"),
+    ("--table", "F" + NEXT, f"too large at 0: {LONG} 1174405120: is this a table with its type tag? leave out --table"),
     ("--table", NEXT[:7], "cut at 0: expected 1 more byte"),
     ("", "A\0\0\0\2sz", "cut at 5: expected a whole value inside its container"),
     ("--encode", '{"a":', "not JSON at 5: expected more text, since the JSON isn't complete"),

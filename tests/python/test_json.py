@@ -113,7 +113,7 @@ def test_messages() -> None:
     assert str(found.value) == "not a table at 1: expected an object that is a table"
     with pytest.raises(own.Error) as found:
         own.to_json(b"\0\0\0\0")
-    assert str(found.value).endswith("not byte 0: a table without its type tag? loads_table, or table=True")
+    assert str(found.value).endswith("not byte 0: is this a table without its type tag? loads_table, or table=True")
     assert own_error(lambda: own.to_json(b"VV")) == ("trailing bytes", 1, 0)
 
 

@@ -14,7 +14,7 @@ from decimal import Decimal
 from enum import IntEnum
 from random import Random
 from types import MappingProxyType
-from typing import Any
+from typing import Any, assert_type
 
 import amqp_values as own
 import pytest
@@ -290,10 +290,11 @@ def test_equal_keys(seed: int) -> None:
 def test_encoded_values(seed: int) -> None:
     """They are written as they were, so that a pair of a table can be changed, and no other byte."""
     data = field(b"", b"\1aU\0\5\0F\0\0\0\6\1at\7\0V\1bL" + bytes(8))
-    found = own.loads_table(data, encoded=True)
+    found = assert_type(own.loads_table(data, encoded=True), dict[str, own.Encoded])
     assert {*map(type, found.values())} == {own.Encoded} and own.dumps_table(found) == data
     assert found.pop("b") == b"L" + bytes(8) and own.dumps_table(found) == field(b"", data[4:-11])
-    assert own.decode_table(b".\0\0\0\2\0V.", 1, encoded=True) == ({"": b"V"}, 7)
+    of_bytes = own.decode_table(b".\0\0\0\2\0V.", 1, encoded=True, keys="bytes")
+    assert assert_type(of_bytes, tuple[dict[str | bytes, own.Encoded], int]) == ({"": b"V"}, 7)
     make, how = Random(seed), dict[str, Any](keys="bytes", equal_keys="refuse")
     for _ in range(2000):
         data = make.choice([odd_table(make), table_of(make, [value_of(make, 2) for _ in range(3)])])[1:]
@@ -320,6 +321,22 @@ def test_paths() -> None:
         assert error_of(lambda: own.find(data, "no", other)) is TypeError
     assert own_error(lambda: own.find(data, "\ud800")) == ("lone surrogate", 0, 0)
     assert own_error(lambda: own.find(data + b"V", "a")) == ("trailing bytes", len(data), 0)
+
+
+def test_what_find_checks() -> None:
+    """Of all data the structure, and of what it returns the rest. (`test_offsets_count_from_the_start` tries random tables.)"""
+    odd = b"\1\xffV" + b"\1sS\0\0\0\1\xff" + b"\1dd\x7f\xf0" + bytes(6) + b"\1tT" + b"\xff" * 8
+    how: dict[str, Any] = {"table": True, "default": 5, "finite": True, "plain": True, "equal_keys": "refuse"}
+    table = field(b"", odd + b"\1aV")
+    assert own.find(table, "a", **how) is None and own.find(table, "x", **how) == 5
+    of_paths: list[Any] = [("s", "text not UTF-8", 9), ("d", "not finite", 17), ("t", "out of range", 28)]
+    for key, kind, offset in [*of_paths, (b"\xff", "key not UTF-8", 0)]:
+        assert own_error(lambda: own.find(table, key, **how)) == (kind, offset, 0)
+    assert own_error(lambda: own.find(table, **how)) == ("key not UTF-8", 4, 0)
+    assert own_error(lambda: own.find(field(b"", odd + b"\1aV\1aV"), "x", **how)) == ("equal keys", 40, 0)
+    for limit, kind in (("depth", "too deep"), ("max_bytes", "too large")):
+        how[limit] = 0
+        assert own_error(lambda: own.find(table, "x", **how)) == (kind, 0, 0)
 
 
 def test_a_default_keeps_its_references() -> None:
@@ -430,7 +447,7 @@ def test_options_that_are_none() -> None:
     for options in BAD_OPTIONS:
         assert own_error(lambda: own.loads(b"V", **options)) == ("bad option", 0, 0)
     for call in MISTAKES:
-        assert error_of(call) is TypeError
+        assert issubclass(error_of(call) or int, TypeError)
     data = field(b"", b"")
     for offset in (-1, 5, 2**70):
         assert own_error(lambda: own.decode_table(data, offset)) == ("bad option", 0, 0)
@@ -450,6 +467,7 @@ def test_offsets_count_from_the_start(seed: int) -> None:
         problem = first_problem(b"F" + data, "any keys")
         by_any = own_error(lambda: own.loads(b"F" + data, text="bytes", keys="bytes"))
         assert (by_any and by_any[:2]) == (problem and (KINDS[problem[1]], problem[0]))
+        assert own_error(lambda: own.find(b"F" + data, "no such key")) == by_any
     assert rejected > 200
 
 
@@ -483,6 +501,8 @@ WRITES: list[tuple[Any, tuple[str, int, int], tuple[Any, ...]]] = [
     ({"k": own.Encoded(b"S\0\0\0\5ab")}, ("cut", 7, 3), ("k",)),
     ([own.Encoded(b"VV")], ("trailing bytes", 6, 0), (0,)),
     ([own.Encoded(nested("A", 32, b""))], ("too deep", 5 + 5 * 31, 0), (0,)),
+    ({"a": [1, {"b": {5}}]}, ("unsupported type", 28, 0), ("a", 1, "b")),
+    ({"a": {5: 1}}, ("unsupported type", 12, 0), ("a", 5)),
 ]
 
 
@@ -491,6 +511,7 @@ def test_what_can_not_be_written() -> None:
         with pytest.raises(own.Error) as found:
             own.dumps(value)
         assert problem_of(found.value) == problem and found.value.path == path and repr([*path]) in str(found.value)
+        assert type(found.value) is (own.UnsupportedType if problem[0] == "unsupported type" else own.Error)
         if isinstance(value, dict):
             assert own_error(lambda: own.dumps_table(value)) == (problem[0], problem[1] - 1, problem[2])
 
@@ -517,24 +538,25 @@ def test_the_error_is_copied_with_what_it_has() -> None:
     assert issubclass(own.Error, ValueError)
 
 
-def test_a_table_without_its_type_tag_is_recognized() -> None:
-    """If a value is expected, which doesn't begin with a zero, the error says what reads it; inside of a value it doesn't."""
-    table = own.dumps_table({"a": 1})
+def test_other_forms_are_recognized() -> None:
+    """Where the bytes begin the error says what they may be, and what reads that; also what it read as a length."""
+    table, digits, untagged = own.dumps_table({"a": 1}), b"0000000b0161", "0: is this a table without its type tag?"
     of_calls: list[tuple[Callable[[], Any], str]] = [
-        (lambda: own.loads(table), "loads_table, or table=True"),
-        (lambda: own.find(table, "a"), "loads_table, or table=True"),
-        (lambda: own.dumps([own.Encoded(table)]), "Encoded(b'F' + table)"),
+        (lambda: own.loads(table), f"not byte {untagged} loads_table, or table=True"),
+        (lambda: own.find(b"\0", "a"), f"not byte {untagged} loads_table, or table=True"),
+        (lambda: own.dumps([own.Encoded(table)]), f"not byte {untagged} Encoded(b'F' + table)"),
+        (lambda: own.loads(digits), "not byte 48: is this hexadecimal text? bytes.fromhex reads it"),
+        (lambda: own.loads(b'["a"]'), "not byte 91: is this JSON? from_json reads it"),
+        (lambda: own.loads(field(b"A", b"7")), "not byte 55"),
+        (lambda: own.loads_table(digits), "length 808464432: is this hexadecimal text? bytes.fromhex reads it"),
+        (lambda: own.loads_table(b'{"a": 1}'), "length 2065850658: is this JSON? from_json reads it"),
+        (lambda: own.loads_table(b"F\0\0\0\0"), "1174405120: is this a table with its type tag? loads, or table=False"),
+        (lambda: own.decode_table(b"." + b"\xff" * 4, 1), "counted, but the first four are the length 4294967295"),
     ]
     for call, hint in of_calls:
         with pytest.raises(own.Error) as found:
             call()
-        assert found.value.kind == "unknown tag"
-        assert found.value.expected.endswith(f", not byte 0: a table without its type tag? {hint}")
-    for data in (b"\7", field(b"A", b"\0")):
-        with pytest.raises(own.Error) as found:
-            own.loads(data)
-        assert found.value.expected.endswith(f", not byte {data[-1]}")
-    assert own.dumps(own.Encoded(b"F" + table)) == b"F" + table
+        assert found.value.expected.endswith(hint)
 
 
 KIND = re.compile(r"(?ms)^_Kind: TypeAlias = Literal\[\n(.*?)^\]")
@@ -543,7 +565,7 @@ KIND = re.compile(r"(?ms)^_Kind: TypeAlias = Literal\[\n(.*?)^\]")
 def test_every_kind_is_raised_and_typed() -> None:
     """The kinds in the sources are those of the typed interface, and of the page."""
     text = "".join(it.read_text() for it in sorted((TOP / "bindings/python/src").glob("*.c")))
-    raised = {*re.findall(r'raise_error\([\w>-]+, "([^"]+)"', text), *re.findall(r'"((?:key|text) not UTF-8)"', text)}
+    raised = {*re.findall(r'raise_(?:error|of)\([\w>, -]+, "([^"]+)"', text)}
     raised |= {*re.findall(r'\? "(out of range)" : "(too large)"', text)[0]}
     found = KIND.search((TOP / "bindings/python/amqp_values/__init__.pyi").read_text())
     assert found and raised == {*re.findall(r'"(.*?)"', found[1])}
@@ -579,7 +601,7 @@ def test_classes() -> None:
     assert own.dumps(float.__new__(own.Float, largest)).hex() == "667f7fffff"
     assert repr(own.LongString(b"a")) == "LongString(b'a')" and own.dumps(own.LongString(b"a")) == own.dumps("a")
     for value in (own.Float(1), own.LongString(b""), own.Encoded(b"")):
-        assert not hasattr(value, "__dict__")
+        assert not hasattr(value, "__dict__") and shape(pickle.loads(pickle.dumps(value))) == shape(value)
 
 
 def test_adding_in_place_keeps_the_type() -> None:
@@ -617,7 +639,7 @@ def test_adding_in_place_keeps_the_type() -> None:
 def test_signatures_are_those_of_the_types() -> None:
     text = (TOP / "bindings/python/amqp_values/__init__.pyi").read_text()
     for name in ("loads", "loads_table", "decode_table", "find", "dumps", "dumps_table", "to_json", "from_json"):
-        (typed, *_) = re.findall(rf"(?s)def {name}\((.*?)\) -> ", text)
+        typed = max(re.findall(rf"(?s)def {name}\((.*?)\) -> ", text), key=lambda it: str(it).count(" = "))
         names = [it.strip().partition(":")[0] for it in re.sub(r"\[.*?\]", "", typed).split(",") if it.strip()]
         signature = inspect.signature(getattr(own, name))
         assert [it.partition("=")[0] for it in str(signature)[1:-1].split(", ")] == names, name

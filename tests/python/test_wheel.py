@@ -12,7 +12,7 @@ from pip._vendor.packaging.markers import Marker
 from wheels import OFFLINE, PROCESSORS, PYTHON, Words, copy_sources, make_wheel, ran
 
 from tests.conftest import WITHOUT
-from tests.python.trying import python_in, pythons, symbols_shown, try_packages, try_unpacked, try_wheel
+from tests.python.trying import FIRST, python_in, pythons, symbols_shown, try_packages, try_unpacked, try_wheel
 from tests.python.trying import try_wheel_of_aarch64, wrong_symbols
 from tests.rabbitmq.broker import DEBIAN_13, ROOTS
 
@@ -51,6 +51,18 @@ def test_wheel(tmp_path: Path, record_property: Record) -> None:
 def test_same_bytes(tmp_path: Path) -> None:
     """A wheel that is made again, in another folder, has the same bytes."""
     assert wheel_for(X86_64, tmp_path / "one").read_bytes() == wheel_for(X86_64, tmp_path / "two").read_bytes()
+
+
+def test_metadata(tmp_path: Path) -> None:
+    """What PyPI shows: the page without what is only for the repository, and the addresses in the line that a release fills."""
+    folder = copy_sources(tmp_path, X86_64)
+    project = (folder / "pyproject.toml").read_text().split("\nurls = {}\n")
+    (folder / "pyproject.toml").write_text('\nurls = { Source = "https://example.org" }\n'.join(project))
+    assert ran([PYTHON, "setup.py", "-q", "egg_info"], cwd=folder, env=CLEAN)[1] == ""
+    head, _, page = (folder / "amqp_values.egg-info/PKG-INFO").read_text().partition("\n\n")
+    shown = {"Project-URL: Source, https://example.org", "Description-Content-Type: text/markdown"}
+    assert {*shown, f"Classifier: Programming Language :: Python :: 3.{FIRST[1]}"} <= {*head.split("\n")}
+    assert page.startswith("`amqp_values` reads") and not re.search(r"\]\(|clone|make ", page)
 
 
 # From the sources, by pip

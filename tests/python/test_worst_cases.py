@@ -1,9 +1,10 @@
 """The Python package with objects whose methods lie, raise or change what is written, and with little stack or memory.
 
-Threads and failing allocations are tried too. watched.py writes hostile objects under sanitizers.
+Threads, other processes, greenlets and failing allocations are tried too. watched.py writes hostile objects under sanitizers.
 """
 
 import gc
+import multiprocessing
 import re
 import subprocess
 import sys
@@ -18,7 +19,9 @@ from random import Random
 from typing import Any
 
 import amqp_values as own
+import gevent
 import pytest
+from amqp_values.adapters import pika
 from dependencies import TOP
 
 from tests.model.encoding import field
@@ -172,6 +175,32 @@ def test_threads() -> None:
         assert [*pool.map(wrong, range(8))] == [[]] * 8
 
 
+PACKAGE = str(Path(own.__file__).parents[1])
+INSTALL = "from amqp_values.adapters import pika; pika.install()"
+READ = "type(__import__('amqp_values.adapters.pika').adapters.pika.client.frames()['header'].read(bytes(4))).__name__"
+CHILDREN = [("fork", "", "Headers"), ("spawn", "", "dict"), ("forkserver", "", "dict"), ("spawn", INSTALL, "Headers")]
+
+
+@pytest.mark.parametrize("way, initially, wanted", CHILDREN)
+def test_processes(way: str, initially: str, wanted: str) -> None:
+    """A process that is forked has what was installed; one that begins anew installs it itself."""
+    pika.install()
+    with multiprocessing.get_context(way).Pool(1, exec, (initially,)) as pool:
+        assert pool.apply(eval, (READ,)) == wanted
+    pika.uninstall()
+
+
+def test_greenlets() -> None:
+    """Others run only while methods of objects are called. An adapter works where gevent has put its own sockets."""
+    table: dict[str, Any] = {"a": Odd(gevent.sleep)}
+    writing, other = gevent.spawn(own.dumps_table, table), gevent.spawn(table.update, b=1)
+    assert own.loads(own.dumps(EVERY)) and len(table) == 1
+    gevent.joinall([writing, other])
+    assert writing.exception.kind == "changed"
+    patched = f"import sys; sys.path.insert(0, {PACKAGE!r}); from gevent import monkey; monkey.patch_all(); {INSTALL}"
+    subprocess.run([sys.executable, "-c", f"{patched}; assert {READ} == 'Headers'"], check=True)
+
+
 # Bytes of which as much is made as can be, again and again.
 DENSE = {
     "Floats": b"f\0\0\0\1", "Voids": b"V", "booleans": b"t\1", "ShortShortInts": b"b\1", "LongInts": b"I\0\0\1\1",
@@ -253,7 +282,6 @@ CALLS = re.findall(r'(?m)^    "([\w ]+)": lambda', NO_MEMORY)
 @pytest.mark.parametrize("name", CALLS)
 def test_no_memory(name: str) -> None:
     """Whichever allocation fails, a MemoryError comes, and the next call has what it had before."""
-    package = str(Path(own.__file__).parents[1])
-    done = subprocess.run([sys.executable, "-c", NO_MEMORY, name, package], capture_output=True, text=True)
+    done = subprocess.run([sys.executable, "-c", NO_MEMORY, name, PACKAGE], capture_output=True, text=True)
     assert not done.returncode, done.stderr[-1500:]
     assert int(done.stdout) >= 1

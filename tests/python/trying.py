@@ -44,6 +44,11 @@ table, end = codec.read(codec.write({"a": [1, 2.5, decimal.Decimal("1.5")], "b":
 assert table == {"a": [1, 2.5, decimal.Decimal("1.5")], "b": {"": None}} and codec.write(table) == table.raw and end == 44, end
 for it in ("LICENSE", "THIRD-PARTY"):
     assert "Copyright" in next(here.parent.glob("amqp_values-*/" + it)).read_text()
+if sys.version_info >= (3, 13):
+    import _interpreters
+    code = f"import sys; sys.path[:] = {sys.path}; import amqp_values"
+    said = [_interpreters.run_string(_interpreters.create(it), code) for it in ("legacy", "isolated")]
+    assert not said[0] and said[1].msg.endswith("_native does not support loading in subinterpreters"), said
 print("%d.%d.%d: %d tried" % (*sys.version_info[:3], tried))
 """
 

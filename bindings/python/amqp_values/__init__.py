@@ -20,7 +20,7 @@ Each type is one of Python, or a class that is a number or bytes there:
 
 So `dumps(loads(data))` is `data`, except for what can be written in two ways: the alternate tags U and L become s and l, a
 true that isn't 1 becomes 1, and of equal keys in a table one is kept. Bytes that can't be read and values that can't be written
-raise `Error`. The only other exceptions are TypeError, for an object of a type that no hint allows, and MemoryError.
+raise `Error`. The only other exceptions are TypeError, for an argument of the wrong type, and MemoryError.
 
 `help(loads)` has the options of reading, `help(dumps)` those of writing, and `help(to_json)` those of JSON.
 """
@@ -28,11 +28,11 @@ raise `Error`. The only other exceptions are TypeError, for an object of a type 
 from ._native import DEPTH, MAX_BYTES, MOST_DEPTH, __version__
 from ._native import decode_table, dumps, dumps_table, find, from_json, loads, loads_table, to_json
 from ._types import Encoded, Error, Float, LongInt, LongString, LongUInt
-from ._types import ShortInt, ShortShortInt, ShortShortUInt, ShortUInt, Timestamp
+from ._types import ShortInt, ShortShortInt, ShortShortUInt, ShortUInt, Timestamp, UnsupportedType
 
 for _it in (Encoded, Error, Float, LongInt, LongString, LongUInt):
     _it.__module__ = __name__
-for _it in (ShortInt, ShortShortInt, ShortShortUInt, ShortUInt, Timestamp):
+for _it in (ShortInt, ShortShortInt, ShortShortUInt, ShortUInt, Timestamp, UnsupportedType):
     _it.__module__ = __name__
 del _it
 
@@ -51,6 +51,7 @@ __all__ = [
     "ShortShortUInt",
     "ShortUInt",
     "Timestamp",
+    "UnsupportedType",
     "__version__",
     "decode_table",
     "dumps",

@@ -39,6 +39,7 @@ _Kind: TypeAlias = Literal[
     "not JSON",
     "not a value",
     "not a table",
+    "unsupported type",
 ]
 
 __all__ = [
@@ -56,6 +57,7 @@ __all__ = [
     "ShortShortUInt",
     "ShortUInt",
     "Timestamp",
+    "UnsupportedType",
     "__version__",
     "decode_table",
     "dumps",
@@ -74,6 +76,8 @@ class Error(ValueError):
     missing: int
     path: tuple[Any, ...]
     def __init__(self, kind: _Kind, offset: int = 0, expected: str = "", missing: int = 0) -> None: ...
+
+class UnsupportedType(Error, TypeError): ...
 
 class _Integer(int):
     tag: str
@@ -125,8 +129,8 @@ def loads(
     r"""Returns the value that the bytes encode, with its type tag. No byte may follow it.
 
     Raises an Error if the bytes aren't such a value, or if it is beyond the limits: `kind`, `offset` and `expected`
-    say what is wrong and where, and `missing` how many more bytes the cut field needs. Data that isn't bytes, a
-    bytearray or a memoryview raises a TypeError.
+    say what is wrong and where, and `missing` how many more bytes the cut field needs, or 0 if more bytes can't help.
+    Data that isn't bytes, a bytearray or a memoryview raises a TypeError.
 
     Options, by name:
 
@@ -149,7 +153,7 @@ def loads_table(
     data: _Data,
     /,
     *,
-    encoded: bool = False,
+    encoded: Literal[True],
     keys: Literal["strict", "surrogateescape"] = "strict",
     text: _NotUtf8 = "strict",
     plain: bool = False,
@@ -158,7 +162,7 @@ def loads_table(
     finite: bool = False,
     depth: int = 32,
     max_bytes: int = 1048576,
-) -> dict[str, Any]:
+) -> dict[str, Encoded]:
     r"""Returns the dict that the bytes encode as a table without its type tag: its length, then its pairs. No byte may
     follow it. Errors and options are those of loads, and
 
@@ -170,6 +174,36 @@ def loads_table(
     {b'\xff': True}
     """
 
+@overload
+def loads_table(
+    data: _Data,
+    /,
+    *,
+    encoded: Literal[True],
+    keys: Literal["bytes"],
+    text: _NotUtf8 = "strict",
+    plain: bool = False,
+    equal_keys: _EqualKeys = "last",
+    signed_decimals: bool = False,
+    finite: bool = False,
+    depth: int = 32,
+    max_bytes: int = 1048576,
+) -> dict[Union[str, bytes], Encoded]: ...
+@overload
+def loads_table(
+    data: _Data,
+    /,
+    *,
+    encoded: bool = False,
+    keys: Literal["strict", "surrogateescape"] = "strict",
+    text: _NotUtf8 = "strict",
+    plain: bool = False,
+    equal_keys: _EqualKeys = "last",
+    signed_decimals: bool = False,
+    finite: bool = False,
+    depth: int = 32,
+    max_bytes: int = 1048576,
+) -> dict[str, Any]: ...
 @overload
 def loads_table(
     data: _Data,
@@ -191,6 +225,45 @@ def decode_table(
     /,
     offset: int = 0,
     *,
+    encoded: Literal[True],
+    keys: Literal["strict", "surrogateescape"] = "strict",
+    text: _NotUtf8 = "strict",
+    plain: bool = False,
+    equal_keys: _EqualKeys = "last",
+    signed_decimals: bool = False,
+    finite: bool = False,
+    depth: int = 32,
+    max_bytes: int = 1048576,
+) -> tuple[dict[str, Encoded], int]:
+    r"""Returns the table without its type tag that begins at an offset, and the offset of its end. Other bytes may
+    follow. Errors and options are those of loads_table; the offset of an Error counts from the start of the data.
+
+    >>> decode_table(b'..\0\0\0\4\1at\1..', 2)
+    ({'a': True}, 10)
+    """
+
+@overload
+def decode_table(
+    data: _Data,
+    /,
+    offset: int = 0,
+    *,
+    encoded: Literal[True],
+    keys: Literal["bytes"],
+    text: _NotUtf8 = "strict",
+    plain: bool = False,
+    equal_keys: _EqualKeys = "last",
+    signed_decimals: bool = False,
+    finite: bool = False,
+    depth: int = 32,
+    max_bytes: int = 1048576,
+) -> tuple[dict[Union[str, bytes], Encoded], int]: ...
+@overload
+def decode_table(
+    data: _Data,
+    /,
+    offset: int = 0,
+    *,
     encoded: bool = False,
     keys: Literal["strict", "surrogateescape"] = "strict",
     text: _NotUtf8 = "strict",
@@ -200,14 +273,7 @@ def decode_table(
     finite: bool = False,
     depth: int = 32,
     max_bytes: int = 1048576,
-) -> tuple[dict[str, Any], int]:
-    r"""Returns the table without its type tag that begins at an offset, and the offset of its end. Other bytes may
-    follow. Errors and options are those of loads_table; the offset of an Error counts from the start of the data.
-
-    >>> decode_table(b'..\0\0\0\4\1at\1..', 2)
-    ({'a': True}, 10)
-    """
-
+) -> tuple[dict[str, Any], int]: ...
 @overload
 def decode_table(
     data: _Data,
@@ -240,10 +306,14 @@ def find(
     max_bytes: int = 1048576,
 ) -> Any:
     r"""Returns the value at a path: keys into tables, and indexes from 0 into arrays. Returns the default if the path
-    leads nowhere. Only this value is built, but all of the data is checked as loads, or with table=True loads_table,
-    checks it, and raises the same errors.
+    leads nowhere.
 
-    Options, by name, and those of loads:
+    Only this value is built, and checked as loads checks it. Elsewhere in the data find checks type tags, lengths, depth
+    and max_bytes, and with equal_keys='refuse' that no key repeats; keys and strings there may have any bytes, and
+    numbers any value. So headers that an adapter delivers aren't rejected for what you don't ask for. The errors are
+    those of loads.
+
+    Options, by name, and those of loads, of which keys is also about the keys of the path:
 
         table=False            True for a table without its type tag, as headers and arguments are
         default=None           what is returned if the path leads nowhere
@@ -268,8 +338,8 @@ def dumps(
 ) -> bytes:
     r"""Returns the bytes of a value, with its type tag. The keys of a table keep their order.
 
-    Raises an Error if the value can't be written: `kind` and `expected` say why, and `path` leads to what can't. An
-    object of a type that has no encoding raises a TypeError.
+    Raises an Error if the value can't be written: `kind` and `expected` say why, and `path` leads to what can't. Of an
+    object whose type has no encoding it is an UnsupportedType, which is a TypeError too.
 
     Options, by name:
 

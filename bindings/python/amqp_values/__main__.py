@@ -9,6 +9,13 @@ from . import MAX_BYTES, Error, from_json, to_json
 # A byte in hexadecimal, what may be between bytes, or the start of what is neither; and what of JSON may control a terminal.
 HEXADECIMAL = re.compile(rb"(?:0x|\\x)?([\da-f]{2})|[\s,:]+|#.*|(\\(?:x[\da-f]?)?|(?:0x)?[\da-f]?)", re.IGNORECASE)
 CONTROL = re.compile("[\x7f-\x9f\u061c\u200e\u200f\u202a-\u202e\u2066-\u2069]")
+# The options in place of what a message says reads other forms.
+READERS = {
+    "bytes.fromhex reads it": "--hex reads it",
+    "from_json reads it": "--encode reads it",
+    "loads, or table=False": "leave out --table",
+    "loads_table, or table=True": "--table reads it",
+}
 
 
 def read_hexadecimal(text: bytes) -> bytes:
@@ -49,9 +56,10 @@ def main() -> None:
         with open(1, "wb", closefd=False) as out:
             out.write(CONTROL.sub(lambda it: f"\\u{ord(it[0]):04x}", f"{text}\n").encode())
     except Error as why:
-        is_hex = why.kind == "unknown tag" and re.match(rb"\s*[\da-fA-F]{2}", data)
-        hint = ": hexadecimal? --hex reads it" if is_hex and not said.hex else ""
-        sys.exit(f"amqp_values: {why}{hint}".replace("loads_table, or table=True", "--table reads it"))
+        message = f"amqp_values: {why}"
+        for call, option in READERS.items():
+            message = message.replace(call, option)
+        sys.exit(message)
     except (ValueError, OSError) as why:
         reader.exit(2, "" if isinstance(why, BrokenPipeError) else f"amqp_values: {why}\n")
 

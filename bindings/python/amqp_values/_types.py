@@ -17,18 +17,22 @@ class Error(ValueError):
     """Raised for bytes or text that can't be read, and for objects that can't be written; says what is wrong, and where.
 
     >>> from amqp_values import loads
-    >>> try:
-    ...     loads(b"S\\0\\0\\0\\5abc")
-    ... except Error as why:
-    ...     print(why)
-    ...     print(why.kind, why.offset, why.expected, why.missing, sep="; ")
+    >>> for data in (b"S\\0\\0\\0\\5abc", b"A\\0\\0\\0\\5S\\0\\0\\0\\1a"):
+    ...     try:
+    ...         loads(data)
+    ...     except Error as why:
+    ...         print(why)
+    ...         print(why.kind, why.offset, why.expected, why.missing, sep="; ")
     cut at 0: expected 2 more bytes
     cut; 0; 2 more bytes; 2
+    cut at 5: expected a whole value inside its container
+    cut; 5; a whole value inside its container; 0
 
     `kind` is a few words that don't change, `offset` how many of the bytes are before the value with the problem, or, of
     what can't be written, how many would be before it. `expected` tells what it should have been. `missing` counts the
-    bytes that the field needs which is cut where the bytes end; it is 0 for all else. `path` leads to what can't be written;
-    the message leaves out the middle of a long one. What an object's own method raised is the `__cause__`.
+    bytes that the field needs which is cut where the bytes end. It is 0 if more bytes can't help, as for a value that is cut
+    by the end of its container. `path` leads to what can't be written; the message leaves out the middle of a long one. What
+    an object's own method raised is the `__cause__`.
     """
 
     path: tuple[Any, ...] = ()
@@ -40,6 +44,16 @@ class Error(ValueError):
     def __str__(self) -> str:
         place = f" (in {_shown_path(self.path)})" if self.path else ""
         return f"{self.kind} at {self.offset}: expected {self.expected}{place}"
+
+
+class UnsupportedType(Error, TypeError):
+    """An `Error` for an object whose type has no encoding; it is a TypeError too.
+
+    >>> from amqp_values import dumps
+    >>> dumps({"hosts": ["a", {1, 2}]})
+    Traceback (most recent call last):
+    amqp_values.UnsupportedType: unsupported type at 22: expected a value of a type that AMQP has, not set (in ['hosts', 1])
+    """
 
 
 def _shown_path(path: tuple[Any, ...]) -> str:

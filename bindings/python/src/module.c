@@ -300,8 +300,10 @@ static PyObject *find(PyObject *module, PyObject *const *arguments, Py_ssize_t c
     if (take(state, "find", PY_SSIZE_T_MAX, READING | FIND, arguments, count, names, &how)) {
         content = begin_reading(&reader, state, &how, arguments[0]);
     }
-    if (content != NULL && read_whole(&reader, &entry)) {
-        made = found_at(&reader, &entry, arguments + 1, count - 1);
+    if (content != NULL) {
+        /* (`keys` is about the value that is found, of which `build` checks them) */
+        reader.in.flags |= AMQPV_ANY_KEYS;
+        made = read_whole(&reader, &entry) ? found_at(&reader, &entry, arguments + 1, count - 1) : NULL;
     }
     Py_XDECREF(content);
     return documented(state, made);
@@ -392,8 +394,8 @@ static PyMethodDef FUNCTIONS[] = {
         loads, "($module, data, /, *, " READ_OPTIONS ")",
         "Returns the value that the bytes encode, with its type tag. No byte may follow it.\n\n"
         "Raises an Error if the bytes aren't such a value, or if it is beyond the limits: `kind`, `offset` and `expected`\n"
-        "say what is wrong and where, and `missing` how many more bytes the cut field needs. Data that isn't bytes, a\n"
-        "bytearray or a memoryview raises a TypeError.\n" HELP_READING
+        "say what is wrong and where, and `missing` how many more bytes the cut field needs, or 0 if more bytes can't help.\n"
+        "Data that isn't bytes, a bytearray or a memoryview raises a TypeError.\n" HELP_READING
         ">>> loads(b'A\\0\\0\\0\\x0cI\\0\\0\\0\\5t\\1S\\0\\0\\0\\0')\n"
         "[LongInt(5), True, '']\n"),
     CALL(
@@ -414,9 +416,12 @@ static PyMethodDef FUNCTIONS[] = {
     CALL(
         find, "($module, data, /, *path, table=False, default=None, " READ_OPTIONS ")",
         "Returns the value at a path: keys into tables, and indexes from 0 into arrays. Returns the default if the path\n"
-        "leads nowhere. Only this value is built, but all of the data is checked as loads, or with table=True loads_table,\n"
-        "checks it, and raises the same errors.\n\n"
-        "Options, by name, and those of loads:\n\n"
+        "leads nowhere.\n\n"
+        "Only this value is built, and checked as loads checks it. Elsewhere in the data find checks type tags, lengths, depth\n"
+        "and max_bytes, and with equal_keys='refuse' that no key repeats; keys and strings there may have any bytes, and\n"
+        "numbers any value. So headers that an adapter delivers aren't rejected for what you don't ask for. The errors are\n"
+        "those of loads.\n\n"
+        "Options, by name, and those of loads, of which keys is also about the keys of the path:\n\n"
         "    table=False            True for a table without its type tag, as headers and arguments are\n"
         "    default=None           what is returned if the path leads nowhere\n\n"
         ">>> data = dumps_table({'x-death': [{'queue': 'orders', 'count': 3}]})\n"
@@ -427,8 +432,9 @@ static PyMethodDef FUNCTIONS[] = {
     CALL(
         dumps, "($module, value, /, *, " WRITE_OPTIONS ")",
         "Returns the bytes of a value, with its type tag. The keys of a table keep their order.\n\n"
-        "Raises an Error if the value can't be written: `kind` and `expected` say why, and `path` leads to what can't. An\n"
-        "object of a type that has no encoding raises a TypeError.\n" HELP_WRITING ">>> dumps([None, ShortInt(-2)])\n"
+        "Raises an Error if the value can't be written: `kind` and `expected` say why, and `path` leads to what can't. Of an\n"
+        "object whose type has no encoding it is an UnsupportedType, which is a TypeError too.\n" HELP_WRITING
+        ">>> dumps([None, ShortInt(-2)])\n"
         "b'A\\x00\\x00\\x00\\x04Vs\\xff\\xfe'\n"),
     CALL(
         dumps_table, "($module, mapping, /, *, " WRITE_OPTIONS ")",
@@ -471,7 +477,9 @@ static int begin(PyObject *module) {
             return -1;
         }
     }
-    if ((state->error = imported(types, "Error")) == NULL || (state->integer = imported(types, "_Integer")) == NULL
+    if ((state->error = imported(types, "Error")) == NULL
+        || (state->unsupported = imported(types, "UnsupportedType")) == NULL
+        || (state->integer = imported(types, "_Integer")) == NULL
         || (state->of_float = imported(types, "Float")) == NULL
         || (state->long_string = imported(types, "LongString")) == NULL
         || (state->encoded = imported(types, "Encoded")) == NULL

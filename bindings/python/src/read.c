@@ -185,7 +185,7 @@ static PyObject *build_value(const Reader *reader, const amqpv_entry *entry) {
 
 static int build_pair(const Reader *reader, const amqpv_entry *entry, PyObject *table) {
     const Options *how = reader->how;
-    PyObject *key = build_text(reader, entry->key, how->keys, NULL, "key not UTF-8", entry->value.offset);
+    PyObject *key = build_text(reader, entry->key, how->keys, NULL, "key not UTF-8", entry->key.offset - 1);
     PyObject *value = key != NULL ? build_value(reader, entry) : NULL;
     int is_put = value != NULL;
     if (is_put && how->equal_keys == FIRST_OF_EQUAL_KEYS) {

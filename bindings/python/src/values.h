@@ -17,7 +17,7 @@ enum { INTEGERS = 7 };
 
 /* What the module has imported: of each interpreter its own. */
 typedef struct {
-    PyObject *error, *integer, *integers[INTEGERS], *of_float, *long_string, *encoded;
+    PyObject *error, *unsupported, *integer, *integers[INTEGERS], *of_float, *long_string, *encoded;
     PyObject *decimal, *as_tuple, *datetime, *utc, *utc_offset, *epoch, *naive_epoch, *timedelta;
     PyObject *mapping, *sequence;
     /* a dict whose only key is empty: CPython has the keys of its copies once */
@@ -74,7 +74,10 @@ void raise_foreign(const State *state, size_t offset);
 /* Puts a step before the path of the Error that was raised, if it is one. */
 void add_step(const State *state, PyObject *step);
 
-/* Raises the TypeError that `what` isn't an object of this type. */
+/* Raises the Error, a TypeError too, that an object which is to be written is of another type than `what` says. */
+void raise_unsupported(const State *state, size_t offset, const char *what, PyObject *object);
+
+/* Raises the TypeError that an object is of another type than `what` says. */
 void raise_type(const State *state, const char *what, PyObject *object);
 
 /* Raises what is wrong with an input that isn't read, before which there are `base` bytes. `without_tag` says what takes a table

@@ -161,7 +161,7 @@ PyObject *key_bytes(const State *state, uint32_t how, PyObject *key, size_t offs
         }
         Py_XDECREF(text);
     } else {
-        raise_type(state, "a key is a str or bytes", key);
+        raise_unsupported(state, offset, "a str or bytes as a key", key);
         return NULL;
     }
     if (kept == NULL) {
@@ -634,7 +634,7 @@ static int put_other(Writer *writer, const Place *place, PyObject *value) {
         return put_container(writer, place, value, 0);
     }
     if (!PyErr_Occurred()) {
-        raise_type(state, "a value is of a type that AMQP has", value);
+        raise_unsupported(state, offset_in(writer, place), "a value of a type that AMQP has", value);
     }
     return 0;
 }
