@@ -1,26 +1,17 @@
--- `IsOutputUpTo`: parts that are written one after another make a prefix of the output. And
--- `has_capacity`: an encoding fits a buffer of its size.
-use Rattle.std.proofs.Common.{◌≡◌, ◌≤◌, ◌<◌, ◌^◌, ℕ, Option, Some, IfSome, List, [], length, Result, IsOk, true, subst, arith, ◌∷◌, ◌++◌, take, drop, ap, ◌∙◌, sym, append_assoc, take-append-drop}
+-- `IsOutputUpTo`: parts that are written one after another make a prefix of the output.
+use Rattle.std.proofs.Common.{◌≡◌, ◌≤◌, ◌<◌, ◌^◌, ℕ, Option, List, [], length, arith, ◌∷◌, ◌++◌, take, drop, ap, ◌∙◌, sym, append_assoc, take-append-drop}
 use Rattle.std.specs.Io.KnownBytes.{Appends}
 use Rattle.std.proofs.KnownBytes.{Appends-trans}
 use Rattle.amqp_value_core.specs.Values.{Tree}
-use Rattle.amqp_value_core.specs.Texts.{text, size, Fits}
+use Rattle.amqp_value_core.specs.Texts.{size, Fits}
 use Rattle.amqp_value_core.specs.Nesting.{WireWithin}
 use Rattle.amqp_value_core.proofs.GrammarLaws.{wire_of, bounded_wire}
 use Rattle.amq_protocol_types.specs.declared.parsing.within.Limits.{Limits}
-use Rattle.amq_protocol_types.specs.declared.generation.error.GenError.{GenError}
-use Rattle.amq_protocol_types.specs.generation.Outputs.{OutputState, Writes}
 use Rattle.amqp_wire.specs.Lines.{line_by, lines_by, AppendsTextPrefix}
 
 -- what was read within limits fits, and is no longer than they allow
 pub read_fits : (l : Limits) (s : List ℕ) (v : Tree) → WireWithin l.depth s v → length s ≤ l.frame → l.frame < 2 ^ 32 → Fits v × (size v < 2 ^ 32)
 read_fits l s v p few small = let b = bounded_wire s v (wire_of l.depth s v p) in (b.fits, omega (arith, b.size, few, small))
-
--- what writes a value's canonical encoding succeeds in a buffer of its size
-pub has_capacity : (v : Tree) {s t : OutputState} {r : Result (Unit {0}) GenError} (n : ℕ) → Writes true (Fits v) (text v) s r t → s.capacity ≡ Some n → Fits v → size v ≤ n → IsOk r
-has_capacity v {r = r} n p capacity fits enough =
-    let P : Option ℕ → Type 0 = λ o. IfSome o (λ m. length (text v) ≤ m → IsOk r) in
-    subst P capacity (p.succeeds fits) (omega arith)
 
 -- a prefix of the output was appended, and this is the rest
 abbrev pub IsOutputUpTo : Option (List ℕ) → Option (List ℕ) → List ℕ → List ℕ → Type 0

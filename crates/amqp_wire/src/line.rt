@@ -10,6 +10,7 @@ ghost use Rattle.hex.specs.Hex.{encode_lower};
 ghost use Rattle.amqp_wire.specs.Lines.{line_by, read_within, said, said_in, said_of_value, said_within, kind_name, IsSaid, IsKnownRefusal};
 
 use amq_protocol_types::AMQPValue;
+use amq_protocol_types::generation::laws::capacity_suffices;
 use amq_protocol_types::generation::{SliceOutput, WriteContext, gen_value};
 use amq_protocol_types::parsing::traits::ParsableInput;
 use amq_protocol_types::parsing::{
@@ -37,6 +38,7 @@ fn hex_of(alloc: Global, value: &AMQPValue, capacity: usize) -> Result<String, A
     requires capacity { size (view value.now) ≤ capacity }
     ensures hex { IfOk result (λ hex. string_bytes hex ≡ encode_lower (text (view value.now))) }
 {
+    capacity_suffices();
     let mut bytes = vec![in alloc; 0; capacity]?;
     let mut context = WriteContext::from(SliceOutput::new(bytes.as_mut_slice()));
     gen_value(value, &mut context).unwrap();
