@@ -547,7 +547,7 @@ def test_other_forms_are_recognized() -> None:
         (lambda: own.dumps([own.Encoded(table)]), f"not byte {untagged} Encoded(b'F' + table)"),
         (lambda: own.loads(digits), "not byte 48: is this hexadecimal text? bytes.fromhex reads it"),
         (lambda: own.loads(b'["a"]'), "not byte 91: is this JSON? from_json reads it"),
-        (lambda: own.loads(field(b"A", b"7")), "not byte 55"),
+        (lambda: own.loads(field(b"A", b"\0")), "not byte 0"),
         (lambda: own.loads_table(digits), "length 808464432: is this hexadecimal text? bytes.fromhex reads it"),
         (lambda: own.loads_table(b'{"a": 1}'), "length 2065850658: is this JSON? from_json reads it"),
         (lambda: own.loads_table(b"F\0\0\0\0"), "1174405120: is this a table with its type tag? loads, or table=False"),
