@@ -67,7 +67,7 @@ class Channel:
         self.calls.append(f"ack {tag}")
 
 
-def test_handler_of_the_readme(capsys: pytest.CaptureFixture[str]) -> None:
+def test_handler_of_the_readme(capsys: pytest.CaptureFixture[str], caplog: pytest.LogCaptureFixture) -> None:
     """It rejects a message of 500 levels of headers, takes the next one, and prints what the page shows."""
     page = (TOP / "README.md").read_text()
     ((code, shown),) = re.findall(r"```python\n(from .*?)```.*?```console\n(.*?)```", page, re.DOTALL)
@@ -80,4 +80,5 @@ def test_handler_of_the_readme(capsys: pytest.CaptureFixture[str]) -> None:
             names["on_message"](channel, spec.Basic.Deliver(delivery_tag=tag), properties, body)
     finally:
         adapter.uninstall()
-    assert (channel.calls, capsys.readouterr().out) == (["reject 1 False", "ack 2"], shown)
+    printed = "".join(f"{it}\n" for it in caplog.messages) + capsys.readouterr().out
+    assert (channel.calls, printed) == (["reject 1 False", "ack 2"], shown)
