@@ -70,11 +70,6 @@ def test_headers_are_read_as_by_the_adapter(example: dict[str, Any], seed: int) 
     assert refusals > 100
 
 
-def test_a_refused_table_leaves_the_frame(example: dict[str, Any]) -> None:
-    found = properties_of(field(b"", b"\1a" + nested("A", 500, b""))).headers
-    assert isinstance(found, example["RefusedHeaders"]) and found.problem.kind == "too deep"
-
-
 class Channel:
     """What the handler of README.md calls, in order."""
 

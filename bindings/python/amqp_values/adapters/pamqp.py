@@ -89,7 +89,12 @@ class Pamqp(Client):
         if not find_spec("aio_pika"):
             return {}
         message = import_module("aio_pika").Message
-        return {"message of aio-pika": lambda it: write_header(message(b"", headers=it).properties.headers)}
+
+        def write(headers: Any) -> bytes:
+            # (as an application does it that has the headers of another message)
+            return write_header(message(b"", headers=message(b"", headers=headers).headers).properties.headers)
+
+        return {"message of aio-pika": write}
 
 
 def write_header(headers: Any) -> bytes:
