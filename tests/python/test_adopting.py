@@ -1,16 +1,22 @@
 """The examples of README.md and docs/ADOPTING.md for pika, in pika's own frames, without a broker."""
 
 import re
+from random import Random
 from typing import Any
 
 import pika.data
 import pytest
+from amqp_values import Timestamp
 from amqp_values.adapters import pika as adapter
 from dependencies import TOP
 from pika import frame, spec
+from pika.exceptions import InvalidFieldTypeException
 
 from tests.model.encoding import field
 from tests.model.inputs import captured, nested
+from tests.model.tables import odd_table
+from tests.python.codecs import codec
+from tests.rabbitmq.seen import LAST_SECOND, VERSIONS
 
 
 @pytest.fixture
@@ -32,26 +38,36 @@ def properties_of(table: bytes) -> Any:
     return header.properties
 
 
-def test_headers_are_read_as_by_pika(example: dict[str, Any]) -> None:
-    for name, data in captured().items():
-        if name.startswith("x-death"):
-            assert properties_of(data[1:]).headers["x-death"][0]["count"] >= 1, name
+def shown(value: Any) -> Any:
+    """A value as pika's adapter has it, by texts."""
+    if isinstance(value, (dict, list)):
+        return [(key, shown(it)) for key, it in (value.items() if isinstance(value, dict) else enumerate(value))]
+    if isinstance(value, Timestamp) and value <= LAST_SECOND:
+        value = value.as_datetime().replace(tzinfo=None)
+    return repr(value) if isinstance(value, str) else str(bytes(value) if isinstance(value, bytes) else value)
 
 
-@pytest.mark.parametrize(
-    ("table", "kind"),
-    [
-        (field(b"", b"\1a" + nested("A", 500, b"")), "too deep"),
-        (field(b"", b"\1aV\1aV"), "equal keys"),
-        (field(b"", b"\1\xffV"), "key not UTF-8"),
-        (field(b"", b"\1a?"), "unknown tag"),
-        (field(b"", b"\1aS\0\0\0\5a"), "cut"),
-    ],
-)
-def test_headers_are_refused(example: dict[str, Any], table: bytes, kind: str) -> None:
-    """The frame is read on after a table that is refused."""
-    found = properties_of(table).headers
-    assert isinstance(found, example["RefusedHeaders"]) and found.problem.kind == kind
+def outcome(read: Any, data: bytes, at: int) -> Any:
+    try:
+        headers, end = read(data, at)
+    except InvalidFieldTypeException:
+        return "cut"
+    problem = getattr(headers, "problem", None)
+    return end, bool(headers), problem and problem.kind, shown({**headers})
+
+
+def test_headers_are_read_as_by_the_adapter(example: dict[str, Any], seed: int) -> None:
+    """What is captured, and odd tables, whole and cut: the same values, refusals, ends and exceptions."""
+    make, by_adapter, refusals = Random(seed), codec(VERSIONS["pika 1.2.0"], equal_keys="refuse").read, 0
+    tables = [it[1:] for it in captured().values()] + [odd_table(make)[1:] for _ in range(1000)]
+    for table in (*tables, *(it[: make.randrange(len(it) + 1)] for it in tables)):
+        before = make.randbytes(make.randrange(5))
+        found, wanted = (
+            outcome(it, before + table + b"..", len(before)) for it in (example["decode_table"], by_adapter)
+        )
+        assert found == wanted, table
+        refusals += found != "cut" and found[2] is not None
+    assert refusals > 100
 
 
 class Channel:
@@ -67,7 +83,7 @@ class Channel:
         self.calls.append(f"ack {tag}")
 
 
-def test_handler_of_the_readme(capsys: pytest.CaptureFixture[str]) -> None:
+def test_handler_of_the_readme(capsys: pytest.CaptureFixture[str], caplog: pytest.LogCaptureFixture) -> None:
     """It rejects a message of 500 levels of headers, takes the next one, and prints what the page shows."""
     page = (TOP / "README.md").read_text()
     ((code, shown),) = re.findall(r"```python\n(from .*?)```.*?```console\n(.*?)```", page, re.DOTALL)
@@ -80,4 +96,5 @@ def test_handler_of_the_readme(capsys: pytest.CaptureFixture[str]) -> None:
             names["on_message"](channel, spec.Basic.Deliver(delivery_tag=tag), properties, body)
     finally:
         adapter.uninstall()
-    assert (channel.calls, capsys.readouterr().out) == (["reject 1 False", "ack 2"], shown)
+    printed = "".join(f"{it}\n" for it in caplog.messages) + capsys.readouterr().out
+    assert (channel.calls, printed) == (["reject 1 False", "ack 2"], shown)

@@ -6,23 +6,16 @@ import sys
 import traceback
 import warnings
 from collections.abc import Callable, Iterator
+from copy import copy
 from importlib import import_module, metadata
 from itertools import count
 from types import ModuleType, SimpleNamespace
 from typing import Any
 
 import pytest
-from amqp_values.adapters import (
-    Headers,
-    IncompatibleClient,
-    Refused,
-    UntestedVersion,
-    pamqp,
-    pika,
-    pyamqp,
-    self_check,
-    shared,
-)
+from amqp_values import Error
+from amqp_values.adapters import Headers, IncompatibleClient, Refused, UntestedVersion, refused
+from amqp_values.adapters import frames, pamqp, pika, pyamqp, self_check, shared
 
 from tests.values import error_of
 
@@ -119,21 +112,26 @@ def test_a_failed_install_changes_nothing(name: str, is_installed: bool) -> None
 def test_options(name: str) -> None:
     """By the client's own frames, one install after another."""
     adapter, _, packages = ADAPTERS[name]
-    own, header = bindings(packages), adapter.client.frames()["header"]
+    own, (header, method) = bindings(packages), adapter.client.frames().values()
     by_itself = header.read(TWICE)
     adapter.install()
     assert isinstance(header.read(DEEP), Refused) and type(header.read(TWICE)) is Headers
-    came, refused = header.read(TWICE), header.read(DEEP)
+    came, deep = header.read(TWICE), header.read(DEEP)
     assert came == {"a": None} == by_itself
-    for it in (came, refused):
-        assert adapter.client.frames()["method"].write(it) == it.raw
+    for it in (came, deep):
+        assert method.write(it) == header.write(copy(it)) == header.write(it.copy()) == it.raw
         it["a"] = 3
-        assert header.write(it) == header.write({"a": 3})
+    assert header.write(came) == header.write({"a": 3})
+    # (the others would be lost)
+    unwritten = type(adapter.client.unwritten(TypeError(), {}))
+    assert error_of(lambda: header.write(deep)) is error_of(lambda: header.write(deep.copy())) is unwritten
     adapter.install(depth=71, equal_keys="first", exact=False)
     assert header.read(TWICE) == {"a": True} and type(header.read(TWICE)) is dict is type(header.read(DEEP))
     adapter.install(equal_keys="refuse")
     assert isinstance(header.read(TWICE), Refused) and header.write(header.read(TWICE)) == TWICE
-    assert error_of(lambda: adapter.install(depth=513)) and isinstance(header.read(TWICE), Refused)
+    for wrong in ({"depth": 513}, {"depth": 0}, {"max_bytes": 4}, {"on_refused": 1}):
+        assert error_of(lambda: adapter.install(**wrong)) in (Error, TypeError), wrong
+    assert isinstance(header.read(TWICE), Refused)
     adapter.install(max_bytes=10)
     assert isinstance(header.read(self_check.of((b"long", b"V"))), Refused)
     adapter.install(raises=True)
@@ -149,6 +147,39 @@ def test_options(name: str) -> None:
     adapter.uninstall()
     adapter.uninstall()
     assert changed(own, bindings(packages)) == [] and header.read(TWICE) == by_itself
+
+
+# What is refused by equal_keys="refuse" and max_bytes=600: a table, and the byte at which its problem is.
+PROBLEMS = {
+    "unknown tag": (self_check.of((b"a", b"V"), (b"k", b"?")), b"?"), "cut": (self_check.of((b"k", b"S\0\0\0\5abcd")), b"S"),
+    "too deep": (DEEP, b"F"), "equal keys": (TWICE, b"\1"), "too large": (self_check.of((b"k", b"x" + bytes(700))), b"\0"),
+    "key cut": (self_check.of((b"k", b"A\0\0\0\7F\0\0\0\2\5ab")), b"\5"),
+}  # fmt: skip
+
+
+def test_what_is_refused(name: str, caplog: pytest.LogCaptureFixture, monkeypatch: pytest.MonkeyPatch) -> None:
+    """Its offset is in its bytes, whatever is before them; `on_refused` gets it, or a warning is logged, once a minute."""
+    adapter, came, how = ADAPTERS[name][0], list[Refused](), {"equal_keys": "refuse", "max_bytes": 600}
+    read = adapter.client.frames()["header"].read
+    adapter.install(on_refused=came.append, **how)
+    for kind, (table, byte) in PROBLEMS.items():
+        found = read(table)
+        at = found.problem.offset
+        assert (found.problem.kind, found.raw, found.raw[at : at + 1]) == (kind, table, byte) and came.pop() is found
+    assert read(DEEP).problem.offset == 223 and not caplog.records
+    adapter.install(on_refused=lambda it: it["no such key"], **how)
+    assert isinstance(read(DEEP), Refused) and "on_refused raised" in caplog.text
+    caplog.clear()
+    adapter.install(**how)
+    for seconds, count_of in ((0, 2), (59, 2), (60, 4)):
+        monkeypatch.setattr(shared, "monotonic", lambda: 1000.0 + seconds)
+        assert [read(it) for it in (DEEP, TWICE, DEEP)] and len(caplog.records) == count_of
+    assert "refused a table of 487 bytes: too deep at 223: expected" in caplog.messages[0]
+    # (tests/rabbitmq has messages of each client)
+    if name == "pamqp":
+        assert refused(import_module("aio_pika").Message(b"", headers=read(DEEP)).headers)
+    assert refused(None) is refused({}) is refused(Headers(a=1).copy()) is None
+    assert error_of(lambda: refused(b"body")) is TypeError
 
 
 # Strings that the broker delivers next to headers, as a routing key, and as properties that a consumer answers with.
@@ -282,6 +313,10 @@ def test_the_message_has_what_differs(monkeypatch: pytest.MonkeyPatch) -> None:
     with pytest.raises(IncompatibleClient, match="headers in a header come as dict; "):
         pika.install()
     monkeypatch.undo()
+    monkeypatch.setattr(import_module("pika.data"), "decode_table", lambda encoded, offset: ({}, len(encoded) - 1))
+    with pytest.raises(IncompatibleClient, match=rf"reads {{}} in .*; not .* pika.data.decode_table \(of {__name__}\)"):
+        pika.install()
+    monkeypatch.undo()
     CHANGES["pyamqp, another type"][1](monkeypatch)
     with pytest.raises(IncompatibleClient, match=r"D in a header was float 3.14 and is Decimal Decimal\('3.14'\)"):
         pyamqp.install()
@@ -295,7 +330,15 @@ def test_help_has_each_option() -> None:
     text = str(inspect.getdoc(shared.Client.install))
     options = [it for it in inspect.signature(shared.Client.install).parameters.values() if it.kind is it.KEYWORD_ONLY]
     shown = [f"{it.name}={json.dumps(it.default) if isinstance(it.default, str) else it.default}" for it in options]
-    assert len(shown) == 5 and not [it for it in shown if f"\n    {it} " not in text]
+    assert len(shown) == 6 and not [it for it in shown if f"\n    {it} " not in text]
+
+
+def test_a_missing_client(name: str, monkeypatch: pytest.MonkeyPatch) -> None:
+    client = next(iter(ADAPTERS[name][0].client.tested))
+    monkeypatch.setitem(vars(sys)["modules"], client, None)
+    monkeypatch.delitem(sys.modules, f"amqp_values.adapters.{name}")
+    with pytest.raises(ModuleNotFoundError, match=f"pip install {client}$"):
+        import_module(f"amqp_values.adapters.{name}")
 
 
 # Versions
@@ -319,6 +362,7 @@ def test_versions(name: str, monkeypatch: pytest.MonkeyPatch) -> None:
 
     monkeypatch.setattr(metadata, "version", version)
     with pytest.warns(UntestedVersion, match="99.1") as came:
+        adapter.install()
         adapter.install()
     assert len(came) == 1 and came[0].filename == __file__ and all(it in str(came[0].message) for it in found)
     found = dict.fromkeys(found)

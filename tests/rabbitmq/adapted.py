@@ -13,6 +13,7 @@ from datetime import datetime, timedelta, timezone
 from decimal import Decimal
 from functools import partial
 from importlib import import_module
+from types import MappingProxyType
 from typing import Any
 
 # What is waited for at most, in seconds.
@@ -54,6 +55,8 @@ KEYS: dict[str, Any] = {
     "keys": {"z": 1, "a": 2, "m": 3, "Z": 4, "": 5},
     "key of 85 characters": {"漢" * 85: 1},
 }
+
+
 # What has no encoding, or none that RabbitMQ takes.
 WRONG: dict[str, Any] = {
     **{f"integer {it}": {"v": it} for it in (2**63, -(2**63) - 1, 2**70)},
@@ -64,6 +67,20 @@ WRONG: dict[str, Any] = {
     "33 tables": deep(33), "200 lists": {"v": deep(200, True)}, "3000 tables": deep(3000),
     "inside": {"v": [{"k": object()}]},
 }  # fmt: skip
+def typed(came: dict[Any, Any]) -> Iterator[dict[Any, Any]]:
+    """Headers with a value of each type, on top and nested: plain ones, and some that came."""
+    import amqp_values as av
+
+    # (int and bytes are sent by types of each client)
+    for it in (
+        True, None, "grüß", av.ShortShortInt(-5), av.ShortShortUInt(5), av.ShortInt(-5), av.ShortUInt(5), av.LongInt(-5), av.LongUInt(5),
+        1.5, av.Float(0.1), Decimal("-1.5"), av.LongString(b"\xff"), av.Encoded(b"b\xff"), av.Encoded(b"S\0\0\0\1\xff"), av.Timestamp(5),
+        WHEN.replace(tzinfo=ZONE), bytearray(b"\xff"), memoryview(b"\xff"), [None], (None,), {"k": None}, MappingProxyType({"k": None}),
+    ):  # fmt: skip
+        for value in (it, {"k": [it]}):
+            found = came.copy()
+            found["v"] = value
+            yield from ({"v": value}, found)
 
 
 def sent() -> Iterator[tuple[str, dict[Any, Any]]]:
@@ -271,7 +288,13 @@ def arguments(session: Session, given: Any) -> Any:
     return [repr(client.server_properties), type(client.server_properties).__name__]
 
 
-JOBS = {"publish": publish, "wrong": wrong, "read": read, "arguments": arguments}
+def types(session: Session, given: Any) -> Any:
+    """Sends headers with a value of each type, plain ones and the headers of a message; how many."""
+    came = session.now().get(given["from"])
+    return len([session.now().publish("", given["to"], it) for it in typed(came)])
+
+
+JOBS = {"types": types, "publish": publish, "wrong": wrong, "read": read, "arguments": arguments}
 
 
 def main() -> None:

@@ -40,7 +40,8 @@ def pytest_configure(config: pytest.Config) -> None:
 def pytest_generate_tests(metafunc: pytest.Metafunc) -> None:
     if "broker" in metafunc.fixturenames:
         named = metafunc.config.getoption("--rabbitmq") or [DEBIAN_13]
-        versions = getattr(metafunc.module, "RABBITMQ", named)
+        marker = metafunc.definition.get_closest_marker("rabbitmq")
+        versions = marker.args if marker else getattr(metafunc.module, "RABBITMQ", named)
         metafunc.parametrize("broker", versions, indirect=True, scope="session")
     root = metafunc.config.getoption("--clients")
     roots = {f"clients of {root}": Path(root)} if root else {"Debian 12": Path("/"), "Debian 13": ROOTS[DEBIAN_13]}
@@ -73,10 +74,6 @@ class Debian(NamedTuple):
 
     words: list[str]
     env: dict[str, str]
-
-    @property
-    def has_aio_pika_8(self) -> bool:
-        return "PYTHONHOME" not in self.env
 
     def said(self, script: str) -> str:
         """What a script prints."""

@@ -19,8 +19,8 @@ def raw_frame(kind: int, payload: bytes) -> bytes:
 
 
 def header_payload(table: bytes) -> bytes:
-    """The payload of a content header whose only property is its headers."""
-    return b"\0\x3c" + bytes(10) + b"\x20\0" + table
+    """The payload of a content header whose properties are a content type and its headers."""
+    return b"\0\x3c" + bytes(10) + b"\xa0\0\x0atext/plain" + table
 
 
 def header_frame(table: bytes) -> bytes:

@@ -1,4 +1,4 @@
-"""`Headers`, which an application gets from a client with an adapter, and `Refused`, for a table that isn't read."""
+"""`Headers`, which an application gets from a client with an adapter, `Refused`, for a table that isn't read, and `refused`."""
 
 from collections.abc import Mapping
 from typing import Any
@@ -9,21 +9,21 @@ from amqp_values import Error
 class Headers(dict[Any, Any]):
     """A message's headers: a `dict` that also keeps the bytes it was read from, as `raw`.
 
-    If it is published unchanged, these bytes are sent. They take memory for as long as the headers exist. A copy by `dict` or
-    by pickling has no `raw`.
+    If you publish it, each header that you haven't changed is sent as the bytes that came. Without any change all of `raw` is sent.
+    `raw` takes memory for as long as the headers exist. `copy` keeps it; copies by `dict`, `copy.deepcopy` and pickling don't.
     """
 
     __slots__ = ("raw",)
     raw: bytes
 
-    @classmethod
-    def of(cls, table: Mapping[Any, Any], raw: bytes) -> "Headers":
-        found = cls(table)
-        found.raw = raw
+    def copy(self) -> "Headers":
+        found = Headers(self)
+        if hasattr(self, "raw"):
+            found.raw = self.raw
         return found
 
-    def copy(self) -> "Headers":
-        return Headers.of(self, self.raw)
+    def __copy__(self) -> "Headers":
+        return self.copy()
 
     def __reduce__(self) -> tuple[Any, ...]:
         return dict, (dict(self),)
@@ -32,8 +32,9 @@ class Headers(dict[Any, Any]):
 class Refused(Headers):
     """The headers of a message whose table was refused: a `dict` with no entries that is true nevertheless.
 
-    `problem` is the `Error` that says what is wrong, and `raw` has the table's bytes. Reject such a message without requeue,
-    or publish it again with the same headers, which sends these bytes.
+    `problem` is the `Error` that says what is wrong, and `raw` has the table's bytes; `problem.offset` counts these. Reject such a
+    message without requeue, or publish it again with the same headers, which sends these bytes. If you add headers to it, publishing it
+    raises the client's exception, since the others would be lost.
     """
 
     __slots__ = ("problem",)
@@ -57,3 +58,26 @@ class Refused(Headers):
 
     def __reduce__(self) -> tuple[Any, ...]:
         return Refused, (self.problem, self.raw)
+
+
+# The attributes that lead to headers from what a client gives to an application: from pika's properties and the messages of py-amqp, kombu
+# and aio-pika; in aio-pika 8 from a message, and from the mapping that it has as `headers`; and from a message of aiormq.
+PATHS = (("headers",), ("headers", "_headers"), ("_headers",), ("header", "properties", "headers"))
+
+
+def refused(message: Any) -> Refused | None:
+    """Returns the `Refused` that a message has in place of its headers, or None if its headers were read or it has none.
+
+    It takes the properties of pika, a message of any other client, or the headers of either.
+    """
+    if message is None or isinstance(message, Refused):
+        return message
+    for path in PATHS:
+        found = message
+        for name in path:
+            found = getattr(found, name, None)
+        if isinstance(found, Refused):
+            return found
+    if not isinstance(message, Mapping) and not any(hasattr(message, path[0]) for path in PATHS):
+        raise TypeError(f"a message, its properties or its headers are needed, not {type(message).__name__}")
+    return None

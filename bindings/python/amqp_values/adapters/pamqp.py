@@ -5,22 +5,24 @@ what pamqp does, before it sends anything.
 """
 
 from calendar import timegm
-from collections.abc import Callable
+from collections.abc import Callable, Mapping, Sequence
 from datetime import datetime
+from decimal import Decimal
 from importlib import import_module
 from importlib.util import find_spec
 from time import struct_time
 from typing import Any
 
-import pamqp.decode
-import pamqp.encode
-from pamqp import commands, frame
-from pamqp.header import ContentHeader
-
-from amqp_values import Error, LongString, Timestamp
+from amqp_values import Encoded, Error, LongString, Timestamp
 from amqp_values.adapters.frames import Frame, header_frame, start_frame, table_in
 from amqp_values.adapters.headers import Headers
-from amqp_values.adapters.shared import Client, Codec, Places
+from amqp_values.adapters.shared import Client, Codec, Places, client_named
+
+with client_named("pamqp"):
+    import pamqp.decode
+    import pamqp.encode
+    from pamqp import commands, frame
+    from pamqp.header import ContentHeader
 
 
 class Undecoded(bytearray):
@@ -34,6 +36,7 @@ class Pamqp(Client):
         "aio-pika": ("8.2.5", "9.5.5", "9.5.6"),
     }
     otherwise = ("U",)
+    modules = ("pamqp.decode", "pamqp.encode", "pamqp.base", "pamqp.frame")
     keys = "surrogateescape"
     how = {"integers": "smallest", "ascending": True, "bytes_are_text": True, "bytearrays": True}
 
@@ -66,7 +69,7 @@ class Pamqp(Client):
         self.places.put_everywhere(pamqp.encode, "field_table", encode_table)
         self.places.put(pamqp.encode.METHODS, "table", encode_table)
         take_any_properties(self.places)
-        for name, change in {"aiormq": check_before_sending, "aio_pika": keep_class_of_headers}.items():
+        for name, change in {"aiormq": check_before_sending, "aio_pika": keep_types}.items():
             if find_spec(name):
                 change(self.places)
 
@@ -86,7 +89,12 @@ class Pamqp(Client):
         if not find_spec("aio_pika"):
             return {}
         message = import_module("aio_pika").Message
-        return {"message of aio-pika": lambda it: write_header(message(b"", headers=it).properties.headers)}
+
+        def write(headers: Any) -> bytes:
+            # (as an application does it that has the headers of another message)
+            return write_header(message(b"", headers=message(b"", headers=headers).headers).properties.headers)
+
+        return {"message of aio-pika": write}
 
 
 def write_header(headers: Any) -> bytes:
@@ -147,15 +155,26 @@ def check_before_sending(places: Places) -> None:
     places.put(channel, "rpc", rpc)
 
 
-def keep_class_of_headers(places: Places) -> None:
-    """Has aio-pika keep headers that came, in `headers_raw` of a message, where it makes a `float` a text of JSON."""
+def is_written(value: Any) -> bool:
+    """Whether the package writes a value that aio-pika before 9 would make a text of JSON or a byte array."""
+    if isinstance(value, bytes):
+        return isinstance(value, (Encoded, LongString))
+    return isinstance(value, (float, Decimal, memoryview, Mapping, Sequence))
+
+
+def keep_types(places: Places) -> None:
+    """Has aio-pika send each value by its type, and keep headers that came: `headers_raw` of a message, and what `headers` shows."""
     message = import_module("aio_pika.message")
     if not hasattr(message, "format_headers"):
-        # (from 9 on aio-pika keeps headers as they came)
+        # (from 9 on aio-pika keeps headers as they are)
         return
-    format_others = message.format_headers
+    convert, format_others, proxy = message.header_converter, message.format_headers, message.HeaderProxy
+
+    def header_converter(value: Any) -> Any:
+        return value if is_written(value) else convert(value)
 
     def format_headers(headers: Any) -> Any:
+        headers = headers._headers if type(headers) is proxy else headers
         if not isinstance(headers, Headers):
             return format_others(headers)
         found = headers.copy()
@@ -164,6 +183,7 @@ def keep_class_of_headers(places: Places) -> None:
             found[key] = Undecoded(value) if type(value) is bytes else value
         return found
 
+    places.put_everywhere(message, "header_converter", header_converter)
     places.put_everywhere(message, "format_headers", format_headers)
 
 

@@ -3,18 +3,20 @@
 from decimal import Decimal
 from typing import Any
 
-import pika.data
-from pika import exceptions, frame, spec
-from pika.compat import long
-
 from amqp_values import Encoded, Error, dumps
 from amqp_values.adapters.frames import Frame, header_frame, start_frame, table_in
-from amqp_values.adapters.shared import Client, Codec
+from amqp_values.adapters.shared import Client, Codec, client_named
+
+with client_named("pika"):
+    import pika.data
+    from pika import exceptions, frame, spec
+    from pika.compat import long
 
 
 class Pika(Client):
     tested = {"pika": ("1.2.0", "1.3.2", "1.4.4")}
     otherwise = ("l", "L", "f", "d")
+    modules = ("pika.data", "pika.spec", "pika.frame")
     # The type tag of a negative number that has more than 32 bits: L in 1.3.
     negative = b"l"
 

@@ -6,15 +6,16 @@ from contextlib import suppress
 from functools import lru_cache
 from typing import Any
 
-import amqp.abstract_channel
-import amqp.sasl
-from amqp import serialization
-from amqp.basic_message import Message
-from amqp.exceptions import FrameSyntaxError
-
 from amqp_values import Error
 from amqp_values.adapters.frames import Frame, header_payload
-from amqp_values.adapters.shared import Client, Codec
+from amqp_values.adapters.shared import Client, Codec, client_named
+
+with client_named("amqp"):
+    import amqp.abstract_channel
+    import amqp.sasl
+    from amqp import serialization
+    from amqp.basic_message import Message
+    from amqp.exceptions import FrameSyntaxError
 
 
 def text_of(content: Any) -> Any:
@@ -39,6 +40,7 @@ def parts_of(format: str | bytes) -> list[str]:
 class PyAmqp(Client):
     tested = {"amqp": ("5.1.1", "5.3.1")}
     otherwise = ("s",)
+    modules = ("amqp.serialization", "amqp.basic_message")
     keys = "surrogateescape"
     how = {"integers": "py-amqp", "bytes_are_text": True, "short_decimals": True}
 

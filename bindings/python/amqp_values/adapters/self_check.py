@@ -1,6 +1,7 @@
 """The self-check of `install`: `differences` compares what a client reads and writes with its adapter and without."""
 
-from collections.abc import Callable, Iterator
+import sys
+from collections.abc import Callable, Iterable, Iterator
 from datetime import datetime
 from decimal import Decimal
 from typing import Any, Protocol
@@ -58,13 +59,21 @@ WRITTEN = {
 DEEP, CUT = deep(33), b"\0\0\1\0\1kV"
 
 
+def value_read(frame: Frame, value: bytes) -> Any:
+    """What a client reads for a value in a frame."""
+    table = frame.read(of((b"k", value)))
+    if "k" not in table:
+        raise LookupError(f"the client by itself reads {table!r} in a table whose only key is k")
+    return table["k"]
+
+
 def probed(client: CheckedClient) -> dict[str, str]:
     """What a client reads and writes for each probe in each frame."""
     found = {}
     for name, frame in client.frames().items():
         for it, value in READ.items():
             if it not in client.otherwise:
-                read = frame.read(of((b"k", value)))["k"]
+                read = value_read(frame, value)
                 found[f"{it} in a {name}"] = f"{type(read).__name__} {read!r}"
         for it, given in WRITTEN.items():
             found[f"{it} sent in a {name}"] = frame.write({"k": given}).hex()
@@ -100,6 +109,20 @@ def broken_promises(client: CheckedClient) -> Iterator[str]:
         ):
             if type(error := raised(call)) is not type(wanted):
                 yield f"{what} in a {name} raises {error!r}, not {type(wanted).__name__}"
+
+
+def foreign_in(modules: Iterable[str]) -> Iterator[str]:
+    """What isn't a client's own in its modules and their classes, neither of its package nor of Python's library."""
+    for name in modules:
+        own = {name.partition(".")[0], *sys.stdlib_module_names}
+        found = vars(sys.modules[name])
+        classes = [(key, it) for key, it in found.items() if isinstance(it, type) and it.__module__ == name]
+        for where, names in ((name, found), *((f"{name}.{key}", vars(it)) for key, it in classes)):
+            for key, it in names.items():
+                # (what wraps a function says that it is this function, but has other globals)
+                home = getattr(it, "__globals__", {}).get("__name__", type(it).__module__)
+                if home.partition(".")[0] not in own:
+                    yield f"{where}.{key} (of {home})"
 
 
 def differences(client: CheckedClient, before: dict[str, str]) -> Iterator[str]:
