@@ -1,12 +1,13 @@
 /*
  * Makes calls of amqp_values.h at sizes that are real or at the limits of the format: a table of a million pairs with
- * one key, an array of a million values, a path through 100,000 arrays, and strings and bodies of 2^32 bytes.
+ * one key, an array of a million values, a path through 100,000 arrays, a string of 20 MiB for the calls that allocate,
+ * and strings and bodies of 2^32 bytes.
  * test_programs.py runs it. What is read ends where a page begins that can't be accessed. Prints how many calls it
  * made.
  */
 #include "check.h"
 
-enum { MANY = 1000000, LEVELS = 100000 };
+enum { MANY = 1000000, LEVELS = 100000, LONG = 20 << 20 };
 
 static unsigned calls;
 static amqpv_input in;
@@ -93,6 +94,29 @@ static void try_levels(void) {
     calls++;
 }
 
+/* {"b": "aa..", "a": null}, whose keys descend, so that each of the four calls allocates. */
+static void try_calls_that_allocate(void) {
+    static uint8_t bytes[LONG + 10], back[LONG + 15];
+    static char json[LONG + 20];
+    uint8_t *body = new_body(AMQPV_TABLE, LONG + 10);
+    size_t length;
+    amqpv_warnings warnings;
+    memset(body, 'a', LONG + 10);
+    memcpy(body, "\1bS", 3);
+    write_length(body + 3, LONG);
+    memcpy(body + LONG + 7, "\1aV", 3);
+    CHECK(amqpv_canonical(&in, back, sizeof back, &length) == AMQPV_OK && length == LONG + 15);
+    CHECK(memcmp(back + 5, "\1aV\1bS", 6) == 0 && memcmp(back + 11, body + 3, LONG + 4) == 0);
+    CHECK(amqpv_to_json(&in, json, sizeof json, &length) == AMQPV_OK && length == LONG + 17);
+    CHECK(memcmp(json, "{\"a\":null,\"b\":\"", 15) == 0 && strcmp(json + LONG + 14, "a\"}") == 0);
+    memcpy(bytes, back, sizeof bytes);
+    memset(back, 0, sizeof back);
+    CHECK(amqpv_from_json(json, length, 1, back, sizeof back, &length, NULL) == AMQPV_OK && length == LONG + 15);
+    CHECK(memcmp(bytes, back, sizeof bytes) == 0 && back[LONG + 14] == 'a');
+    CHECK(amqpv_warn(&in, 0, 1, &warnings) == AMQPV_OK && warnings.count == 0);
+    calls += 4;
+}
+
 /* Strings of 2^32 bytes and of one less, and a body of 2^32 bytes. The pages of zeros take no memory until they are written. */
 static void try_two_to_32(void) {
     const size_t large = ((size_t)1 << 32) + 4096;
@@ -126,6 +150,7 @@ int main(void) {
     try_equal_keys();
     try_indexes();
     try_levels();
+    try_calls_that_allocate();
     try_two_to_32();
     printf("%u calls\n", calls);
     return 0;
