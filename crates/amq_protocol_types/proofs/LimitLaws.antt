@@ -58,9 +58,11 @@ read_again l s rest v bytes (few, x) = λ t.
 what_was_read : (l : Limits) (s rest : List ℕ) (v : Tree) → IsBytes s → Within l s (found v rest) → IsReadWithin l (length s - length rest) v
 what_was_read l s rest v bytes x =
     let f = prefix_within l.depth s rest v x.1 in
+    let w = wire_of l.depth f.0 v f.1 in
     let taken : length f.0 ≡ length s - length rest = omega (arith, ap length f.2, length-append f.0 rest) in
     record {
-      bounded = subst (λ (n : ℕ). IsWritableIn n v) taken (bounded_wire f.0 v (wire_of l.depth f.0 v f.1));
+      frame = omega (arith, x.0, taken, ap extent f.2, wire_extent f.0 rest v w);
+      bounded = subst (λ (n : ℕ). IsWritableIn n v) taken (bounded_wire f.0 v w);
       depth = depth_within l.depth f.0 v f.1;
       read_again = read_again l s rest v bytes x;
       shortest = shortest_within l.depth v;

@@ -4,7 +4,7 @@
 pub mod Outputs
 -- what a `WriteContext` is viewed as (10 lines)
 pub mod Contexts
--- what is promised of a value that was read, and of one that was written (16 lines)
+-- what is promised of a value that was read, and of one that was written (18 lines)
 pub mod Written
 -- what a buffer's calls do to it
 pub mod BufferOutput

@@ -2,10 +2,6 @@
 -- in it, and five for each level of containers.
 use Rattle.std.proofs.Common.{◌≡◌, ◌≤◌, ◌+◌, ◌*◌, ℕ, suc, max, List, ◌++◌, length, Option, Some, refl, subst, arith, length-append}
 use Rattle.std.specs.Option.{IfSome}
-use Rattle.std.specs.Ordering.{nat_cmp, match_ordering}
-use Rattle.std.specs.Cmp.Lexicographic.{slice_cmp}
-use Rattle.std.specs.declared.cmp.Ordering.{Ordering}
-use Rattle.std.specs.declared.cmp.Ordering.TheVariants.{Less, Equal, Greater}
 use Rattle.amqp_value_core.specs.declared.types.amqp_type.AMQPType.{AMQPType}
 use Rattle.amqp_value_core.specs.declared.types.amqp_type.AMQPType.TheVariants as amqp
 use Rattle.amqp_value_core.specs.Values.{Tree, Trees, Entries, no_entries, entry, scalar_type, depth, count, greatest_depth, entries_depth, count_all, entries_count}
@@ -14,9 +10,10 @@ use Rattle.amqp_value_core.specs.Layouts.{Layout, fixed, width_of}
 use Rattle.amqp_value_core.specs.Grammar.{Wire, wire, Raw, raw_fixed, raw_short, raw_long, raw_octets, raw_array, raw_table, ArrayBody, no_values, value, TableBody, no_pairs, pair}
 use Rattle.amqp_value_core.specs.Texts.{size, body_size, pairs_size}
 use Rattle.amqp_value_core.proofs.Spelling.{size_of_scalar, body_size_more, pairs_size_more}
+use Rattle.amqp_value_core.proofs.Insertions.{insert_size, insert_count, insert_depth}
 use Rattle.amqp_value_core.proofs.Tables.{of_mean}
 
--- ---- entries that are put
+-- ---- entries that are inserted
 
 -- size, count and depth of some entries are at most these
 pub record EntriesWithin (bytes values deep : ℕ) (es : Entries) : Type 0 where
@@ -24,28 +21,17 @@ pub record EntriesWithin (bytes values deep : ℕ) (es : Entries) : Type 0 where
   pub count : entries_count es ≤ values
   pub depth : entries_depth es ≤ deep
 
--- entries grow by no more than is put
-put_within : (k : List ℕ) (v : Tree) (es : Entries)
-    → EntriesWithin (1 + length k + (size v + pairs_size es)) (count v + entries_count es) (max (depth v) (entries_depth es)) (insert k v es)
-put_within k v no_entries = record { size = omega (arith, pairs_size_more k v no_entries); count = omega arith; depth = omega arith }
-put_within k v (entry j u es) = by (slice_cmp nat_cmp k j) (put_within k v es)
-  where
-    by : (o : Ordering)
-        → EntriesWithin (1 + length k + (size v + pairs_size es)) (count v + entries_count es) (max (depth v) (entries_depth es)) (insert k v es)
-        → EntriesWithin (1 + length k + (size v + pairs_size (entry j u es))) (count v + entries_count (entry j u es)) (max (depth v) (entries_depth (entry j u es)))
-        (match_ordering o (entry k v (entry j u es)) (entry j v es) (entry j u (insert k v es)))
-    by Less inner = record { size = omega (arith, pairs_size_more k v (entry j u es)); count = omega arith; depth = omega arith }
-    by Equal inner = record { size = omega (arith, pairs_size_more j v es, pairs_size_more j u es); count = omega arith; depth = omega arith }
-    by Greater inner = record { size = omega (arith, inner.size, pairs_size_more j u (insert k v es), pairs_size_more j u es); count = omega arith; depth = omega arith }
-
--- so they do if pairs are inserted one after another
+-- entries grow by no more than the pairs that are inserted one after another
 onto_within : (ps es : Entries)
     → EntriesWithin (pairs_size ps + pairs_size es) (entries_count ps + entries_count es) (max (entries_depth ps) (entries_depth es)) (insert_all es ps)
 onto_within no_entries es = record { size = omega arith; count = omega arith; depth = omega arith }
 onto_within (entry k v ps) es =
-    let first = put_within k v es in
     let all = onto_within ps (insert k v es) in
-    record { size = omega (arith, pairs_size_more k v ps, first.size, all.size); count = omega (arith, first.count, all.count); depth = omega (arith, first.depth, all.depth) }
+    record {
+      size = omega (arith, pairs_size_more k v ps, insert_size k v es, all.size);
+      count = omega (arith, insert_count k v es, all.count);
+      depth = omega (arith, insert_depth k v es, all.depth);
+    }
 
 -- so does what they mean
 pub mean_within : (ps es : Entries) → Mean ps es → EntriesWithin (pairs_size ps) (entries_count ps) (entries_depth ps) es

@@ -16,13 +16,16 @@ pub use Rattle.amqp_value_core.proofs.Found.{and_others, and_pairs}
 pub use Rattle.amqp_value_core.proofs.Agreement.{never_malformed, outcome_holds, outcome_is, raw_outcome_holds, raw_outcome_is}
 -- tables as finite maps, and what pairs mean
 pub use Rattle.amqp_value_core.proofs.Tables.{put_found, put_other, key_has_value, last_stays, option_or-assoc, option_or-none, pairs_rise, rising_pairs, same_tables, entries_rise, put_mean, mean_put, rising_mean, of_mean, one_mean}
+-- what an insertion changes of a table
+pub use Rattle.amqp_value_core.proofs.Insertions.{insert_size, insert_count, insert_depth, insert_entries_fit, insert_fits, insert_readable, insert_entries}
 -- what an encoding bounds, what is read from it, and that the canonical one is a shortest
 pub use Rattle.amqp_value_core.proofs.Bounds.{bounds, raw_bounds, mean_within}
 pub use Rattle.amqp_value_core.proofs.Shortest.{what_is_read, what_raw_reads, read_is_value, raw_value, shortest, same_text_same_value}
 -- canonical encodings by their bytes: each is an encoding and, of bytes, `text`
 pub use Rattle.amqp_value_core.proofs.Canons.{canon_is_wire, canon_fits, canon_is_text, canonical_wire, canon_rises}
 pub use Rattle.amqp_value_core.specs.Canonical.{canon, canon_array, canon_table, canon_value, canon_pair}
-pub use Rattle.amqp_value_core.proofs.TextCanon.{text_is_canon, is_canonical}
+pub use Rattle.amqp_value_core.proofs.TextCanon.{text_is_canon, payload_is_canon, is_canonical}
+pub use Rattle.amqp_value_core.proofs.TextBytes.{text_bytes, payload_bytes, insert_bytes}
 -- the words of the headline
 pub use Rattle.amqp_value_core.proofs.Headlines.{found_prefix, bounded_wire, bounded_found, is_shortest, injective}
 -- from a payload of the type that a first byte denotes to the value: the outcome, and that it

@@ -10,6 +10,8 @@ mod Unique
 mod Tables
 -- what is written: its size, and that it is an encoding
 mod Spelling
+-- what an insertion changes
+mod Insertions
 -- what reading results in: of a payload and of the value, of what was written, and with more bytes
 mod Outcomes
 mod Reading
@@ -20,6 +22,7 @@ mod Shortest
 -- the canonical encoding, by its bytes
 mod Canons
 mod TextCanon
+mod TextBytes
 -- reading as a function, and containers that nest at most so deep
 mod Found
 mod Nests

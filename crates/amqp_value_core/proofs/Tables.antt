@@ -40,6 +40,24 @@ not_same j k other = by (same_bytes j k) (bytes_decides j k).0
     by true f = absurd (other (f refl))
     by false f = refl
 
+-- ---- insertion
+
+-- what holds of entries and of them with v at k, if it does wherever k goes: before the first key, at
+-- an equal one, or after the first
+pub by_place : (Q : Entries → Entries → Type 0) (k : List ℕ) (v : Tree)
+    → ((es : Entries) → ComesBefore k es → Q es (entry k v es))
+    → ((u : Tree) (es : Entries) → Q (entry k u es) (entry k v es))
+    → ((j : List ℕ) (u : Tree) (es : Entries) → slice_cmp nat_cmp j k ≡ Less → Q es (insert k v es) → Q (entry j u es) (entry j u (insert k v es)))
+    → (es : Entries) → Q es (insert k v es)
+by_place Q k v before at after no_entries = before no_entries tt
+by_place Q k v before at after (entry j u es) = by (slice_cmp nat_cmp k j) refl (by_place Q k v before at after es)
+  where
+    by : (o : Ordering) → slice_cmp nat_cmp k j ≡ o → Q es (insert k v es)
+        → Q (entry j u es) (match_ordering o (entry k v (entry j u es)) (entry j v es) (entry j u (insert k v es)))
+    by Less is inner = before (entry j u es) is
+    by Equal is inner = subst (λ (i : List ℕ). Q (entry i u es) (entry i v es)) (equal_keys k j is) (at u es)
+    by Greater is inner = after j u es (less j k is) inner
+
 -- ---- sorted entries
 
 -- the keys of a value's table are ascending
@@ -90,30 +108,20 @@ unfolding join
 rising_pairs es rises = onto-join es no_entries rises
 
 -- what comes before a key and before the entries comes before them with the key
-before-put : (j k : List ℕ) (v : Tree) (es : Entries) → slice_cmp nat_cmp j k ≡ Less → ComesBefore j es → ComesBefore j (insert k v es)
-before-put j k v no_entries first before = first
-before-put j k v (entry i u es) first before = by (slice_cmp nat_cmp k i)
-  where
-    by : (o : Ordering) → ComesBefore j (match_ordering o (entry k v (entry i u es)) (entry i v es) (entry i u (insert k v es)))
-    by Less = first
-    by Equal = before
-    by Greater = before
+pub before-insert : (j k : List ℕ) (v : Tree) (es : Entries) → slice_cmp nat_cmp j k ≡ Less → ComesBefore j es → ComesBefore j (insert k v es)
+before-insert j k v es first =
+    by_place (λ es fs. ComesBefore j es → ComesBefore j fs) k v (λ es here before. first) (λ u es before. before) (λ i u es here inner before. before) es
 
 -- keys are still ascending if one is inserted
-rising-put : (k : List ℕ) (v : Tree) (es : Entries) → IsRising es → IsRising (insert k v es)
-rising-put k v no_entries rises = (tt, tt)
-rising-put k v (entry j u es) rises = by (slice_cmp nat_cmp k j) refl (rising-put k v es rises.1)
-  where
-    by : (o : Ordering) → slice_cmp nat_cmp k j ≡ o → IsRising (insert k v es)
-        → IsRising (match_ordering o (entry k v (entry j u es)) (entry j v es) (entry j u (insert k v es)))
-    by Less is inner = (is, rises)
-    by Equal is inner = rises
-    by Greater is inner = (before-put j k v es (less j k is) rises.0, inner)
+rising-insert : (k : List ℕ) (v : Tree) (es : Entries) → IsRising es → IsRising (insert k v es)
+rising-insert k v =
+    by_place (λ es fs. IsRising es → IsRising fs) k v (λ es before rises. (before, rises)) (λ u es rises. rises)
+    (λ j u es first inner rises. (before-insert j k v es first rises.0, inner rises.1))
 
 -- so they do if pairs are inserted one after another
 rising-onto : (ps es : Entries) → IsRising es → IsRising (insert_all es ps)
 rising-onto no_entries es rises = rises
-rising-onto (entry k v ps) es rises = rising-onto ps (insert k v es) (rising-put k v es rises)
+rising-onto (entry k v ps) es rises = rising-onto ps (insert k v es) (rising-insert k v es rises)
 
 -- the keys of what pairs mean are ascending
 pub pairs_rise : (ps : Entries) → IsRising (insert_all no_entries ps)
@@ -126,47 +134,37 @@ abbrev pub Each : (List ℕ → Tree → Type 0) → Entries → Type 0
 Each P no_entries = Unit {0}
 Each P (entry k v es) = P k v × Each P es
 
--- what holds of each entry, and of one that is put, holds of each then
-each-put : (P : List ℕ → Tree → Type 0) (k : List ℕ) (v : Tree) (es : Entries) → P k v → Each P es → Each P (insert k v es)
-each-put P k v no_entries here others = (here, tt)
-each-put P k v (entry j u es) here others = by (slice_cmp nat_cmp k j) refl (each-put P k v es here others.1)
-  where
-    by : (o : Ordering) → slice_cmp nat_cmp k j ≡ o → Each P (insert k v es)
-        → Each P (match_ordering o (entry k v (entry j u es)) (entry j v es) (entry j u (insert k v es)))
-    by Less is inner = (here, others)
-    by Equal is inner = (subst (λ (i : List ℕ). P i v) (equal_keys k j is) here, others.1)
-    by Greater is inner = (others.0, inner)
+-- what holds of each entry, and of one that is inserted, holds of each then
+pub each-insert : (P : List ℕ → Tree → Type 0) (k : List ℕ) (v : Tree) (es : Entries) → P k v → Each P es → Each P (insert k v es)
+each-insert P k v es here =
+    by_place (λ es fs. Each P es → Each P fs) k v (λ es before others. (here, others)) (λ u es others. (here, others.1)) (λ j u es first inner others. (others.0, inner others.1)) es
 
 -- so does what holds of each pair
 each-onto : (P : List ℕ → Tree → Type 0) (ps es : Entries) → Each P ps → Each P es → Each P (insert_all es ps)
 each-onto P no_entries es pairs others = others
-each-onto P (entry k v ps) es pairs others = each-onto P ps (insert k v es) pairs.1 (each-put P k v es pairs.0 others)
+each-onto P (entry k v ps) es pairs others = each-onto P ps (insert k v es) pairs.1 (each-insert P k v es pairs.0 others)
 
 -- ---- a finite map
 
+-- the value at the first key is the first one
+first_value : (k : List ℕ) (v : Tree) (es : Entries) → value_at k (entry k v es) ≡ Some v
+first_value k v es = ap (λ (t : Bool). if t then Some v else value_at k es) (same_itself k)
+
+-- at a key that is another than the first it is that of the others
+other_value : (k j : List ℕ) (u : Tree) (es : Entries) → k ≢ j → value_at k (entry j u es) ≡ value_at k es
+other_value k j u es other = ap (λ (t : Bool). if t then Some u else value_at k es) (not_same k j other)
+
 -- a value is found at the key at which it was inserted
 pub put_found : (k : List ℕ) (v : Tree) (es : Entries) → value_at k (insert k v es) ≡ Some v
-put_found k v no_entries = ap (λ (t : Bool). if t then Some v else None) (same_itself k)
-put_found k v (entry j u es) = by (slice_cmp nat_cmp k j) refl (put_found k v es)
-  where
-    by : (o : Ordering) → slice_cmp nat_cmp k j ≡ o → value_at k (insert k v es) ≡ Some v
-        → value_at k (match_ordering o (entry k v (entry j u es)) (entry j v es) (entry j u (insert k v es))) ≡ Some v
-    by Less is inner = ap (λ (t : Bool). if t then Some v else value_at k (entry j u es)) (same_itself k)
-    by Equal is inner = ap (λ (t : Bool). if t then Some v else value_at k es) (same_by_order k j Equal is)
-    by Greater is inner = ap (λ (t : Bool). if t then Some u else value_at k (insert k v es)) (same_by_order k j Greater is) ∙ inner
+put_found k v =
+    by_place (λ es fs. value_at k fs ≡ Some v) k v (λ es before. first_value k v es) (λ u es. first_value k v es)
+    (λ j u es first inner. ap (λ (t : Bool). if t then Some u else value_at k (insert k v es)) (same_by_order k j Greater (greater j k first)) ∙ inner)
 
 -- and every other key keeps its value
 pub put_other : (j k : List ℕ) (v : Tree) (es : Entries) → j ≢ k → value_at j (insert k v es) ≡ value_at j es
-put_other j k v no_entries other = ap (λ (t : Bool). if t then Some v else None) (not_same j k other)
-put_other j k v (entry i u es) other = by (slice_cmp nat_cmp k i) refl (put_other j k v es other)
-  where
-    by : (o : Ordering) → slice_cmp nat_cmp k i ≡ o → value_at j (insert k v es) ≡ value_at j es
-        → value_at j (match_ordering o (entry k v (entry i u es)) (entry i v es) (entry i u (insert k v es))) ≡ value_at j (entry i u es)
-    by Less is inner = ap (λ (t : Bool). if t then Some v else value_at j (entry i u es)) (not_same j k other)
-    by Equal is inner =
-        let apart : same_bytes j i ≡ false = not_same j i (λ e. other (e ∙ sym (equal_keys k i is))) in
-        ap (λ (t : Bool). if t then Some v else value_at j es) apart ∙ sym (ap (λ (t : Bool). if t then Some u else value_at j es) apart)
-    by Greater is inner = ap (λ (x : Option Tree). if same_bytes j i then Some u else x) inner
+put_other j k v es other =
+    by_place (λ es fs. value_at j fs ≡ value_at j es) k v (λ es before. other_value j k v es other)
+    (λ u es. other_value j k v es other ∙ sym (other_value j k u es other)) (λ i u es first inner. ap (λ (x : Option Tree). if same_bytes j i then Some u else x) inner) es
 
 -- there is a value if there is a key
 pub key_has_value : (k : List ℕ) (es : Entries) → has_key k es ≡ is_some (value_at k es)
@@ -220,10 +218,6 @@ none_before k no_entries before rises = refl
 none_before k (entry j u es) before rises =
     ap (λ (t : Bool). if t then Some u else value_at k es) (same_by_order k j Less before)
     ∙ none_before k es (before-trans k j es before rises.0) rises.1
-
--- the value at the first key is the first one
-first_value : (k : List ℕ) (v : Tree) (es : Entries) → value_at k (entry k v es) ≡ Some v
-first_value k v es = ap (λ (t : Bool). if t then Some v else value_at k es) (same_itself k)
 
 -- with the same value at each key the others have it too
 same_others : (k : List ℕ) (v u : Tree) (es fs : Entries) → IsRising (entry k v es) → IsRising (entry k u fs)

@@ -4,11 +4,11 @@ use Rattle.std.specs.Int.{bytes_high_first}
 use Rattle.std.proofs.lemmas.Bool.{and_parts}
 use Rattle.amqp_value_core.specs.declared.types.amqp_type.AMQPType.{AMQPType}
 use Rattle.amqp_value_core.specs.declared.types.amqp_type.AMQPType.TheVariants as amqp
-use Rattle.amqp_value_core.specs.Values.{Scalar, boolean, number, decimal, void, Tree, scalar, short, long, octets, array, table, Trees, no_trees, tree, Entries, no_entries, entry, scalar_type, readable, all_readable, entries_readable}
+use Rattle.amqp_value_core.specs.Values.{Scalar, boolean, number, decimal, void, Tree, scalar, short, long, octets, array, table, Trees, no_trees, tree, Entries, no_entries, entry, scalar_type, type_of, readable, all_readable, entries_readable}
 use Rattle.amqp_value_core.specs.Ids.{id_of}
 use Rattle.amqp_value_core.specs.Layouts.{width_of, spelled}
 use Rattle.amqp_value_core.specs.Grammar.{long_field}
-use Rattle.amqp_value_core.specs.Texts.{text, body, pairs, Fits, AllFit, EntriesFit}
+use Rattle.amqp_value_core.specs.Texts.{payload, text, body, pairs, Fits, AllFit, EntriesFit}
 use Rattle.amqp_value_core.specs.InMemory.{IsNumber, IsScalar, IsValue, AreValues, AreEntries}
 use Rattle.amqp_value_core.specs.Canonical.{IsStrict, Canon, canon, CanonRaw, canon_fixed, canon_long, canon_octets, canon_array, canon_table, CanonBody, canon_no_values, canon_value, CanonPairs, canon_no_pairs, canon_pair}
 use Rattle.amqp_value_core.specs.Headline.{IsCanonical}
@@ -74,6 +74,15 @@ mutual
   keyed_are_canon (entry k v es) are fits r =
       let both = and_parts (readable v) (entries_readable es) r in
       canon_pair k (text v) (pairs es) v es are.0 (text_is_canon v are.1 fits.0 both.0) are.2 (keyed_are_canon es are.3 fits.1 both.1)
+
+-- and so is its payload
+pub payload_is_canon : (v : Tree) → IsValue v → Fits v → IsTrue (readable v) → CanonRaw (type_of v) (payload v) v
+payload_is_canon (scalar x) is fits r = spelled_canon x is
+payload_is_canon (short s) is fits r = absurd cc
+payload_is_canon (long s) is fits r = canon_long s fits
+payload_is_canon (octets s) is fits r = canon_octets s fits
+payload_is_canon (array vs) is fits r = canon_array (body vs) vs fits.0 (texts_are_canon vs is fits.1 r)
+payload_is_canon (table es) is fits r = canon_table (pairs es) es fits.0 (keyed_are_canon es is fits.1 r)
 
 -- a list is a canonical encoding of a value exactly when it is `text` of a readable one
 pub is_canonical : (v : Tree) → IsValue v → Fits v → IsCanonical v

@@ -4,20 +4,20 @@
 
 // Tactics at functions: each names the lemmas that are its law.
 
-ghost use Rattle.std.specs.Prelude.{◌≡◌, ◌↔◌, ◌+◌, ℕ, List, ◌∷◌, ◌++◌, length, IsTrue, Some, ◌≢◌, ◌≤◌, ◌*◌, is_some, ◌-◌};
+ghost use Rattle.std.specs.Prelude.{◌≡◌, ◌↔◌, ◌+◌, ℕ, List, ◌∷◌, ◌++◌, length, IsTrue, Some, ◌≢◌, ◌≤◌, ◌*◌, is_some, ◌-◌, ◌<◌, ◌^◌, max};
 ghost use Rattle.amqp_value_core.specs.declared.types.amqp_type.AMQPType.{AMQPType};
-ghost use Rattle.amqp_value_core.specs.Values.{Scalar, Tree, scalar, short, long, octets, array, table, Trees, no_trees, tree, Entries, no_entries, entry, scalar_type, type_of, readable, depth, count};
+ghost use Rattle.amqp_value_core.specs.Values.{Scalar, Tree, scalar, short, long, octets, array, table, Trees, no_trees, tree, Entries, no_entries, entry, scalar_type, type_of, readable, entries_readable, depth, entries_depth, count, entries_count};
 ghost use Rattle.amqp_value_core.specs.Maps.{insert, insert_all, has_key, value_at, last_at, IsRising};
 ghost use Rattle.amqp_value_core.specs.Layouts.{width_of};
 ghost use Rattle.amqp_value_core.specs.Outcomes.{RawOutcome, read_back, StillWaits, with_more, Reading, Outcome, Heavy, RawHeavy, found, malformed};
-ghost use Rattle.amqp_value_core.specs.Texts.{payload, text, size, Fits};
+ghost use Rattle.amqp_value_core.specs.Texts.{payload, text, size, Fits, EntriesFit};
 ghost use Rattle.amqp_value_core.specs.Grammar.{Wire, Raw};
 ghost use Rattle.amqp_value_core.specs.Nesting.{WireWithin, OutcomeWithin, nesting};
-ghost use Rattle.amqp_value_core.specs.InMemory.{IsValue};
+ghost use Rattle.amqp_value_core.specs.InMemory.{IsValue, AreEntries};
 ghost use Rattle.amqp_value_core.specs.Ids.{kind};
-ghost use Rattle.amqp_value_core.specs.Bytes.{IsBytes};
+ghost use Rattle.amqp_value_core.specs.Bytes.{IsShort, IsBytes};
 ghost use Rattle.amqp_value_core.specs.Decode.{compute_outcome, compute_raw_outcome, meaning, outcome_by};
-ghost use Rattle.amqp_value_core.specs.Canonical.{Canon};
+ghost use Rattle.amqp_value_core.specs.Canonical.{Canon, CanonRaw};
 ghost use Rattle.amqp_value_core.specs.Headline.{IsCanonical, IsWritableIn, IsShortest, TellsApart};
 ghost use Rattle.amqp_value_core.specs.declared.types.amqp_type.AMQPType.TheVariants as amqp;
 
@@ -109,6 +109,30 @@ pub fn table_is_a_map()
     ensures keys { (k : List ℕ) (es : Entries) → has_key k es ≡ is_some (value_at k es) }
 {}
 
+/// What an insertion changes of a table. The table grows by at most the size of the new entry, and
+/// nests at most as deep as the new value and the old entries. If the new value and the old table
+/// can be written, read back and in memory, so can the new table, unless it is too large. If both
+/// are written as bytes, so is the new table.
+#[tactic(auto, using(crate::proofs::GrammarLaws::insert_size, crate::proofs::GrammarLaws::insert_count, crate::proofs::GrammarLaws::insert_depth, crate::proofs::GrammarLaws::insert_entries_fit, crate::proofs::GrammarLaws::insert_fits, crate::proofs::GrammarLaws::insert_readable, crate::proofs::GrammarLaws::insert_entries))]
+pub fn insertion()
+    ensures size { (k : List ℕ) (v : Tree) (es : Entries)
+        → size (table (insert k v es)) ≤ 1 + length k + size v + size (table es) }
+    ensures count { (k : List ℕ) (v : Tree) (es : Entries)
+        → entries_count (insert k v es) ≤ count v + entries_count es }
+    ensures depth { (k : List ℕ) (v : Tree) (es : Entries)
+        → entries_depth (insert k v es) ≤ max (depth v) (entries_depth es) }
+    ensures entries_fit { (k : List ℕ) (v : Tree) (es : Entries) → Fits v → EntriesFit es
+        → EntriesFit (insert k v es) }
+    ensures fits { (k : List ℕ) (v : Tree) (es : Entries) → Fits v → Fits (table es)
+        → 1 + length k + size v + size (table es) < 2 ^ 32 → Fits (table (insert k v es)) }
+    ensures readable { (k : List ℕ) (v : Tree) (es : Entries) → IsTrue (readable v)
+        → IsTrue (entries_readable es) → IsTrue (entries_readable (insert k v es)) }
+    ensures entries { (k : List ℕ) (v : Tree) (es : Entries) → IsShort k → IsValue v
+        → AreEntries es → AreEntries (insert k v es) }
+    ensures bytes { (k : List ℕ) (v : Tree) (es : Entries) → IsShort k → IsBytes k
+        → IsBytes (text v) → IsBytes (text (table es)) → IsBytes (text (table (insert k v es))) }
+{}
+
 /// What the pairs of an encoding mean: at each key the value of the last pair with it, under keys
 /// that are ascending. If the pairs' own keys are ascending they are the table's entries unchanged.
 #[tactic(auto, using(crate::proofs::GrammarLaws::last_stays, crate::proofs::GrammarLaws::pairs_rise, crate::proofs::GrammarLaws::rising_pairs))]
@@ -172,6 +196,19 @@ pub fn same_text_same_value()
 #[tactic(auto, using(crate::proofs::GrammarLaws::is_canonical))]
 pub fn canonical()
     ensures { (v : Tree) → IsValue v → Fits v → IsCanonical v }
+{}
+
+/// What is written for a value in memory is a canonical encoding by its bytes alone, if its lengths
+/// fit their fields and each value in it has a type tag that is read. The same holds of the
+/// payload. Both are bytes if the value was read from bytes.
+#[tactic(auto, using(crate::proofs::GrammarLaws::text_is_canon, crate::proofs::GrammarLaws::payload_is_canon, crate::proofs::GrammarLaws::text_bytes, crate::proofs::GrammarLaws::payload_bytes))]
+pub fn text_is_canon()
+    ensures text { (v : Tree) → IsValue v → Fits v → IsTrue (readable v) → Canon (text v) v }
+    ensures payload { (v : Tree) → IsValue v → Fits v → IsTrue (readable v)
+        → CanonRaw (type_of v) (payload v) v }
+    ensures bytes { (w : List ℕ) (v : Tree) → IsBytes w → Wire w v → IsBytes (text v) }
+    ensures payload_bytes { (type : AMQPType) (b : List ℕ) (v : Tree) → IsBytes b → Raw type b v
+        → IsBytes (payload v) }
 {}
 
 /// A canonical encoding of any value is an encoding, its value fits its fields and is readable, and

@@ -2,7 +2,7 @@
 
 use amq_protocol_types::parsing::SliceInput;
 use amq_protocol_types::stream::{Limits, parse_field_table_within};
-use amq_protocol_types::{AMQPValue, Error, FieldTable};
+use amq_protocol_types::{Error, FieldTable};
 use anyhow::Result;
 use std::alloc::Global;
 
@@ -18,21 +18,11 @@ pub(crate) const LIMITS: Limits = Limits {
     depth: 32,
 };
 
-/// The value at a key.
-fn value_at<'a>(table: &'a FieldTable, key: &str) -> Option<&'a AMQPValue> {
-    for (name, value) in table.inner().iter() {
-        if name.as_str() == key {
-            return Some(value);
-        }
-    }
-    None
-}
-
 /// How often the message was dead-lettered for the first reason that is named.
 fn deaths(headers: &FieldTable) -> Option<i64> {
-    let entries = value_at(headers, "x-death")?.as_array()?;
+    let entries = headers.get("x-death")?.as_array()?;
     let first = entries.as_slice().first()?.as_field_table()?;
-    value_at(first, "count")?.as_long_long_int()
+    first.get("count")?.as_long_long_int()
 }
 
 /// How often that was, by the headers of a message.

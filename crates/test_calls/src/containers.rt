@@ -1,11 +1,11 @@
 //! Requests on arrays and tables: `push ARRAY VALUE`, `insert TABLE KEY VALUE`,
-//! `place TABLE KEY VALUE`, `contains_key TABLE KEY` and `walk TABLE`; and on how they are made:
-//! `from_values VALUES`, `from_map ENTRIES`, `from_pairs ENTRIES` and `from_entries ENTRIES`, an
-//! entry being `KEY:VALUE`.
+//! `place TABLE KEY VALUE`, `get TABLE KEY`, `contains_key TABLE KEY` and `walk TABLE`; and on how
+//! they are made: `from_values VALUES`, `from_map ENTRIES`, `from_pairs ENTRIES` and
+//! `from_entries ENTRIES`, an entry being `KEY:VALUE`.
 
 use super::strings::not_copied;
 use super::values::{Word, made, short_string, value_of};
-use super::words::{ended, ok, shown, text_of};
+use super::words::{ended, ok, plain, shown, text_of};
 use super::{Answer, Trouble};
 use amq_protocol_types::{AMQPValue, FieldArray, FieldTable, ShortString};
 use std::alloc::Global;
@@ -24,6 +24,7 @@ pub fn answer(rt: &HostRuntime, alloc: Global, call: &str, words: &[&str]) -> An
         }
         ("insert", [table, key, value]) => insert(rt, alloc, *table, *key, *value),
         ("place", [table, key, value]) => place(rt, alloc, *table, *key, *value),
+        ("get", [table, key]) => get(rt, alloc, *table, *key),
         ("contains_key", [table, key]) => contains_key(rt, alloc, *table, *key),
         ("walk", [table]) => walk(alloc, &table_of(alloc, *table)?),
         ("from_values", values) => from_values(alloc, values),
@@ -62,6 +63,14 @@ fn place(rt: &HostRuntime, alloc: Global, table: &str, key: &str, value: &str) -
     let (key, value) = (short_string(alloc, key)?, value_of(alloc, value)?);
     let placed = call!(rt; table.place(key, value));
     ended(alloc, placed, table.word(alloc)?.as_str())
+}
+
+fn get(rt: &HostRuntime, alloc: Global, table: &str, key: &str) -> Answer {
+    let (table, key) = (table_of(alloc, table)?, text_of(alloc, key)?);
+    match call!(rt; table.get(key.as_str())) {
+        Some(value) => value.word(alloc),
+        None => plain(alloc, "None"),
+    }
 }
 
 fn contains_key(rt: &HostRuntime, alloc: Global, table: &str, key: &str) -> Answer {

@@ -1,14 +1,16 @@
 -- What generators of values promise beyond `Writes`: a value that was read fits in as many bytes,
 -- and what is written is canonical and read back.
-use Rattle.std.specs.Prelude.{ℕ, ◌≤◌, List, ◌++◌, length, Result, IsOk, IsErrOf}
+use Rattle.std.specs.Prelude.{ℕ, ◌≤◌, ◌≡◌, ◌↔◌, IsTrue, List, ◌++◌, length, Result, IsOk, IsErrOf}
 use Rattle.std.specs.Option.{IfSome}
-use Rattle.amqp_value_core.specs.Values.{Tree}
+use Rattle.amqp_value_core.specs.Values.{Tree, readable}
+use Rattle.amqp_value_core.specs.Bytes.{IsBytes}
 use Rattle.amqp_value_core.specs.Texts.{text, payload}
 use Rattle.amqp_value_core.specs.InMemory.{IsValue}
 use Rattle.amqp_value_core.specs.Outcomes.{Outcome, RawOutcome, read_back}
 use Rattle.amqp_value_core.specs.Headline.{IsShortest, TellsApart, IsCanonical}
 use Rattle.amqp_value_core.specs.declared.types.amqp_type.AMQPType.{AMQPType}
 use Rattle.amqp_value_core.specs.Grammar.{Wire, Raw}
+use Rattle.amqp_value_core.specs.Canonical.{CanonRaw}
 use Rattle.amq_protocol_types.specs.declared.generation.error.GenError.{GenError}
 use Rattle.amq_protocol_types.specs.declared.generation.error.GenError.TheVariants.{LengthTooLong}
 use Rattle.amq_protocol_types.specs.generation.Outputs.{OutputState}
@@ -39,6 +41,11 @@ pub record IsReadBackAndCanonical (v : Tree) : Type 0 where
 -- If v isn't readable, its payload is rejected.
 abbrev pub IsPayloadReadBack : AMQPType → Tree → Type 0
 IsPayloadReadBack type v = (rest : List ℕ) → RawOutcome type (payload v ++ rest) (read_back v rest)
+
+-- b is a canonical payload of v, of that type, by its bytes (`CanonRaw`) exactly when it is what was
+-- written, and v is readable
+abbrev pub IsPayloadCanonical : AMQPType → Tree → Type 0
+IsPayloadCanonical type v = (b : List ℕ) → IsBytes b → CanonRaw type b v ↔ (IsTrue (readable v) × (b ≡ payload v))
 
 -- the canonical encoding of v is a shortest one, and no other value's
 pub record IsShortestAndUnique (v : Tree) : Type 0 where

@@ -78,7 +78,9 @@ pub record LawsWithin (l : Limits) (s : List ℕ) : Type 0 where
 
 -- what v is that was read within limits from an encoding of n bytes
 pub record IsReadWithin (l : Limits) (n : ℕ) (v : Tree) : Type 0 where
-  -- it is no larger than that, and nests at most as deep as the limit allows
+  -- the encoding is within the limit `frame`
+  pub frame : n ≤ l.frame
+  -- v is no larger than its encoding, and nests at most as deep as the limit allows
   pub bounded : IsWritableIn n v
   pub depth : depth v ≤ l.depth
   -- its canonical encoding is read as it within the limits, is a shortest one, and no other value's

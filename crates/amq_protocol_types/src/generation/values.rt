@@ -11,7 +11,7 @@ ghost use Rattle.amqp_value_core.specs.Texts.{text, Fits, payload};
 ghost use Rattle.amqp_value_core.specs.InMemory.{IsValue};
 ghost use Rattle.amq_protocol_types.specs.generation.Outputs.{Writes};
 ghost use Rattle.amq_protocol_types.specs.generation.BufferOutput.{PatchesLength};
-ghost use Rattle.amq_protocol_types.specs.generation.Written.{WritesWhatWasRead, WritesPayloadRead, IsReadBackAndCanonical, IsPayloadReadBack, IsShortestAndUnique};
+ghost use Rattle.amq_protocol_types.specs.generation.Written.{WritesWhatWasRead, WritesPayloadRead, IsReadBackAndCanonical, IsPayloadReadBack, IsPayloadCanonical, IsShortestAndUnique};
 ghost use Rattle.amq_protocol_types.specs.generation.Contexts.{state_of, KeepsStart};
 
 use crate::generation::{
@@ -107,6 +107,8 @@ pub fn gen_field_array<W: BackToTheBuffer>(a: &FieldArray, x: &mut WriteContext<
     ensures value { OnOk result (IsValue (array (array_view a.now))) }
     ensures read_back { OnOk result
         (IsPayloadReadBack AMQPType.FieldArray (array (array_view a.now))) }
+    ensures canonical { OnOk result
+        (IsPayloadCanonical AMQPType.FieldArray (array (array_view a.now))) }
     ensures fits_input_size { WritesPayloadRead AMQPType.FieldArray (array (array_view a.now))
         (state_of W.seen x.old) result }
 {
@@ -132,6 +134,8 @@ pub fn gen_field_table<W: BackToTheBuffer>(t: &FieldTable, x: &mut WriteContext<
     ensures value { OnOk result (IsValue (table (table_view t.now))) }
     ensures read_back { OnOk result
         (IsPayloadReadBack AMQPType.FieldTable (table (table_view t.now))) }
+    ensures canonical { OnOk result
+        (IsPayloadCanonical AMQPType.FieldTable (table (table_view t.now))) }
     ensures fits_input_size { WritesPayloadRead AMQPType.FieldTable (table (table_view t.now))
         (state_of W.seen x.old) result }
 {

@@ -1,11 +1,12 @@
 //! `FieldTable`: a map from `ShortString` keys to `AMQPValue`s.
 
-// The tactic at the function names the lemma that a map of pairs is the table that they result in.
+// The tactics at the functions name lemmas: a map of pairs is the table that they result in, and a
+// table has a key if it has a value at it.
 
-ghost use Rattle.std.specs.Prelude.{◌≡◌, ◌≤◌, [], ◌∷◌, length, OnOk, OnErr, IfOk, IfErr, IsOk};
+ghost use Rattle.std.specs.Prelude.{◌≡◌, ◌≤◌, [], ◌∷◌, length, option_map, OnOk, OnErr, IfOk, IfErr, IsOk};
 ghost use Rattle.std.specs.Borrow.{sem};
 ghost use Rattle.amqp_value_core.specs.Values.{no_entries};
-ghost use Rattle.amqp_value_core.specs.Maps.{insert, insert_all, has_key};
+ghost use Rattle.amqp_value_core.specs.Maps.{insert, insert_all, has_key, value_at};
 ghost use Rattle.amqp_value_core.specs.View.{view};
 ghost use Rattle.amqp_value_core.specs.Containers.{entries, named, names, table_entries, table_view};
 ghost use Rattle.amqp_value_core.specs.Short.{AreCopiesRefused, first_too_long};
@@ -153,17 +154,25 @@ impl FieldTable {
         Ok(())
     }
 
-    /// Returns whether the table has the key. It compares the key with one after another, and
-    /// doesn't allocate.
+    /// Returns the value at a key, or `None` if the table doesn't have the key. No table has a key of
+    /// more than 255 bytes. It compares the key with one after another, and doesn't allocate.
+    pub fn get(&self, key: &str) -> Option<&AMQPValue>
+        ensures { option_map (λ v. view v.now) result ≡ value_at key.now (table_view self.now) }
+    {
+        for (name, value) in self.map.iter() {
+            if name.as_str() == key {
+                return Some(value);
+            }
+        }
+        None
+    }
+
+    /// Returns whether the table has the key. It compares as `get` does, and doesn't allocate.
+    #[tactic(auto, using(crate::proofs::Tables::key_has_value))]
     pub fn contains_key(&self, k: &str) -> bool
         ensures { result ≡ has_key k.now (table_view self.now) }
     {
-        for (key, _) in self.map.iter() {
-            if key.as_str() == k {
-                return true;
-            }
-        }
-        false
+        self.get(k).is_some()
     }
 
     /// Returns the entries as a `BTreeMap`, to look up a value by its key or to iterate.

@@ -7,7 +7,7 @@ use Rattle.amqp_value_core.specs.Texts.{text, Fits}
 use Rattle.amq_protocol_types.proofs.Arrays.{values_next, value_refused, array_closed, array_value, text_of, longer_by_id, body_next, fit_next}
 use Rattle.amq_protocol_types.proofs.Tables.{none_put, one_more_put, key_taken_back, entry_refused, table_closed, table_value}
 use Rattle.amq_protocol_types.proofs.Steps.{lengths_of, both_put, refused, by_buffer}
-use Rattle.amq_protocol_types.proofs.ReadBack.{writes_payload_read, array_read_back, table_read_back}
+use Rattle.amq_protocol_types.proofs.ReadBack.{writes_payload_read, array_read_back, table_read_back, array_canonical, table_canonical}
 use Rattle.amqp_value_core.specs.Containers.{array_items, array_view, table_view}
 use Rattle.amq_protocol_types.proofs.generation.values.+values.Goals as goal
 
@@ -112,3 +112,11 @@ gen_field_array-returns-clause-read_back g t c =
 pub gen_field_table-returns-clause-read_back : goal.gen_field_table-returns-clause-read_back
 gen_field_table-returns-clause-read_back g t c =
     table_read_back (table_view c.args.t.now) c.fill_length.result (gen_field_table-returns-clause-value g t c) (lengths_of c.fill_length.result (gen_field_table-returns-clause-written g t c))
+
+pub gen_field_array-returns-clause-canonical : goal.gen_field_array-returns-clause-canonical
+gen_field_array-returns-clause-canonical g t c =
+    array_canonical (array_view c.args.a.now) c.fill_length.result (gen_field_array-returns-clause-value g t c) (lengths_of c.fill_length.result (gen_field_array-returns-clause-written g t c))
+
+pub gen_field_table-returns-clause-canonical : goal.gen_field_table-returns-clause-canonical
+gen_field_table-returns-clause-canonical g t c =
+    table_canonical (table_view c.args.t.now) c.fill_length.result (gen_field_table-returns-clause-value g t c) (lengths_of c.fill_length.result (gen_field_table-returns-clause-written g t c))
