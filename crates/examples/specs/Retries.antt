@@ -1,7 +1,7 @@
 -- `WritesRetries`: headers were read, and are written with a count of retries.
 use Rattle.std.specs.Prelude.{ℕ, ◌≡◌, ◌≢◌, Some, List, codes}
 use Rattle.amqp_value_core.specs.declared.types.amqp_type.AMQPType.TheVariants as amqp
-use Rattle.amqp_value_core.specs.Values.{number, Tree, scalar, table, Entries}
+use Rattle.amqp_value_core.specs.Values.{number, scalar, table, Entries}
 use Rattle.amqp_value_core.specs.Maps.{value_at}
 use Rattle.amqp_value_core.specs.Outcomes.{found}
 use Rattle.amqp_value_core.specs.Texts.{payload}
