@@ -22,6 +22,7 @@ FAILED = {
     **dict.fromkeys(("push", "insert", "place", "add_flag"), "AllocError {0}"),
     **dict.fromkeys((*COPIES, "repeated_key"), "AllocError"),
     **dict.fromkeys(("try_copy", "from_entries", "next", "to_json"), "OutOfMemory"),
+    **dict.fromkeys(("to_vec", "tagged_field_table_to_vec", "field_table_to_vec"), "OutOfMemory"),
     "message": "Parser error: OutOfMemory",
 }
 IN_PLACE = "read_in_place read_in_place_unlimited read_table_in_place warnings warnings_in_table".split()

@@ -23,6 +23,7 @@ mod Slices
 mod Arrays
 mod Tables
 mod ReadBack
+pub mod Vectors
 -- flags
 mod FlagBits
 -- streams

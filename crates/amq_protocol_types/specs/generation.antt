@@ -12,3 +12,5 @@ pub mod BufferOutput
 pub mod OutputViews
 -- lengths of what is written
 pub mod Lengths
+-- why a new vector isn't returned
+pub mod NewVectors

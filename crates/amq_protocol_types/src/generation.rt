@@ -1,15 +1,18 @@
-//! Serializers: one for a complete value ([`gen_value`]), one for each type.
+//! Serializers: [`to_vec`] returns a value's encoding, [`gen_value`] writes it to an output, and there
+//! is a generator for each type.
 //!
-//! They write through a [`WriteContext`] to a slice ([`SliceOutput`]) or a `Vec<u8>`; those of
+//! Generators write through a [`WriteContext`] to a slice ([`SliceOutput`]) or a `Vec<u8>`; those of
 //! scalars, strings and flags also to an `io::Write` ([`IoOutput`]). On an error a buffer's
 //! position and the bytes before it are as before the call. None of them allocates, except that a
-//! `Vec` grows.
+//! `Vec` grows. The theorems on their results are in [`laws`].
 
 mod context;
 mod device;
 mod error;
 mod flags;
+pub mod laws;
 mod output;
+mod owned;
 mod scalars;
 mod slice;
 mod strings;
@@ -22,6 +25,7 @@ pub use device::IoOutput;
 pub use error::{GenError, GenResult};
 pub use flags::gen_flags;
 pub use output::{BackToTheBuffer, Output};
+pub use owned::{field_table_to_vec, tagged_field_table_to_vec, to_vec};
 pub use scalars::{
     gen_boolean, gen_decimal_value, gen_double, gen_float, gen_id, gen_long_int, gen_long_long_int,
     gen_long_long_uint, gen_long_uint, gen_short_int, gen_short_short_int, gen_short_short_uint,

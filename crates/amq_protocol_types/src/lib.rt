@@ -11,20 +11,16 @@
 //! | [`generation`] | bytes from values, always in the canonical encoding |
 //! | [`flags`] | named booleans packed eight to a byte, as in method arguments |
 //!
-//! A value is an [`AMQPValue`], here a table with one entry:
+//! A value is an [`AMQPValue`], here a table with one entry. It is written, and parsed back:
 //!
 //! ```rust
 //! let entries = [("x-max-length", AMQPValue::LongInt(10_000))];
 //! let arguments = FieldTable::from_entries(alloc, entries)?;
 //! let value = AMQPValue::FieldTable(arguments);
-//! ```
 //!
-//! It is written to any buffer, and parsed back:
+//! let bytes = to_vec(alloc, &value)?;
 //!
-//! ```rust
-//! gen_value(&value, &mut context)?;
-//!
-//! let (rest, read) = parse_value(alloc, SliceInput::new(output.written()))?;
+//! let (rest, read) = parse_value(alloc, SliceInput::new(bytes.as_slice()))?;
 //! ```
 //!
 //! Calls that may allocate take the allocator first, and return an error if an allocation fails.
@@ -42,6 +38,7 @@
 //! input      parsing::values, by scalars, strings and pairs       AMQPValue, rest
 //! input      parsing::within, by header (is all there?), values   AMQPValue, rest
 //! reader     stream::reader, values, pending (bytes so far)       AMQPValue
+//! AMQPValue  generation::owned, by values                         a new vector
 //! AMQPValue  generation::values, by scalars, strings, context     slice, vector, device
 //! AMQPFlags  generation::flags; back by parsing::flags            a byte for eight flags
 //! ```

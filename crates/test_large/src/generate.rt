@@ -5,11 +5,12 @@ use super::flags::flags;
 use super::inputs::{bytes, table, values};
 use super::{Done, Unmade, done};
 use amq_protocol_types::generation::{
-    BackToTheBuffer, GenResult, Output, WriteContext, gen_boolean, gen_byte_array,
-    gen_decimal_value, gen_double, gen_field_array, gen_field_table, gen_flags, gen_float, gen_id,
-    gen_long_int, gen_long_long_int, gen_long_long_uint, gen_long_string, gen_long_uint,
-    gen_raw_value, gen_short_int, gen_short_short_int, gen_short_short_uint, gen_short_string,
-    gen_short_uint, gen_timestamp, gen_type, gen_value, gen_with_len,
+    BackToTheBuffer, GenResult, Output, WriteContext, field_table_to_vec, gen_boolean,
+    gen_byte_array, gen_decimal_value, gen_double, gen_field_array, gen_field_table, gen_flags,
+    gen_float, gen_id, gen_long_int, gen_long_long_int, gen_long_long_uint, gen_long_string,
+    gen_long_uint, gen_raw_value, gen_short_int, gen_short_short_int, gen_short_short_uint,
+    gen_short_string, gen_short_uint, gen_timestamp, gen_type, gen_value, gen_with_len,
+    tagged_field_table_to_vec, to_vec,
 };
 use amq_protocol_types::{
     AMQPType, AMQPValue, ByteArray, DecimalValue, Double, FieldArray, Float, LongString,
@@ -23,6 +24,9 @@ type Context = WriteContext<Vec<u8>>;
 pub fn call(alloc: Global, name: &str) -> Done {
     if let Some(name) = name.strip_prefix("VecU8") {
         return of_vector(alloc, name);
+    }
+    if name.ends_with("to_vec") {
+        return to_vector(alloc, name);
     }
     if name != "WriteContext::put" && !name.starts_with("gen_") {
         return Err(Unmade::Unknown);
@@ -40,6 +44,19 @@ pub fn call(alloc: Global, name: &str) -> Done {
             of_values(alloc, name, &mut context)
         }
         _ => of_scalar(name, &mut context),
+    }
+}
+
+/// A call that makes a vector.
+fn to_vector(alloc: Global, name: &str) -> Done {
+    match name {
+        "to_vec" => {
+            let value = AMQPValue::LongString(LongString::from(bytes(alloc)?));
+            done(to_vec(alloc, &value))
+        }
+        "tagged_field_table_to_vec" => done(tagged_field_table_to_vec(alloc, &table(alloc)?)),
+        "field_table_to_vec" => done(field_table_to_vec(alloc, &table(alloc)?)),
+        _ => Err(Unmade::Unknown),
     }
 }
 
