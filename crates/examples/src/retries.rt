@@ -5,7 +5,7 @@ ghost use Rattle.std.specs.Prelude.{IfOk};
 ghost use Rattle.examples.specs.Retries.{WritesRetries};
 
 use crate::headers::{HEADERS, LIMITS};
-use amq_protocol_types::generation::{WriteContext, gen_field_table};
+use amq_protocol_types::generation::field_table_to_vec;
 use amq_protocol_types::parsing::SliceInput;
 use amq_protocol_types::stream::{Limits, parse_field_table_within};
 use amq_protocol_types::{AMQPValue, Error, ShortString};
@@ -22,11 +22,7 @@ fn with_retries(alloc: Global, headers: &[u8], count: u32, limits: Limits) -> Re
     let (_rest, mut table) = parse_field_table_within(alloc, SliceInput::new(headers), limits)?;
     let key = ShortString::try_copy(alloc, "x-retries")?;
     table.place(key, AMQPValue::LongUInt(count))?;
-
-    let mut context = WriteContext::from(Vec::new(alloc));
-    gen_field_table(&table, &mut context)?;
-    let (written, _) = context.into_inner();
-    Ok(written)
+    Ok(field_table_to_vec(alloc, &table)?)
 }
 
 /// Prints headers with a count of retries.
