@@ -1,17 +1,14 @@
 #!/usr/bin/env python3
 """Has the comments of C that bindgen gives its declarations as comments of Rust: a filter, for bindings/rust/declarations.
 
-A call that shares the comment of the one before refers to that. A call over which the header has an inline function of its name
-says so.
+A call that shares the comment of the one before refers to that.
 """
 
 import ast
 import re
 import sys
 from collections.abc import Iterator
-from pathlib import Path
 
-INLINE = Path(__file__).resolve().parent.parent.parent / "include/amqp_values_inline.h"
 # An attribute with a line of a comment, a call, and the head of a section.
 LINE, CALL, SECTION = re.compile(r'\s*#\[doc = (".*")\]'), re.compile(r"\s*pub fn (\w+)"), re.compile(r" *---- .* ----")
 # A line of a list of calls, each with its meaning.
@@ -28,7 +25,6 @@ def lines_of(comment: list[str]) -> Iterator[str]:
 
 
 def written(source: str) -> Iterator[str]:
-    wrapped = {*re.findall(r"#define (amqpv_\w+) \1_\n", INLINE.read_text())}
     comment, last = list[str](), ""
     for line in source.splitlines():
         if found := LINE.fullmatch(line):
@@ -41,11 +37,6 @@ def written(source: str) -> Iterator[str]:
         if found := CALL.match(line):
             comment = comment or [f"See [`{last}`]."]
             last = found[1] if not comment[0].startswith("See ") else last
-            if found[1] in wrapped:
-                comment += [
-                    "",
-                    "C has an inline function of this name, which that describes. [This one takes less](crate).",
-                ]
         yield from (f"/// {it}".rstrip() for it in lines_of(comment))
         comment = []
         yield line

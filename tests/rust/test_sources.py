@@ -39,16 +39,6 @@ def test_each_call_has_the_comment_of_the_header() -> None:
         assert words[: len(of_header[call])] == of_header[call] if call in of_header else words[0] == "See", call
 
 
-def test_calls_that_take_less_are_those_of_the_header() -> None:
-    """The crate says what six exported calls don't take that C's inline functions do, and each of the six refers to that."""
-    said = re.findall(r"(?s)of the same name:\n(.*?) \*\n", HEADER.read_text())
-    lines = [re.sub(r"(?m)^ \*   ", "//! ", it).replace(" there", "") for it in said]
-    assert len(lines) == 1 and lines[0] in (RUST / "amqp-values-sys/src/lib.rs").read_text()
-    declared = (RUST / "amqp-values-sys/src/bindings.rs").read_text()
-    found = re.findall(r"takes less\]\(crate\)\.\n +pub fn (\w+)", declared)
-    assert sorted(found) == sorted(re.findall(r"amqpv_\w+(?=\(\))", lines[0]))
-
-
 @pytest.mark.parametrize("name", CRATES)
 def test_version(name: str) -> None:
     """A crate has the header's version, also where it names the other."""

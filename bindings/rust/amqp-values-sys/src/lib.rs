@@ -11,11 +11,7 @@
 //! - No length of what a pointer is passed to exceeds PTRDIFF_MAX. (Numbers in an entry, a cursor or
 //!   a container may.)
 //!
-//! The comments are those of the header. Six calls take less here than they say:
-//! - amqpv_read(), amqpv_measure() and amqpv_from_json() don't take NULL for `problem`;
-//! - amqpv_find() doesn't take `from` as `entry`, and returns AMQPV_NONE for a step whose `into`
-//!   is neither of the two;
-//! - amqpv_to_json() and amqpv_write_json() write no NUL, and need no room for it.
+//! The comments are those of the header.
 #![no_std]
 
 #[allow(non_camel_case_types)]
