@@ -114,7 +114,7 @@ def broken_promises(client: CheckedClient) -> Iterator[str]:
 def foreign_in(modules: Iterable[str]) -> Iterator[str]:
     """What isn't a client's own in its modules and their classes, neither of its package nor of Python's library."""
     for name in modules:
-        own = {name.partition(".")[0], *sys.stdlib_module_names}
+        own = {name.partition(".")[0], "amqp_values", *sys.stdlib_module_names}
         found = vars(sys.modules[name])
         classes = [(key, it) for key, it in found.items() if isinstance(it, type) and it.__module__ == name]
         for where, names in ((name, found), *((f"{name}.{key}", vars(it)) for key, it in classes)):
