@@ -2,7 +2,7 @@
  * Makes the calls of amqp_values.h that write to a buffer, with buffers of every size up to what is needed and one
  * more, and with each allocation failing in turn. test_programs.py runs it: each line of standard input is a call, its
  * flags, what it is given, and what it has to write: hexadecimal digits after a `.`. amqpv_warn, which writes a struct,
- * has nothing there. Prints how many calls it made.
+ * has nothing there. If what is given is wrong, the line ends with the result instead. Prints how many calls it made.
  *
  * Linked with -Wl,--wrap of malloc, realloc and free. All that is allocated has to be freed.
  */
@@ -71,7 +71,9 @@ static amqpv_result make_call(size_t n, size_t *length) {
         result = amqpv_write_json(&in, (char *)buffer, n, length);
     } else if (is_call("from_json")) {
         result = amqpv_from_json((const char *)in.bytes, in.length, AMQPV_MAX_DEPTH, buffer, n, length, &problem);
-        CHECK(problem.offset == 77 && problem.missing == 77 && problem.tag == 77);
+        int is_set = result <= AMQPV_NOT_UTF8 && result >= AMQPV_NOT_A_VALUE;
+        CHECK(is_set || result == AMQPV_TOO_DEEP
+              || (problem.offset == 77 && problem.missing == 77 && problem.tag == 77));
     } else {
         result = amqpv_warn(&in, 64, 2, &warnings);
         *length = 0;
@@ -88,6 +90,19 @@ static amqpv_result make_call(size_t n, size_t *length) {
     return result;
 }
 
+/* What is given is wrong: whatever the buffer's size and whichever allocation fails, nothing is written. */
+static void try_wrong(amqpv_result wanted) {
+    for (uint64_t nth = 0, made = 0; nth <= made; nth++) {
+        uint64_t before = requests;
+        size_t length;
+        failing = nth > 0 ? before + nth : 0;
+        amqpv_result result = make_call(nth % 2 > 0 ? 64 : 0, &length);
+        failing = 0;
+        CHECK((result == wanted || (nth > 0 && result == AMQPV_NO_MEMORY)) && length == 0);
+        made = nth > 0 ? made : requests - before;
+    }
+}
+
 int main(void) {
     static char line[4 * MOST], given[2 * MOST], out[2 * MOST];
     static uint8_t bytes[MOST];
@@ -96,11 +111,18 @@ int main(void) {
     while (fgets(line, sizeof line, stdin) != NULL) {
         size_t length;
         unsigned of_line;
-        CHECK(sscanf(line, "%31s %u .%s .%s", call, &of_line, given, out) >= 3
+        int wrong = 0;
+        CHECK(sscanf(line, "%31s %u .%s %d", call, &of_line, given, &wrong) == 4
+              || sscanf(line, "%31s %u .%s .%s", call, &of_line, given, out) >= 3
               || sscanf(line, "%31s %u . .%s", call, &of_line, out) == 3);
         flags = of_line;
         given_length = of_digits(given, bytes);
         memcpy(given_end - given_length, bytes, given_length);
+        if (wrong != 0) {
+            try_wrong((amqpv_result)wrong);
+            given[0] = 0;
+            continue;
+        }
         wanted_length = of_digits(out, wanted);
         uint64_t before = requests;
         size_t needed = wanted_length + after();

@@ -24,6 +24,10 @@ from tests.model.encoding import field, read, write
 from tests.model.inputs import value_of
 from tests.model.tables import random_table, raw
 
+# The results of what is wrong, as include/amqp_values.h has them.
+UNKNOWN_TAG, CUT, KEY_CUT, KEY_NOT_UTF8, TOO_DEEP, NOT_UTF8, NOT_JSON, NOT_A_VALUE = -2, -3, -4, -5, -7, -9, -10, -11
+# Pairs that end a table, and what amqpv_read() finds in them.
+WRONG_PAIRS = {b"\1az": UNKNOWN_TAG, b"\1a": CUT, b"\2a": KEY_CUT, b"\1\xffV": KEY_NOT_UTF8}
 # The programs that have no input.
 ALONE = ("habits.c", "large.c", "nulls.c", "threads.c")
 CC_OF_AARCH64 = [COMPILERS[AARCH64][0], *FLAGS]
@@ -69,11 +73,29 @@ def of_memory(make: Random) -> Iterator[tuple[str, int, bytes, bytes]]:
         yield "from_json", 0, text_for(make, value).encode(), encoding
 
 
+def wrong_for_memory(make: Random) -> Iterator[tuple[str, int, bytes, int]]:
+    """What memory.c is given that is wrong, after or around a value: a call, its flags, what it gets, and its result."""
+    for _ in range(10):
+        table = raw(random_table(make, 2))
+        text = json_of(read(table)[0]).encode()
+        yield "from_json", 0, b'{"b":%b,"a":1.5}' % text, NOT_A_VALUE
+        yield "from_json", 0, b'{"b":%b,"a":{"$ByteArray":"0g"}}' % text, NOT_A_VALUE
+        yield "from_json", 0, b"[%b,]" % text, NOT_JSON
+        yield "from_json", 0, b'[%b,"\\x"]' % text, NOT_JSON
+        yield "from_json", 0, b"[%b," % text + b"[" * 32, TOO_DEEP
+        yield "from_json", 0, b'[%b,"\xff"]' % text, NOT_UTF8
+        for pair, result in WRONG_PAIRS.items():
+            tagged = field(b"F", b"\1b" + table + pair)
+            for call in ("canonical", "to_json"):
+                yield call, 0, tagged, result
+                yield call, 1, tagged[1:], result
+
+
 def test_memory(linked: Words, tmp_path: Path, seed: int) -> None:
     """Buffers of every size, and each allocation failing in turn."""
-    lines = [
-        f"{call} {flags} .{given.hex()} .{wanted.hex()}\n" for call, flags, given, wanted in of_memory(Random(seed))
-    ]
+    make = Random(seed)
+    lines = [f"{call} {flags} .{given.hex()} .{wanted.hex()}\n" for call, flags, given, wanted in of_memory(make)]
+    lines += [f"{call} {flags} .{given.hex()} {result}\n" for call, flags, given, result in wrong_for_memory(make)]
     options = [*SANITIZERS, *WRAPPED]
     assert calls_of([compiled(HERE / "memory.c", tmp_path / "program", linked, options=options)], "".join(lines))
 
