@@ -37,8 +37,8 @@ def stand_in(folder: Path, name: str) -> Path:
     shutil.copy(sources / f"{name}.c", folder / "c/calls.c")
     if name == ALLOCATING:
         shutil.copy(MALLOC, folder / "c")
-    for it in ("bin", "real"):
-        (folder / it).mkdir()
+    for part in ("bin", "real"):
+        (folder / part).mkdir()
     for it in (own / "bin").iterdir():
         (folder / "bin" / it.name).symlink_to(TOP / "packaging/clang_to_assembly" if it.name == "clang" else it)
     (folder / "real/clang").symlink_to(own / "bin/clang")

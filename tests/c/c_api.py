@@ -246,13 +246,13 @@ def canonical(data: bytes, *limits: int) -> tuple[int, bytes | int]:
     return written("canonical", byref(given(data, *limits)))
 
 
-def to_json(data: bytes, *limits: int, call: str = "to_json") -> tuple[int, bytes | int]:
+def to_json(data: bytes, *limits: int) -> tuple[int, bytes | int]:
     """The result, and the text, after which there is a NUL, or the length that is set."""
-    return written(call, byref(given(data, *limits)), end=b"\0")
+    return written("to_json", byref(given(data, *limits)), end=b"\0")
 
 
 def write_json(data: bytes, *limits: int) -> tuple[int, bytes | int]:
-    return to_json(data, *limits, call="write_json")
+    return written("write_json", byref(given(data, *limits)), end=b"\0")
 
 
 def from_json(text: bytes, nesting: int = NESTING) -> tuple[int, bytes | int, Found]:

@@ -8,6 +8,11 @@ pub mod MeantContainers
 pub mod Refusals
 pub mod PutEncodings
 pub mod Scanning
+pub mod OpenBrackets
+pub mod Numerals
+pub mod Halves
+pub mod Continued
+pub mod Completing
 pub mod Encodings
 -- writing one
 pub mod Escapes

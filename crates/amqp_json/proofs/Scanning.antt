@@ -58,14 +58,14 @@ string_plain (Some s) = record { same = λ left rest. refl }
 -- ---- a byte
 
 -- a byte that is none of these
-record IsOther (x : ℕ) : Type 0 where
+pub record IsOther (x : ℕ) : Type 0 where
   pub no_quote : (x == 34) ≡ false
   pub no_backslash : (x == 92) ≡ false
   pub no_operator : is_operator x ≡ false
   pub no_opening : (x == 123 || x == 91) ≡ false
   pub no_closing : (x == 125 || x == 93) ≡ false
 
-by_byte : (P : ℕ → Type 0) → P 34 → P 92 → P 123 → P 125 → P 91 → P 93 → P 58 → P 44 → ((x : ℕ) → IsOther x → P x) → (x : ℕ) → P x
+pub by_byte : (P : ℕ → Type 0) → P 34 → P 92 → P 123 → P 125 → P 91 → P 93 → P 58 → P 44 → ((x : ℕ) → IsOther x → P x) → (x : ℕ) → P x
 by_byte P a b c d e f g h other x =
     at x 34 a (λ q. at x 92 b (λ s. at x 123 c (λ c. at x 125 d (λ d. at x 91 e (λ e. at x 93 f (λ f. at x 58 g (λ g. at x 44 h (λ h.
     other x (record { no_quote = q; no_backslash = s; no_operator = rw (c, d, e, f, g, h) refl; no_opening = rw (c, e) refl; no_closing = rw (d, f) refl })))))))))

@@ -37,6 +37,10 @@ IsRefusedAs most (TooDeep at) json = option_and_then meaning (json most) ≡ Non
 IsRefusedAs most (NotAValue at mismatch) json = (levels : ℕ) → most ≤ levels → option_and_then meaning (json levels) ≡ None
 IsRefusedAs most e json = Unit {0}
 
+-- no JSON text begins with these bytes, however many levels are allowed
+abbrev pub BeginsNoJson : List ℕ → Type 0
+BeginsNoJson front = (rest : List ℕ) (levels : ℕ) → json_within levels (front ++ rest) ≡ None
+
 -- and it is `TooDeep` exactly if the text opens one array or object too many before anything else is wrong with it
 abbrev pub IsRefusedWithin : ℕ → JsonError → List ℕ → Type 0
 IsRefusedWithin most e t = IsRefusedAs most e (λ levels. json_within levels t) × ReportsNesting most e t

@@ -8,6 +8,7 @@ pub mod Conversions
 -- For private clauses.
 pub mod Puts
 pub mod Scans
+pub mod Continuations
 pub mod Printing
 -- Of values that were read in place.
 pub mod Views

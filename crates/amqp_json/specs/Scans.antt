@@ -1,7 +1,9 @@
 -- For private clauses of `src/nesting.rt` and `src/syntax.rt`: how a byte takes the scan of a text further.
-use Rattle.std.specs.Prelude.{ℕ, suc, ◌+◌, ◌≤◌, ◌≡◌, ◌==◌, ◌||◌, List, ◌++◌, length, take, Bool, cond}
+use Rattle.std.specs.Prelude.{ℕ, zero, suc, ◌+◌, ◌≤◌, ◌≡◌, ◌==◌, ◌||◌, List, [], ◌∷◌, ◌++◌, length, take, get_or, Bool, cond}
 use Rattle.json.specs.Word.{is_operator, is_space}
 use Rattle.json.specs.Lex.{Mode, between, in_word, in_string, in_escape, lex}
+use Rattle.amqp_json.specs.declared.brackets.Bracket.{Bracket}
+use Rattle.amqp_json.specs.declared.brackets.Bracket.TheVariants.{Array}
 use Rattle.amqp_json.specs.declared.nesting.Place.{Place}
 use Rattle.amqp_json.specs.declared.nesting.Place.TheVariants.{Between, InWord, InString, Escaped}
 use Rattle.amqp_json.specs.declared.error.SyntaxError.{SyntaxError}
@@ -39,6 +41,11 @@ pub record ScansTo (most : ℕ) (t : List ℕ) (at : ℕ) (mode : Mode) (left : 
   pub same : (rest : List ℕ) → lexemes_fit most (lex between (take at t ++ rest)) ≡ lexemes_fit left (lex mode rest)
 
 -- ---- where a text stops being JSON
+
+-- the brackets that are open, the innermost first, if they are so many of the list, with the innermost last
+abbrev pub innermost_first : List Bracket → ℕ → List Bracket
+innermost_first bs zero = []
+innermost_first bs (suc depth) = get_or bs depth Array ∷ innermost_first bs depth
 
 -- what is wrong at a byte, and not at the end
 abbrev pub IsAtByte : SyntaxError → Type 0

@@ -14,6 +14,7 @@
 //! `crates/test_calls/data/json.calls`, and `tests/c/test_by_model.py` from C.
 #![tactic(auto)]
 
+mod brackets;
 mod decode;
 mod encode;
 mod error;
