@@ -42,7 +42,7 @@ pub rejected_text : (most : ℕ) (t old new : List ℕ) (e : JsonError) → IsUt
     → IsPutOrRejected most t old new (Err (json_fault e)) (json_offset e)
 rejected_text most t old new json.OutOfMemory utf8 refused = utf8
 rejected_text most t old new json.TooLarge utf8 refused = utf8
-rejected_text most t old new (json.Syntax at error) utf8 refused = (utf8, refused.0, refused.1)
+rejected_text most t old new (json.Syntax at error) utf8 refused = (utf8, refused.0, refused.1, refused.2)
 rejected_text most t old new (json.TooDeep at) utf8 refused = (utf8, refused.0, refused.1)
 rejected_text most t old new (json.NotAValue at mismatch) utf8 refused = (utf8, refused.0, refused.1)
 

@@ -1,12 +1,12 @@
 -- `WritesJson` and `WritesEncoding`: what `amqpv_proved_to_json` and `amqpv_proved_from_json` return and write.
-use Rattle.std.specs.Prelude.{ℕ, min, ◌≡◌, ◌<◌, ◌≤◌, ℤ, false, List, ◌++◌, length, Option, Some, None, IfSome, Result, Ok, Err, IfErr, MatchResult, ◌⊎◌}
+use Rattle.std.specs.Prelude.{ℕ, min, ◌+◌, ◌≡◌, ◌<◌, ◌≤◌, ℤ, false, List, ◌++◌, length, take, Option, Some, None, IfSome, Result, Ok, Err, IfErr, MatchResult, ◌⊎◌}
 use Rattle.std.specs.Str.{IsUtf8, IsValidUpTo}
 use Rattle.amqp_value_core.specs.Values.{Tree}
 use Rattle.amqp_value_core.specs.Outcomes.{Outcome, found}
 use Rattle.amqp_value_core.specs.Texts.{text}
 use Rattle.amqp_json.specs.declared.error.JsonError.{JsonError}
 use Rattle.amqp_json.specs.declared.error.JsonError.TheVariants as json
-use Rattle.amqp_json.specs.Conversions.{IsJsonOf}
+use Rattle.amqp_json.specs.Conversions.{IsJsonOf, BeginsNoJson}
 use Rattle.amqp_json.specs.Meaning.{most_levels, json_within, meant_within}
 use Rattle.amqp_json.specs.Nesting.{IsTooDeepAt}
 use Rattle.amqp_json.specs.Written.{counted}
@@ -57,11 +57,12 @@ IsEncodingPut most t old new n = (v : Tree) × IsTextOf most t v × IsReadAs (te
 
 -- what is wrong with a text of which at most `most` arrays and objects may be open at once: it isn't UTF-8, from the
 -- byte `at` on, at which no character begins. Or it is, and opens one too many at `at` before anything else is wrong with
--- it. Or it doesn't, and isn't JSON, or means nothing, however deep it may nest
+-- it. Or it doesn't, and isn't JSON, or means nothing, however deep it may nest. If it isn't JSON, no JSON text begins with
+-- the bytes up to and including the byte `at`, or `at` is the end
 abbrev pub IsTextFault : ℕ → List ℕ → Fault → ℕ → Type 0
 IsTextFault most t NotUtf8 at = IsValidUpTo t at
 IsTextFault most t TooDeep at = IsUtf8 t × (meant_within most t ≡ None) × IsTooDeepAt most t at
-IsTextFault most t NotJson at = IsUtf8 t × ((levels : ℕ) → most ≤ levels → json_within levels t ≡ None) × ((byte : ℕ) → IsTooDeepAt most t byte → ⊥)
+IsTextFault most t NotJson at = IsUtf8 t × ((levels : ℕ) → most ≤ levels → json_within levels t ≡ None) × ((byte : ℕ) → IsTooDeepAt most t byte → ⊥) × (at < length t → BeginsNoJson (take (at + 1) t))
 IsTextFault most t NotAValue at = IsUtf8 t × ((levels : ℕ) → most ≤ levels → meant_within levels t ≡ None) × ((byte : ℕ) → IsTooDeepAt most t byte → ⊥)
 IsTextFault most t _ at = ⊥
 

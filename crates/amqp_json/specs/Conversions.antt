@@ -1,6 +1,6 @@
 -- What the clauses of the public calls say: `IsEncodingWithin`, from a JSON text to an encoding,
 -- and `IsJsonOf`, from an encoding to a JSON text; and why a call returns an error.
-use Rattle.std.specs.Prelude.{ℕ, ◌≡◌, ◌<◌, ◌≤◌, List, ◌++◌, length, drop, Option, Some, None, option_and_then, false}
+use Rattle.std.specs.Prelude.{ℕ, ◌≡◌, ◌<◌, ◌≤◌, List, ◌++◌, ◌+◌, length, take, drop, Option, Some, None, option_and_then, false}
 use Rattle.json.specs.Json.{Json}
 use Rattle.amq_protocol_types.specs.declared.parsing.within.Limits.{Limits}
 use Rattle.amq_protocol_types.specs.parsing.Headers.{extent, IsWholeValue}
@@ -41,9 +41,14 @@ IsRefusedAs most e json = Unit {0}
 abbrev pub BeginsNoJson : List ℕ → Type 0
 BeginsNoJson front = (rest : List ℕ) (levels : ℕ) → json_within levels (front ++ rest) ≡ None
 
+-- the byte at which a text stops being JSON: no JSON text has the bytes up to and including it, or it is the end
+abbrev pub StopsAt : JsonError → List ℕ → Type 0
+StopsAt (Syntax at error) t = at < length t → BeginsNoJson (take (at + 1) t)
+StopsAt e t = Unit {0}
+
 -- and it is `TooDeep` exactly if the text opens one array or object too many before anything else is wrong with it
 abbrev pub IsRefusedWithin : ℕ → JsonError → List ℕ → Type 0
-IsRefusedWithin most e t = IsRefusedAs most e (λ levels. json_within levels t) × ReportsNesting most e t
+IsRefusedWithin most e t = IsRefusedAs most e (λ levels. json_within levels t) × ReportsNesting most e t × StopsAt e t
 
 -- the byte of an error is in a text of that many bytes, or its end. Where the text isn't JSON it is the end exactly if
 -- something is missing there

@@ -2,6 +2,7 @@
 -- are no reason.
 use Rattle.std.proofs.Common.{rules, ◌≡◌, ◌∷◌, Some, ap, ◌∙◌, arith}
 use Rattle.json.specs.Reads.{token_of}
+use Rattle.amqp_json.specs.Nesting.{OpensTooMany}
 use Rattle.amqp_json.proofs.Refusals.{document_refused, more_tokens}
 use Rattle.amqp_json.proofs.walk.put_document.Goals as goal
 
@@ -16,4 +17,5 @@ returns-in-Some-clause-nesting c =
     let s = c.next.new.self in
     let t = token_of c.in-Some.field-0 in
     let next : c.put_value.new.reader ≡ t ∷ s = search rules in
-    more_tokens c.args.levels c.args.reader.now s t v (found c.args.levels (omega arith) ∙ ap (λ ts. Some (v, ts)) next)
+    let few : OpensTooMany c.args.levels c.args.reader.now → ⊥ = more_tokens c.args.levels c.args.reader.now s t v (found c.args.levels (omega arith) ∙ ap (λ ts. Some (v, ts)) next) in
+    search (rules, few)
