@@ -83,7 +83,11 @@ def test_what_is_read(client: Client, seed: int) -> None:
 @each_version
 def test_options(client: Client) -> None:
     assert codec(client).read(TWICE, 0)[0] == {"a": False}
-    assert codec(client, equal_keys="first").read(TWICE, 0)[0] == {"a": True}
+    first = codec(client, equal_keys="first")
+    came = first.read(TWICE, 0)[0]
+    assert came == {"a": True}
+    came["b"] = None
+    assert first.write(came) == field(b"", b"\1at\1\1bV")
     refused, end = codec(client, equal_keys="refuse").read(TWICE + b"..", 0)
     assert isinstance(refused, Refused) and (refused.problem.kind, refused.problem.offset) == ("equal keys", 8)
     assert refused.raw == TWICE == codec(client, equal_keys="refuse").write(refused) and end == len(TWICE)
