@@ -80,7 +80,11 @@ use store::{
 /// Checks the value at the start of the input, all of it, and returns its entry, or the first problem. By
 /// `Rules::Reading` a value is read if, and only if, the grammar has one there.
 #[unsafe(no_mangle)]
-pub extern "C" fn amqpv_proved_read(input: &Input<'_>, entry: &mut Entry, problem: &mut Problem) -> i32
+pub extern "C" fn amqpv_proved_read(
+    input: &Input<'_>,
+    entry: &mut Entry,
+    problem: &mut Problem,
+) -> i32
     ensures unknown_flag { rules input.now ≡ None → (result ≡ code_of Invalid)
         × (entry.new ≡ entry.old) × (problem.new ≡ problem.old) }
     ensures reads { (by : Rules) → rules input.now ≡ Some by
@@ -160,7 +164,11 @@ pub extern "C" fn amqpv_as_uint(entry: &Entry, number: &mut u64) -> i32
 
 /// Checks the value at the start of the input as `amqpv_proved_read` does, and measures it.
 #[unsafe(no_mangle)]
-pub extern "C" fn amqpv_proved_measure(input: &Input<'_>, size: &mut Size, problem: &mut Problem) -> i32
+pub extern "C" fn amqpv_proved_measure(
+    input: &Input<'_>,
+    size: &mut Size,
+    problem: &mut Problem,
+) -> i32
     ensures flags { has_known_flags input.now ≡ false → (result ≡ code_of Invalid)
         × (size.new ≡ size.old) × (problem.new ≡ problem.old) }
     ensures measures { has_known_flags input.now ≡ true
@@ -267,7 +275,11 @@ pub extern "C" fn amqpv_close(buffer: &mut [u8], into: &mut Container, body: &Co
 ///
 /// `length` becomes how many bytes were written, or the capacity that is needed, otherwise 0.
 #[unsafe(no_mangle)]
-pub extern "C" fn amqpv_proved_write_json(input: &Input<'_>, buffer: &mut [u8], length: &mut usize) -> i32
+pub extern "C" fn amqpv_proved_write_json(
+    input: &Input<'_>,
+    buffer: &mut [u8],
+    length: &mut usize,
+) -> i32
     ensures { WritesOrderedJson input.now buffer.old result buffer.new length.new }
 {
     return_length(put_json(input, buffer), length)
