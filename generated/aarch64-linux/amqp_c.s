@@ -8050,11 +8050,10 @@ amqpv_peek:
 	.byte	(.LBB45_12-.LBB45_6)>>2
 	.byte	(.LBB45_6-.LBB45_6)>>2
 
-	.section	.text.amqpv_find,"ax",@progbits
-	.globl	amqpv_find
+	.section	.text.amqpv_proved_find,"ax",@progbits
 	.p2align	2
-	.type	amqpv_find,@function
-amqpv_find:
+	.type	amqpv_proved_find,@function
+amqpv_proved_find:
 	sub	sp, sp, #176
 	stp	x22, x21, [sp, #144]
 	ldr	w22, [x0, #24]
@@ -9039,8 +9038,8 @@ amqpv_find:
 	mvn	w0, w14
 	b	.LBB46_2
 .Lfunc_end46:
-	.size	amqpv_find, .Lfunc_end46-amqpv_find
-	.section	.rodata.amqpv_find,"a",@progbits
+	.size	amqpv_proved_find, .Lfunc_end46-amqpv_proved_find
+	.section	.rodata.amqpv_proved_find,"a",@progbits
 .LJTI46_0:
 	.byte	(.LBB46_95-.LBB46_95)>>2
 	.byte	(.LBB46_98-.LBB46_95)>>2
@@ -9813,11 +9812,10 @@ amqpv_is_canonical:
 	.byte	(.LBB47_44-.LBB47_30)>>2
 	.byte	(.LBB47_34-.LBB47_30)>>2
 
-	.section	.text.amqpv_measure,"ax",@progbits
-	.globl	amqpv_measure
+	.section	.text.amqpv_proved_measure,"ax",@progbits
 	.p2align	2
-	.type	amqpv_measure,@function
-amqpv_measure:
+	.type	amqpv_proved_measure,@function
+amqpv_proved_measure:
 	sub	sp, sp, #160
 	ldr	w9, [x0, #24]
 	stp	x29, x30, [sp, #96]
@@ -9936,13 +9934,12 @@ amqpv_measure:
 .LBB48_21:
 	brk	#0x1
 .Lfunc_end48:
-	.size	amqpv_measure, .Lfunc_end48-amqpv_measure
+	.size	amqpv_proved_measure, .Lfunc_end48-amqpv_proved_measure
 
-	.section	.text.amqpv_read,"ax",@progbits
-	.globl	amqpv_read
+	.section	.text.amqpv_proved_read,"ax",@progbits
 	.p2align	2
-	.type	amqpv_read,@function
-amqpv_read:
+	.type	amqpv_proved_read,@function
+amqpv_proved_read:
 	sub	sp, sp, #208
 	ldp	q1, q0, [x0]
 	stp	x29, x30, [sp, #112]
@@ -10242,8 +10239,8 @@ amqpv_read:
 .LBB49_53:
 	brk	#0x1
 .Lfunc_end49:
-	.size	amqpv_read, .Lfunc_end49-amqpv_read
-	.section	.rodata.amqpv_read,"a",@progbits
+	.size	amqpv_proved_read, .Lfunc_end49-amqpv_proved_read
+	.section	.rodata.amqpv_proved_read,"a",@progbits
 .LJTI49_0:
 	.byte	(.LBB49_6-.LBB49_6)>>2
 	.byte	(.LBB49_38-.LBB49_6)>>2
@@ -10302,11 +10299,10 @@ amqpv_read:
 	.byte	(.LBB49_14-.LBB49_6)>>2
 	.byte	(.LBB49_6-.LBB49_6)>>2
 
-	.section	.text.amqpv_write_json,"ax",@progbits
-	.globl	amqpv_write_json
+	.section	.text.amqpv_proved_write_json,"ax",@progbits
 	.p2align	2
-	.type	amqpv_write_json,@function
-amqpv_write_json:
+	.type	amqpv_proved_write_json,@function
+amqpv_proved_write_json:
 	sub	sp, sp, #176
 	movi	v0.2d, #0000000000000000
 	ldr	w10, [x0, #24]
@@ -10457,7 +10453,7 @@ amqpv_write_json:
 .LBB50_23:
 	brk	#0x1
 .Lfunc_end50:
-	.size	amqpv_write_json, .Lfunc_end50-amqpv_write_json
+	.size	amqpv_proved_write_json, .Lfunc_end50-amqpv_proved_write_json
 
 	.section	.text.amqpv_close,"ax",@progbits
 	.globl	amqpv_close
@@ -12986,6 +12982,186 @@ amqpv_put_value:
 	.byte	(.LBB55_52-.LBB55_43)>>2
 	.byte	(.LBB55_47-.LBB55_43)>>2
 
+	.section	.text.amqpv_read,"ax",@progbits
+	.globl	amqpv_read
+	.p2align	2
+	.type	amqpv_read,@function
+amqpv_read:
+	.cfi_startproc
+	sub	sp, sp, #48
+	.cfi_def_cfa_offset 48
+	stp	x29, x30, [sp, #32]
+	add	x29, sp, #32
+	.cfi_def_cfa w29, 16
+	.cfi_offset w30, -8
+	.cfi_offset w29, -16
+	cmp	x2, #0
+	add	x8, sp, #8
+	csel	x2, x8, x2, eq
+	bl	amqpv_proved_read
+	.cfi_def_cfa wsp, 48
+	ldp	x29, x30, [sp, #32]
+	add	sp, sp, #48
+	.cfi_def_cfa_offset 0
+	.cfi_restore w30
+	.cfi_restore w29
+	ret
+.Lfunc_end56:
+	.size	amqpv_read, .Lfunc_end56-amqpv_read
+	.cfi_endproc
+
+	.section	.text.amqpv_measure,"ax",@progbits
+	.globl	amqpv_measure
+	.p2align	2
+	.type	amqpv_measure,@function
+amqpv_measure:
+	.cfi_startproc
+	sub	sp, sp, #48
+	.cfi_def_cfa_offset 48
+	stp	x29, x30, [sp, #32]
+	add	x29, sp, #32
+	.cfi_def_cfa w29, 16
+	.cfi_offset w30, -8
+	.cfi_offset w29, -16
+	cmp	x2, #0
+	add	x8, sp, #8
+	csel	x2, x8, x2, eq
+	bl	amqpv_proved_measure
+	.cfi_def_cfa wsp, 48
+	ldp	x29, x30, [sp, #32]
+	add	sp, sp, #48
+	.cfi_def_cfa_offset 0
+	.cfi_restore w30
+	.cfi_restore w29
+	ret
+.Lfunc_end57:
+	.size	amqpv_measure, .Lfunc_end57-amqpv_measure
+	.cfi_endproc
+
+	.section	.text.amqpv_find,"ax",@progbits
+	.globl	amqpv_find
+	.p2align	2
+	.type	amqpv_find,@function
+amqpv_find:
+	.cfi_startproc
+	sub	sp, sp, #80
+	.cfi_def_cfa_offset 80
+	stp	x29, x30, [sp, #64]
+	add	x29, sp, #64
+	.cfi_def_cfa w29, 16
+	.cfi_offset w30, -8
+	.cfi_offset w29, -16
+	.cfi_remember_state
+	cbz	x3, .LBB58_6
+	add	x8, x2, #24
+	mov	x9, x3
+	b	.LBB58_3
+.LBB58_2:
+	subs	x9, x9, #1
+	b.eq	.LBB58_6
+.LBB58_3:
+	ldrb	w10, [x8], #32
+	cmp	w10, #70
+	b.eq	.LBB58_2
+	cmp	w10, #65
+	b.eq	.LBB58_2
+	mov	w0, #-13
+	.cfi_def_cfa wsp, 80
+	ldp	x29, x30, [sp, #64]
+	add	sp, sp, #80
+	.cfi_def_cfa_offset 0
+	.cfi_restore w30
+	.cfi_restore w29
+	ret
+.LBB58_6:
+	.cfi_restore_state
+	.cfi_remember_state
+	cmp	x1, x4
+	b.eq	.LBB58_8
+	bl	amqpv_proved_find
+	.cfi_def_cfa wsp, 80
+	ldp	x29, x30, [sp, #64]
+	add	sp, sp, #80
+	.cfi_def_cfa_offset 0
+	.cfi_restore w30
+	.cfi_restore w29
+	ret
+.LBB58_8:
+	.cfi_restore_state
+	ldp	q0, q1, [x1]
+	stp	q0, q1, [sp]
+	ldp	q0, q2, [x1, #32]
+	mov	x1, sp
+	stp	q0, q2, [sp, #32]
+	bl	amqpv_proved_find
+	.cfi_def_cfa wsp, 80
+	ldp	x29, x30, [sp, #64]
+	add	sp, sp, #80
+	.cfi_def_cfa_offset 0
+	.cfi_restore w30
+	.cfi_restore w29
+	ret
+.Lfunc_end58:
+	.size	amqpv_find, .Lfunc_end58-amqpv_find
+	.cfi_endproc
+
+	.section	.text.amqpv_write_json,"ax",@progbits
+	.globl	amqpv_write_json
+	.p2align	2
+	.type	amqpv_write_json,@function
+amqpv_write_json:
+	.cfi_startproc
+	stp	x29, x30, [sp, #-32]!
+	.cfi_def_cfa_offset 32
+	stp	x20, x19, [sp, #16]
+	mov	x29, sp
+	.cfi_def_cfa w29, 32
+	.cfi_offset w19, -8
+	.cfi_offset w20, -16
+	.cfi_offset w30, -24
+	.cfi_offset w29, -32
+	.cfi_remember_state
+	cmp	x2, #0
+	mov	x19, x3
+	mov	x20, x1
+	cset	w8, ne
+	sub	x2, x2, x8
+	bl	amqpv_proved_write_json
+	cmn	w0, #17
+	b.eq	.LBB59_4
+	cbnz	w0, .LBB59_3
+	ldr	x8, [x19]
+	strb	wzr, [x20, x8]
+.LBB59_3:
+	.cfi_def_cfa wsp, 32
+	ldp	x20, x19, [sp, #16]
+	ldp	x29, x30, [sp], #32
+	.cfi_def_cfa_offset 0
+	.cfi_restore w19
+	.cfi_restore w20
+	.cfi_restore w30
+	.cfi_restore w29
+	ret
+.LBB59_4:
+	.cfi_restore_state
+	ldr	x8, [x19]
+	cmn	x8, #1
+	b.eq	.LBB59_3
+	add	x8, x8, #1
+	str	x8, [x19]
+	.cfi_def_cfa wsp, 32
+	ldp	x20, x19, [sp, #16]
+	ldp	x29, x30, [sp], #32
+	.cfi_def_cfa_offset 0
+	.cfi_restore w19
+	.cfi_restore w20
+	.cfi_restore w30
+	.cfi_restore w29
+	ret
+.Lfunc_end59:
+	.size	amqpv_write_json, .Lfunc_end59-amqpv_write_json
+	.cfi_endproc
+
 	.type	.Lstatic.0,@object
 	.section	.rodata..Lstatic.0,"a",@progbits
 .Lstatic.0:
@@ -13131,4 +13307,5 @@ amqpv_put_value:
 	.size	".Lswitch.table.amqp_c::input::Input::read_error", 56
 
 	.ident	"rattle logic=dac8208d650f15bf3e2dc313a14fa4c783a3acf887bdfab66e1714b038d9e11b"
+	.ident	"clang version 22.1.8"
 	.section	".note.GNU-stack","",@progbits

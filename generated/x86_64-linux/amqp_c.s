@@ -8717,11 +8717,10 @@ amqpv_peek:
 	.long	.LBB45_11-.LJTI45_0
 	.long	.LBB45_5-.LJTI45_0
 
-	.section	.text.amqpv_find,"ax",@progbits
-	.globl	amqpv_find
+	.section	.text.amqpv_proved_find,"ax",@progbits
 	.p2align	4
-	.type	amqpv_find,@function
-amqpv_find:
+	.type	amqpv_proved_find,@function
+amqpv_proved_find:
 	pushq	%rbp
 	pushq	%r15
 	pushq	%r14
@@ -9762,8 +9761,8 @@ amqpv_find:
 	popq	%rbp
 	retq
 .Lfunc_end46:
-	.size	amqpv_find, .Lfunc_end46-amqpv_find
-	.section	.rodata.amqpv_find,"a",@progbits
+	.size	amqpv_proved_find, .Lfunc_end46-amqpv_proved_find
+	.section	.rodata.amqpv_proved_find,"a",@progbits
 	.p2align	2, 0x0
 .LJTI46_0:
 	.long	.LBB46_91-.LJTI46_0
@@ -10544,11 +10543,10 @@ amqpv_is_canonical:
 	.long	.LBB47_47-.LJTI47_1
 	.long	.LBB47_43-.LJTI47_1
 
-	.section	.text.amqpv_measure,"ax",@progbits
-	.globl	amqpv_measure
+	.section	.text.amqpv_proved_measure,"ax",@progbits
 	.p2align	4
-	.type	amqpv_measure,@function
-amqpv_measure:
+	.type	amqpv_proved_measure,@function
+amqpv_proved_measure:
 	pushq	%r15
 	pushq	%r14
 	pushq	%r13
@@ -10668,8 +10666,8 @@ amqpv_measure:
 .LBB48_20:
 	ud2
 .Lfunc_end48:
-	.size	amqpv_measure, .Lfunc_end48-amqpv_measure
-	.section	.rodata.amqpv_measure,"a",@progbits
+	.size	amqpv_proved_measure, .Lfunc_end48-amqpv_proved_measure
+	.section	.rodata.amqpv_proved_measure,"a",@progbits
 	.p2align	2, 0x0
 .LJTI48_0:
 	.long	.LBB48_14-.LJTI48_0
@@ -10678,11 +10676,10 @@ amqpv_measure:
 	.long	.LBB48_18-.LJTI48_0
 	.long	.LBB48_18-.LJTI48_0
 
-	.section	.text.amqpv_read,"ax",@progbits
-	.globl	amqpv_read
+	.section	.text.amqpv_proved_read,"ax",@progbits
 	.p2align	4
-	.type	amqpv_read,@function
-amqpv_read:
+	.type	amqpv_proved_read,@function
+amqpv_proved_read:
 	pushq	%rbp
 	pushq	%r15
 	pushq	%r14
@@ -10993,8 +10990,8 @@ amqpv_read:
 .LBB49_60:
 	ud2
 .Lfunc_end49:
-	.size	amqpv_read, .Lfunc_end49-amqpv_read
-	.section	.rodata.amqpv_read,"a",@progbits
+	.size	amqpv_proved_read, .Lfunc_end49-amqpv_proved_read
+	.section	.rodata.amqpv_proved_read,"a",@progbits
 	.p2align	2, 0x0
 .LJTI49_0:
 	.long	.LBB49_5-.LJTI49_0
@@ -11054,11 +11051,10 @@ amqpv_read:
 	.long	.LBB49_13-.LJTI49_0
 	.long	.LBB49_5-.LJTI49_0
 
-	.section	.text.amqpv_write_json,"ax",@progbits
-	.globl	amqpv_write_json
+	.section	.text.amqpv_proved_write_json,"ax",@progbits
 	.p2align	4
-	.type	amqpv_write_json,@function
-amqpv_write_json:
+	.type	amqpv_proved_write_json,@function
+amqpv_proved_write_json:
 	pushq	%rbp
 	pushq	%r15
 	pushq	%r14
@@ -11224,8 +11220,8 @@ amqpv_write_json:
 .LBB50_11:
 	ud2
 .Lfunc_end50:
-	.size	amqpv_write_json, .Lfunc_end50-amqpv_write_json
-	.section	.rodata.amqpv_write_json,"a",@progbits
+	.size	amqpv_proved_write_json, .Lfunc_end50-amqpv_proved_write_json
+	.section	.rodata.amqpv_proved_write_json,"a",@progbits
 	.p2align	2, 0x0
 .LJTI50_0:
 	.long	.LBB50_16-.LJTI50_0
@@ -13889,6 +13885,150 @@ amqpv_put_value:
 	.long	.LBB55_105-.LJTI55_2
 	.long	.LBB55_101-.LJTI55_2
 
+	.section	.text.amqpv_read,"ax",@progbits
+	.globl	amqpv_read
+	.p2align	4
+	.type	amqpv_read,@function
+amqpv_read:
+	.cfi_startproc
+	subq	$24, %rsp
+	.cfi_def_cfa_offset 32
+	testq	%rdx, %rdx
+	movq	%rsp, %rax
+	cmoveq	%rax, %rdx
+	callq	amqpv_proved_read@PLT
+	addq	$24, %rsp
+	.cfi_def_cfa_offset 8
+	retq
+.Lfunc_end56:
+	.size	amqpv_read, .Lfunc_end56-amqpv_read
+	.cfi_endproc
+
+	.section	.text.amqpv_measure,"ax",@progbits
+	.globl	amqpv_measure
+	.p2align	4
+	.type	amqpv_measure,@function
+amqpv_measure:
+	.cfi_startproc
+	subq	$24, %rsp
+	.cfi_def_cfa_offset 32
+	testq	%rdx, %rdx
+	movq	%rsp, %rax
+	cmoveq	%rax, %rdx
+	callq	amqpv_proved_measure@PLT
+	addq	$24, %rsp
+	.cfi_def_cfa_offset 8
+	retq
+.Lfunc_end57:
+	.size	amqpv_measure, .Lfunc_end57-amqpv_measure
+	.cfi_endproc
+
+	.section	.text.amqpv_find,"ax",@progbits
+	.globl	amqpv_find
+	.p2align	4
+	.type	amqpv_find,@function
+amqpv_find:
+	.cfi_startproc
+	subq	$72, %rsp
+	.cfi_def_cfa_offset 80
+	testq	%rcx, %rcx
+	je	.LBB58_5
+	leaq	24(%rdx), %rax
+	movq	%rcx, %r9
+	jmp	.LBB58_2
+	.p2align	4
+.LBB58_4:
+	addq	$32, %rax
+	decq	%r9
+	je	.LBB58_5
+.LBB58_2:
+	movzbl	(%rax), %r10d
+	cmpl	$70, %r10d
+	je	.LBB58_4
+	cmpl	$65, %r10d
+	je	.LBB58_4
+	movl	$-13, %eax
+	addq	$72, %rsp
+	.cfi_def_cfa_offset 8
+	retq
+.LBB58_5:
+	.cfi_def_cfa_offset 80
+	cmpq	%r8, %rsi
+	je	.LBB58_6
+	callq	amqpv_proved_find@PLT
+	addq	$72, %rsp
+	.cfi_def_cfa_offset 8
+	retq
+.LBB58_6:
+	.cfi_def_cfa_offset 80
+	movups	(%rsi), %xmm0
+	movups	16(%rsi), %xmm1
+	movups	32(%rsi), %xmm2
+	movups	48(%rsi), %xmm3
+	movaps	%xmm3, 48(%rsp)
+	movaps	%xmm2, 32(%rsp)
+	movaps	%xmm1, 16(%rsp)
+	movaps	%xmm0, (%rsp)
+	movq	%rsp, %rsi
+	callq	amqpv_proved_find@PLT
+	addq	$72, %rsp
+	.cfi_def_cfa_offset 8
+	retq
+.Lfunc_end58:
+	.size	amqpv_find, .Lfunc_end58-amqpv_find
+	.cfi_endproc
+
+	.section	.text.amqpv_write_json,"ax",@progbits
+	.globl	amqpv_write_json
+	.p2align	4
+	.type	amqpv_write_json,@function
+amqpv_write_json:
+	.cfi_startproc
+	pushq	%r14
+	.cfi_def_cfa_offset 16
+	pushq	%rbx
+	.cfi_def_cfa_offset 24
+	pushq	%rax
+	.cfi_def_cfa_offset 32
+	.cfi_offset %rbx, -24
+	.cfi_offset %r14, -16
+	movq	%rcx, %rbx
+	movq	%rsi, %r14
+	cmpq	$1, %rdx
+	adcq	$-1, %rdx
+	callq	amqpv_proved_write_json@PLT
+	cmpl	$-17, %eax
+	je	.LBB59_3
+	testl	%eax, %eax
+	jne	.LBB59_5
+	movq	(%rbx), %rcx
+	movb	$0, (%r14,%rcx)
+.LBB59_5:
+	addq	$8, %rsp
+	.cfi_def_cfa_offset 24
+	popq	%rbx
+	.cfi_def_cfa_offset 16
+	popq	%r14
+	.cfi_def_cfa_offset 8
+	retq
+.LBB59_3:
+	.cfi_def_cfa_offset 32
+	movq	(%rbx), %rcx
+	cmpq	$-1, %rcx
+	je	.LBB59_5
+	incq	%rcx
+	movq	%rcx, (%rbx)
+	addq	$8, %rsp
+	.cfi_def_cfa_offset 24
+	popq	%rbx
+	.cfi_def_cfa_offset 16
+	popq	%r14
+	.cfi_def_cfa_offset 8
+	retq
+.Lfunc_end59:
+	.size	amqpv_write_json, .Lfunc_end59-amqpv_write_json
+	.cfi_endproc
+
 	.type	.Lstatic.0,@object
 	.section	.rodata..Lstatic.0,"a",@progbits
 .Lstatic.0:
@@ -14034,4 +14174,5 @@ amqpv_put_value:
 	.size	".Lswitch.table.amqp_c::input::Input::read_error", 56
 
 	.ident	"rattle logic=dac8208d650f15bf3e2dc313a14fa4c783a3acf887bdfab66e1714b038d9e11b"
+	.ident	"clang version 22.1.8"
 	.section	".note.GNU-stack","",@progbits
