@@ -30,8 +30,7 @@ LISTED = {
 }
 # The lines that ask for memory by a number, and what bounds that.
 BY_NUMBER = {
-    "x.make_room(1 + s.len())?;": "the bytes that are written next",
-    "x.make_room(4 + s.len())?;": "the same",
+    "self.make_room(a.len() + b.len())?;": "the bytes that are written next",
     "x.make_room(all.len().div_ceil(8))?;": "the same",
     "let at = x.reserve(4)?;": "a length field",
     "self.output.make_room(n)": "what the caller asks for",

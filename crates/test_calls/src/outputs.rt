@@ -1,8 +1,8 @@
 //! Requests on `Output`: `output WHERE CALLS` makes the calls one after another. The answer has
 //! that of each, and what was written.
 //!
-//! WHERE is a slice's length, `vec`, or `io:STEPS`. A call is `put:BYTES`, `make_room:N`, and of a buffer
-//! `reserve:N`, `fill:AT:BYTES` or `back_to:AT`.
+//! WHERE is a slice's length, `vec`, or `io:STEPS`. A call is `put:BYTES`, `put_both:BYTES:BYTES`, `make_room:N`,
+//! and of a buffer `put_three:BYTES:BYTES:BYTE`, `reserve:N`, `fill:AT:BYTES` or `back_to:AT`.
 
 use super::devices::Device;
 use super::words::{bytes_of, digits, number};
@@ -67,6 +67,15 @@ fn buffer_call<W: BackToTheBuffer>(
             Ok(at) => Ok(write!(text, "ok {at}; ")?),
             Err(error) => push_how(text, Err(error)),
         },
+        "put_three" => {
+            let (a, rest) = words.split_once(':').unwrap_or((words, "-"));
+            let (b, c) = rest.split_once(':').unwrap_or((rest, "-"));
+            let (a, b, c) = (bytes_of(alloc, a)?, bytes_of(alloc, b)?, bytes_of(alloc, c)?);
+            let [c] = c.as_slice() else {
+                return Err(Trouble::Unknown);
+            };
+            push_how(text, output.put_three(a.as_slice(), b.as_slice(), *c))
+        }
         "fill" => {
             let (at, bytes) = words.split_once(':').unwrap_or((words, "-"));
             let (at, bytes): (u64, _) = (number(at)?, bytes_of(alloc, bytes)?);
@@ -98,6 +107,11 @@ fn output_call<W: Output>(
     let (name, word) = call.split_once(':').unwrap_or((call, ""));
     match name {
         "put" => push_how(text, output.put(bytes_of(alloc, word)?.as_slice())),
+        "put_both" => {
+            let (a, b) = word.split_once(':').unwrap_or((word, "-"));
+            let (a, b) = (bytes_of(alloc, a)?, bytes_of(alloc, b)?);
+            push_how(text, output.put_both(a.as_slice(), b.as_slice()))
+        }
         "make_room" => push_how(text, output.make_room(number(word)?)),
         _ => Err(Trouble::Unknown),
     }

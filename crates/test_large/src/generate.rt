@@ -67,6 +67,8 @@ fn of_vector(alloc: Global, name: &str) -> Done {
     match name {
         "Output::put" => done(vector.put(bytes.as_slice())),
         "Output::make_room" => done(vector.make_room(bytes.len())),
+        "Output::put_both" => done(vector.put_both(&[], bytes.as_slice())),
+        "BackToTheBuffer::put_three" => done(vector.put_three(&[], bytes.as_slice(), 0)),
         "BackToTheBuffer::reserve" => done(vector.reserve(bytes.len())),
         _ => Err(Unmade::Unknown),
     }
