@@ -70,7 +70,11 @@ fn buffer_call<W: BackToTheBuffer>(
         "put_three" => {
             let (a, rest) = words.split_once(':').unwrap_or((words, "-"));
             let (b, c) = rest.split_once(':').unwrap_or((rest, "-"));
-            let (a, b, c) = (bytes_of(alloc, a)?, bytes_of(alloc, b)?, bytes_of(alloc, c)?);
+            let (a, b, c) = (
+                bytes_of(alloc, a)?,
+                bytes_of(alloc, b)?,
+                bytes_of(alloc, c)?,
+            );
             let [c] = c.as_slice() else {
                 return Err(Trouble::Unknown);
             };
