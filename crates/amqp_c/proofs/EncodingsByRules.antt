@@ -3,7 +3,7 @@
 use Rattle.std.proofs.Common.{◌≡◌, ◌<◌, ◌≤◌, ◌-◌, ◌^◌, ℕ, zero, suc, Bool, true, false, Option, Some, None, List, [], ◌∷◌, ◌++◌, length, take, drop, refl, sym, ap, ◌∙◌, subst, arith, inl, inr, length-append, length-drop, if◌then◌else◌, ◌==◌, ◌+◌, append-nil}
 use Rattle.std.specs.Prelude.{option_map}
 use Rattle.std.specs.Int.{Width, w32, byte_len, from_be_bytes}
-use Rattle.std.proofs.lemmas.Bool.{cases_lt, lt-ltb, le-ltb}
+use Rattle.std.proofs.lemmas.Bool.{le-ltb}
 use Rattle.std.proofs.lemmas.List.{take_at, drop_at, take_all, take-append-le, drop-append-le, length-take-le, take-append-drop}
 use Rattle.std.proofs.lemmas.Nat.{from_be_bytes-to_be_bytes_4}
 use Rattle.amqp_value_core.specs.declared.types.amqp_type.AMQPType.{AMQPType}
@@ -18,6 +18,7 @@ use Rattle.amq_protocol_types.proofs.ParsingLaws.{wire_extent}
 use Rattle.amqp_in_place.specs.declared.problems.Rules.{Rules}
 use Rattle.amqp_in_place.specs.declared.problems.Rules.TheVariants as by_rules
 use Rattle.amqp_in_place.specs.Problems.{Search, known, allow_key, further, in_entries, in_payload, in_value, in_pair, pair_len, inside, value_problem, pair_problem}
+use Rattle.amqp_in_place.proofs.FirstProblems.{counted_there}
 use Rattle.amqp_in_place.proofs.AnyKeys.{no_further, neither, payload_there, payload_right, value_there, value_right, pair_there, pair_right, no_fixed_problem, as_weak, inside_weaker}
 use Rattle.amqp_in_place.specs.declared.problems.Rules.TheVariants.{AnyKeys}
 use Rattle.amqp_c.specs.Items.{IsEncodingBy, AreValuesBy, ArePairsBy, IsBodyBy}
@@ -67,18 +68,11 @@ known_kind by_rules.RabbitMq c type is = by (c == 85) is
     by true is = absurd cc
     by false is = is
 
--- a payload has at least its length field
-pub field_there : (w : Width) (b : List ℕ) → byte_len w ≤ extent_of None w b
-field_there w b = elim (cases_lt (length b) (byte_len w)) [
-  | inl cut ↦ rw (lt-ltb (length b) (byte_len w) cut) (omega arith)
-  | inr there ↦ rw (le-ltb (length b) (byte_len w) there) (omega arith)
-]
-
 -- more bytes after a payload that is all there don't change how many it has
 extent_more : (o : Option Layout) (w : Width) (b t : List ℕ) → extent_of o w b ≤ length b → extent_of o w (b ++ t) ≡ extent_of o w b
 extent_more (Some f) w b t there = refl
 extent_more None w b t there =
-    let long : byte_len w ≤ length b = omega (arith, field_there w b, there) in
+    let long : byte_len w ≤ length b = omega (arith, counted_there w b, there) in
     let more : byte_len w ≤ length (b ++ t) = omega (arith, long, length-append b t) in
     rw (le-ltb (length b) (byte_len w) long, le-ltb (length (b ++ t)) (byte_len w) more, take-append-le (byte_len w) b t long) refl
 
@@ -214,7 +208,7 @@ plain_reads _ _ (wire c type b v is raw) plain rules depth any =
 extent_less : (o : Option Layout) (w : Width) (b : List ℕ) (n : ℕ) → n ≡ extent_of o w b → n ≤ length b → extent_of o w (take n b) ≡ n
 extent_less (Some f) w b n is there = sym is
 extent_less None w b n is there =
-    let least : byte_len w ≤ n = omega (arith, is, field_there w b) in
+    let least : byte_len w ≤ n = omega (arith, is, counted_there w b) in
     let size : length (take n b) ≡ n = length-take-le n b there in
     let same : counted w (take n b) ≡ counted w b =
     ap (from_be_bytes w) (sym (take-append-le (byte_len w) (take n b) (drop n b) (omega (arith, least, size))) ∙ ap (take (byte_len w)) (take-append-drop n b)) in

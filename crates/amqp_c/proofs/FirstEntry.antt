@@ -30,7 +30,7 @@ use Rattle.amqp_c.specs.declared.fault.Fault.{Fault}
 use Rattle.amqp_c.specs.declared.fault.Fault.TheVariants.{More, UnknownTag}
 use Rattle.amqp_c.specs.CallResults.{header_fault}
 use Rattle.amqp_c.specs.Entries.{HeaderFaults, HasNoNumber, DescribesValue, IsEntry, HoldsContent, IsTagged, has_content, part}
-use Rattle.amqp_c.specs.Steps.{IsHeaded}
+use Rattle.amqp_in_place.specs.Searches.{IsHeaded}
 use Rattle.amqp_c.specs.Scalars.{bits_in, scale_in}
 use Rattle.amqp_c.proofs.Parts.{part_prefix, part_content}
 

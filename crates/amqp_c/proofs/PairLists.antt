@@ -1,33 +1,20 @@
 -- Lemmas for src/laws.rt: a look-up finds what `last_of_pairs`, `first_of_pairs` or an index finds
 -- in a list of the pairs or values.
-use Rattle.std.proofs.Common.{◌≡◌, ◌↔◌, Bool, true, false, cond, ℕ, List, [], ◌++◌, take, drop, length, Option, Some, None, Result, zero, suc, refl, sym, ap, ◌∙◌, subst}
+use Rattle.std.proofs.Common.{◌≡◌, ◌↔◌, Bool, true, false, cond, ℕ, List, [], ◌++◌, take, drop, length, Option, Some, None, Result, zero, suc, refl, sym, ap, subst}
 use Rattle.std.specs.Option.{option_or}
 use Rattle.std.specs.Cmp.Lexicographic.{bytes_decides}
 use Rattle.amqp_value_core.specs.Grammar.{short_field}
 use Rattle.amqp_value_core.specs.Maps.{same_bytes}
 use Rattle.amq_protocol_types.specs.parsing.Headers.{extent}
 use Rattle.amqp_in_place.proofs.Lookups.{or_none}
-use Rattle.amqp_c.specs.Steps.{IsHeaded}
+use Rattle.amqp_in_place.proofs.Searches.{at_key, named, passed}
+use Rattle.amqp_in_place.specs.Searches.{HasPair, none_left, first_here, one_more, HasNth, too_few, here, later}
 use Rattle.std.specs.Prelude.{slice_get}
 use Rattle.amqp_c.specs.declared.cursor.Cursor.{Cursor}
 use Rattle.amqp_c.specs.declared.entry.Entry.{Entry}
 use Rattle.amqp_c.specs.declared.fault.Fault.{Fault}
 use Rattle.amqp_c.specs.Entries.{array_tag, table_tag, part}
-use Rattle.amqp_c.specs.LookUps.{HasPair, none_left, first_here, one_more, HasNth, too_few, here, later, IsOf, GivesBytes, LooksUp, LooksUpNth, ArePairEncodings, no_pair_encodings, pair_encoding, last_of_pairs, first_of_pairs, HasLast, HasFirst, never, at_once, after_another, AreEncodings, no_encodings, encoding}
-use Rattle.amqp_c.proofs.LookUps.{differ}
-
--- the bytes of the value, if the key is the pair's
-abbrev at_key : List ℕ → List ℕ → List ℕ → Option (List ℕ)
-at_key key k value = cond (same_bytes key k) (Some (take (extent value) value)) None
-
--- a pair with the key, and one with another
-named : (key k value : List ℕ) → same_bytes key k ≡ true → IsHeaded value → HasPair true key (short_field k ++ value) (Some (take (extent value) value))
-named key k value so whole = subst (λ (n : List ℕ). HasPair true key (short_field n ++ value) (Some (take (extent value) value))) ((bytes_decides key k).0 so) (first_here value refl whole)
-
-passed : (key k value : List ℕ) (w : Option (List ℕ)) → same_bytes key k ≡ false → IsHeaded value → HasPair true key (drop (extent value) value) w → HasPair true key (short_field k ++ value) w
-passed key k value w so whole rest =
-    let same : option_or w (at_key key k value) ≡ w = ap (λ (b : Bool). option_or w (cond b (Some (take (extent value) value)) None)) so ∙ or_none w in
-    subst (HasPair true key (short_field k ++ value)) same (one_more k value w (λ _. differ key k so) whole rest)
+use Rattle.amqp_c.specs.LookUps.{IsOf, GivesBytes, LooksUp, LooksUpNth, ArePairEncodings, no_pair_encodings, pair_encoding, last_of_pairs, first_of_pairs, HasLast, HasFirst, never, at_once, after_another, AreEncodings, no_encodings, encoding}
 
 -- ---- the last of equal keys
 

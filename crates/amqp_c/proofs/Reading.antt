@@ -31,7 +31,7 @@ use Rattle.amqp_c.specs.declared.input.Input.{Input}
 use Rattle.amqp_c.specs.Inputs.{limits, is_untagged, encoding, error_of, first_problem, read_error}
 use Rattle.amqp_c.specs.Entries.{part, HeaderFaults, GivesFirst, IsEntryAtStart, EntryIsIn}
 use Rattle.amqp_c.specs.Reads.{IsTableTaken, untagged_table, IsFirstTable, GivesTable, IsPrefixedTable, IsEntryBy, IsEntryOf, IsReadBy, IsReadEntry, IsViewOf, IsEncodedSo, IsTold}
-use Rattle.amqp_c.specs.Steps.{IsHeaded}
+use Rattle.amqp_in_place.specs.Searches.{IsHeaded}
 use Rattle.amqp_c.proofs.EncodingsByRules.{value_whole}
 use Rattle.amqp_c.proofs.Parts.{part_content}
 use Rattle.amqp_c.proofs.FirstEntry.{ContentIs, content_at_start, payload_at_start, cut_header, frame_extent, frame_length}

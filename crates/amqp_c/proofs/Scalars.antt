@@ -25,16 +25,6 @@ use Rattle.amqp_c.specs.Scalars.{IsNumberPayload, bits_of_number, IsSignedTag, I
 
 -- a type of numbers is the one that its type tag denotes, and has no bytes after a length
 number_kind : (type : AMQPType) (n : ℕ) → IsNumber type n → (kind (id_of type) ≡ Some type) × (has_content type ≡ false)
-number_kind amqp.ShortShortInt n x = (refl, refl)
-number_kind amqp.ShortShortUInt n x = (refl, refl)
-number_kind amqp.ShortInt n x = (refl, refl)
-number_kind amqp.ShortUInt n x = (refl, refl)
-number_kind amqp.LongInt n x = (refl, refl)
-number_kind amqp.LongUInt n x = (refl, refl)
-number_kind amqp.LongLongInt n x = (refl, refl)
-number_kind amqp.Float n x = (refl, refl)
-number_kind amqp.Double n x = (refl, refl)
-number_kind amqp.Timestamp n x = (refl, refl)
 number_kind amqp.Boolean n x = absurd x
 number_kind amqp.LongLongUInt n x = absurd x
 number_kind amqp.DecimalValue n x = absurd x
@@ -44,6 +34,7 @@ number_kind amqp.FieldArray n x = absurd x
 number_kind amqp.FieldTable n x = absurd x
 number_kind amqp.ByteArray n x = absurd x
 number_kind amqp.Void n x = absurd x
+number_kind _ n x = (refl, refl)
 
 scalar_kind : (x : Scalar) → IsScalar x → (kind (id_of (scalar_type x)) ≡ Some (scalar_type x)) × (has_content (scalar_type x) ≡ false)
 scalar_kind (boolean b) is = (refl, refl)
@@ -74,24 +65,15 @@ other_id tag type is other s =
 -- the type tag that is written for any other type
 pub same_id : (tag : ℕ) (type : AMQPType) → has_content type ≡ false → read_as type ≡ Some type → id_of type ≡ tag → IsScalarTag tag
 same_id tag amqp.Boolean c r is = (boolean false, tt, sym is)
-same_id tag amqp.ShortShortInt c r is = (number amqp.ShortShortInt 0, omega arith, sym is)
-same_id tag amqp.ShortShortUInt c r is = (number amqp.ShortShortUInt 0, omega arith, sym is)
-same_id tag amqp.ShortInt c r is = (number amqp.ShortInt 0, omega arith, sym is)
-same_id tag amqp.ShortUInt c r is = (number amqp.ShortUInt 0, omega arith, sym is)
-same_id tag amqp.LongInt c r is = (number amqp.LongInt 0, omega arith, sym is)
-same_id tag amqp.LongUInt c r is = (number amqp.LongUInt 0, omega arith, sym is)
-same_id tag amqp.LongLongInt c r is = (number amqp.LongLongInt 0, omega arith, sym is)
-same_id tag amqp.LongLongUInt c r is = absurd cc
-same_id tag amqp.Float c r is = (number amqp.Float 0, omega arith, sym is)
-same_id tag amqp.Double c r is = (number amqp.Double 0, omega arith, sym is)
-same_id tag amqp.Timestamp c r is = (number amqp.Timestamp 0, omega arith, sym is)
 same_id tag amqp.DecimalValue c r is = (decimal 0 0, (omega arith, omega arith), sym is)
 same_id tag amqp.Void c r is = (void, tt, sym is)
+same_id tag amqp.LongLongUInt c r is = absurd cc
 same_id tag amqp.ShortString c r is = absurd cc
 same_id tag amqp.LongString c r is = absurd cc
 same_id tag amqp.FieldArray c r is = absurd cc
 same_id tag amqp.FieldTable c r is = absurd cc
 same_id tag amqp.ByteArray c r is = absurd cc
+same_id tag type c r is = (number type 0, omega arith, sym is)
 
 -- ---- bits
 

@@ -11,7 +11,8 @@ use Rattle.amqp_in_place.specs.Bodies.{HasEntries}
 use Rattle.amqp_c.specs.declared.entry.Entry.{Entry}
 use Rattle.amqp_c.specs.declared.span.Span.{Span}
 use Rattle.amqp_c.specs.Entries.{GivesFirst, DescribesValue, IsEntryAtStart, HoldsContent, IsTagged, IsTrueTo, EntryIsIn, has_content, part, span_after, rest_after, SpanIsIn}
-use Rattle.amqp_c.specs.Steps.{IsHeaded, HasNoPair, IsFirstEntryIn, IsValueIn, IsPairIn, BeginsWithKey, StandsKeyed}
+use Rattle.amqp_in_place.specs.Searches.{IsHeaded}
+use Rattle.amqp_c.specs.Steps.{HasNoPair, IsFirstEntryIn, IsValueIn, IsPairIn, BeginsWithKey, StandsKeyed}
 use Rattle.amqp_c.proofs.Parts.{part_prefix, part_within, part_after, part_length}
 
 -- the entry, if the bytes that it was read from begin at the span

@@ -1,6 +1,6 @@
 -- `LooksUp` and `LooksUpNth`: a look-up by a key or by an index, in what a cursor has left,
 -- whatever bytes these are.
-use Rattle.std.specs.Prelude.{ℕ, suc, ◌≡◌, ◌-◌, ◌<◌, ◌≤◌, List, [], ◌++◌, length, take, drop, Bool, true, false, if◌then◌else◌, Option, Some, None, IfSome, Result, Ok, IfOk, IfErr, ◌∷◌}
+use Rattle.std.specs.Prelude.{ℕ, ◌≡◌, ◌≤◌, List, [], ◌++◌, length, take, drop, Bool, true, false, if◌then◌else◌, Option, Some, None, IfSome, Result, Ok, IfOk, IfErr, ◌∷◌}
 use Rattle.std.specs.Option.{option_or}
 use Rattle.amqp_value_core.specs.Values.{Tree, Trees, Entries}
 use Rattle.amqp_value_core.specs.Grammar.{short_field, ArrayBody, TableBody}
@@ -13,25 +13,10 @@ use Rattle.amqp_c.specs.declared.entry.Entry.{Entry}
 use Rattle.amqp_c.specs.declared.fault.Fault.{Fault}
 use Rattle.amqp_c.specs.declared.span.Span.{Span}
 use Rattle.amqp_c.specs.Entries.{array_tag, table_tag, part, last, SpanIsIn, IsEntry, IsTagged, IsTrueTo, EntryIsIn}
-use Rattle.amqp_c.specs.Steps.{IsHeaded, StandsAlone, StandsKeyed, EndsIn, RefusedBy}
+use Rattle.amqp_in_place.specs.Searches.{IsHeaded, HasPair, HasNth}
+use Rattle.amqp_c.specs.Steps.{StandsAlone, StandsKeyed, EndsIn, RefusedBy}
 
 -- ---- what is meant
-
--- the bytes are pairs by their lengths and type tags, and w has those of the value of the last pair with
--- the key, if one has it. If `first`, only pairs up to the first with the key: what follows it
--- doesn't matter
-pub data HasPair (first : Bool) (key : List ℕ) : List ℕ → Option (List ℕ) → Type 0 where
-  none_left : HasPair first key [] None
-  first_here : (value : List ℕ) → first ≡ true → IsHeaded value → HasPair first key (short_field key ++ value) (Some (take (extent value) value))
-  one_more : (k value : List ℕ) → (w : Option (List ℕ)) → (first ≡ true → k ≡ key → ⊥) → IsHeaded value → HasPair first key (drop (extent value) value) w
-      → HasPair first key (short_field k ++ value) (option_or w (if same_bytes key k then Some (take (extent value) value) else None))
-
--- the bytes begin with n values, by their type tags and lengths, and then there is one with these
--- bytes; or there are no more than n values
-pub data HasNth : ℕ → List ℕ → Option (List ℕ) → Type 0 where
-  too_few : (n : ℕ) → HasNth n [] None
-  here : (s : List ℕ) → IsHeaded s → HasNth 0 s (Some (take (extent s) s))
-  later : (n : ℕ) → (s : List ℕ) → (w : Option (List ℕ)) → IsHeaded s → HasNth n (drop (extent s) s) w → HasNth (suc n) s w
 
 -- the entries of a table in which the first of equal keys counts, as they are encoded; or the last
 abbrev pub HasEntriesBy : Bool → List ℕ → Entries → Type 0
@@ -120,18 +105,3 @@ pub data HasFirst (key : List ℕ) : List ℕ → Option (List ℕ) → Type 0 w
 pub data AreEncodings : List ℕ → List (List ℕ) → Type 0 where
   no_encodings : AreEncodings [] []
   encoding : (s : List ℕ) → (ws : List (List ℕ)) → IsHeaded s → AreEncodings (drop (extent s) s) ws → AreEncodings s (take (extent s) s ∷ ws)
-
--- ---- on the way
-
--- the value that is meant is in the last n bytes of s, after these `before` it, if it is complete; else none is
--- meant
-pub record IsPlaceOf (Has : Option (List ℕ) → Type 0) (before s : List ℕ) (n : ℕ) : Type 0 where
-  pub few : n ≤ length s
-  pub value : List ℕ
-  pub begins : drop (length s - n) s ≡ before ++ value
-  pub meant : IsHeaded value → Has (Some (take (extent value) value))
-  pub only : (w : Option (List ℕ)) → Has w → IsHeaded value
-
--- no key with a byte after it is at the start
-abbrev pub HasNoKey : List ℕ → Type 0
-HasNoKey s = (k rest : List ℕ) → s ≡ short_field k ++ rest → 0 < length rest → ⊥

@@ -3,6 +3,7 @@ use Rattle.std.specs.Prelude.{ℕ, ◌≡◌, ◌+◌, ◌<◌, ◌≤◌, List,
 use Rattle.amqp_value_core.specs.Values.{Tree, Trees, no_trees, tree, Entries, no_entries, entry}
 use Rattle.amqp_value_core.specs.Grammar.{short_field, ArrayBody, TableBody}
 use Rattle.amq_protocol_types.specs.parsing.Headers.{extent}
+use Rattle.amqp_in_place.specs.Searches.{IsHeaded}
 use Rattle.amqp_c.specs.declared.cursor.Cursor.{Cursor}
 use Rattle.amqp_c.specs.declared.entry.Entry.{Entry}
 use Rattle.amqp_c.specs.declared.fault.Fault.{Fault}
@@ -18,10 +19,6 @@ contents e = record { left = e.content; tag = e.tag }
 -- the cursor is inside n bytes, and is of an array or a table
 abbrev pub IsOfContainer : ℕ → Cursor → Type 0
 IsOfContainer n c = SpanIsIn n c.left × IsContainerTag c.tag
-
--- a type tag is at the start, and as many bytes as it and the length after it count
-abbrev pub IsHeaded : List ℕ → Type 0
-IsHeaded s = (0 < extent s) × (extent s ≤ length s)
 
 -- the bytes begin with the key after its length in one byte
 abbrev pub BeginsWithKey : List ℕ → List ℕ → Type 0

@@ -7,7 +7,8 @@ ghost use Rattle.amqp_value_core.specs.Grammar.{short_field, ArrayBody, TableBod
 ghost use Rattle.amqp_value_core.specs.Outcomes.{Outcome, found};
 ghost use Rattle.amq_protocol_types.specs.parsing.Headers.{extent};
 ghost use Rattle.amqp_c.specs.Entries.{part, SpanIsIn, IsTagged, IsTrueTo, EntryIsIn};
-ghost use Rattle.amqp_c.specs.Steps.{contents, IsOfContainer, IsHeaded, HasNoPair, StepsIn, RefusesStep, GivesNextValue, GivesNextPair, IsFirstEntryIn, IsValueIn, IsPairIn, EndsIn, StandsAlone, StandsKeyed};
+ghost use Rattle.amqp_in_place.specs.Searches.{IsHeaded};
+ghost use Rattle.amqp_c.specs.Steps.{contents, IsOfContainer, HasNoPair, StepsIn, RefusesStep, GivesNextValue, GivesNextPair, IsFirstEntryIn, IsValueIn, IsPairIn, EndsIn, StandsAlone, StandsKeyed};
 
 use crate::entry::{Entry, first};
 use crate::{Fault, Span};

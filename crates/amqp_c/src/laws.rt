@@ -5,11 +5,12 @@
 // The tactic at a function names the lemmas that are the law.
 
 ghost use Rattle.std.specs.Prelude.{◌↔◌, ℕ, List, Option, Result, true, false, length, slice_get};
+ghost use Rattle.amqp_in_place.specs.Searches.{HasPair};
 ghost use Rattle.amqp_c.specs.declared.cursor.Cursor.{Cursor};
 ghost use Rattle.amqp_c.specs.declared.entry.Entry.{Entry};
 ghost use Rattle.amqp_c.specs.declared.fault.Fault.{Fault};
 ghost use Rattle.amqp_c.specs.Entries.{array_tag, table_tag, part};
-ghost use Rattle.amqp_c.specs.LookUps.{HasPair, IsOf, GivesBytes, LooksUp, LooksUpNth, ArePairEncodings, last_of_pairs, first_of_pairs, HasLast, HasFirst, AreEncodings};
+ghost use Rattle.amqp_c.specs.LookUps.{IsOf, GivesBytes, LooksUp, LooksUpNth, ArePairEncodings, last_of_pairs, first_of_pairs, HasLast, HasFirst, AreEncodings};
 
 /// What is meant by the last of equal keys: all of the bytes are pairs, by their lengths and type tags, and no pair
 /// after the one that is found has the key. So a look-up finds the last pair with it.

@@ -1,20 +1,15 @@
 //! `find`, for `amqpv_proved_find`: follows a path from an entry by a look-up for each `Step`, which is a
 //! key or an index.
 
-ghost use Rattle.std.specs.Prelude.{◌≡◌, ◌<◌, ◌++◌, ℕ, List, [], length, drop, Option, None, MatchBool, MatchOption, MatchResult};
-ghost use Rattle.amqp_value_core.specs.Grammar.{short_field};
-ghost use Rattle.amq_protocol_types.specs.parsing.Headers.{extent};
-ghost use Rattle.amqp_c.specs.declared.fault.Fault.TheVariants.{Cut};
+ghost use Rattle.std.specs.Prelude.{◌≡◌, length, MatchBool, MatchOption};
 ghost use Rattle.amqp_c.specs.Entries.{part};
-ghost use Rattle.amqp_c.specs.Steps.{IsHeaded};
-ghost use Rattle.amqp_c.specs.LookUps.{IsOf, HasPair, HasNth, IsPlaceOf, HasNoKey, LooksUp, LooksUpNth};
+ghost use Rattle.amqp_c.specs.LookUps.{IsOf, LooksUp, LooksUpNth};
 ghost use Rattle.amqp_c.specs.Paths.{IsInside, StepLeads, LooksUpOn};
 
 use crate::Fault;
 use crate::cursor::{Cursor, first_pair, first_value};
 use crate::entry::Entry;
-use amq_protocol_types::parsing::header::value_len;
-use amqp_value_core::input::SliceInput;
+use amqp_in_place::search::{place_of_index, place_of_key};
 
 /// A step of a path: `amqpv_step`.
 #[repr(C)]
@@ -88,10 +83,13 @@ impl Cursor {
         let Some(body) = self.body_of(b'F', bytes) else {
             return Err(Fault::Invalid);
         };
-        let Some(count) = place_of_key(body, key, first_key)? else {
+        let Ok(place) = place_of_key(body, key, first_key) else {
+            return Err(Fault::Cut);
+        };
+        let Some(value) = place else {
             return Ok(None);
         };
-        match first_pair(bytes, self.left.last(count)) {
+        match first_pair(bytes, self.left.last(1 + key.len() + value.len())) {
             Some(entry) => Ok(Some(entry)),
             None => Err(Fault::Cut),
         }
@@ -104,10 +102,13 @@ impl Cursor {
         let Some(body) = self.body_of(b'A', bytes) else {
             return Err(Fault::Invalid);
         };
-        let Some(count) = place_of_index(body, index)? else {
+        let Ok(place) = place_of_index(body, index) else {
+            return Err(Fault::Cut);
+        };
+        let Some(value) = place else {
             return Ok(None);
         };
-        match first_value(bytes, self.left.last(count)) {
+        match first_value(bytes, self.left.last(value.len())) {
             Some(entry) => Ok(Some(entry)),
             None => Err(Fault::Cut),
         }
@@ -125,84 +126,4 @@ impl Cursor {
         }
         self.left.of(bytes)
     }
-}
-
-/// How many bytes there are from the pair with the key on: of equal keys from the first, or else
-/// the last. It looks at no byte after the first pair's key, or else at all pairs.
-fn place_of_key(pairs: &[u8], key: &[u8], first_key: bool) -> Result<Option<usize>, Fault>
-    ensures { MatchResult result
-        (λ place. MatchOption place (HasPair first_key key.now pairs.now None)
-        (IsPlaceOf (HasPair first_key key.now pairs.now) (short_field key.now) pairs.now))
-        (λ f. (f ≡ Cut) × ((w : Option (List ℕ)) → HasPair first_key key.now pairs.now w → ⊥)) }
-{
-    let mut at = None;
-    let mut left = pairs;
-    'pairs: while !left.is_empty() {
-        let Some((name, value)) = split_key(left) else {
-            return Err(Fault::Cut);
-        };
-        if key == name {
-            at = Some(left.len());
-            if first_key {
-                return Ok(at);
-            }
-        }
-        let Some(later) = after_value(value) else {
-            return Err(Fault::Cut);
-        };
-        left = later;
-    }
-    Ok(at)
-}
-
-/// How many bytes there are from the value on that `index` others are before. It looks at no byte
-/// of that value.
-fn place_of_index(values: &[u8], index: usize) -> Result<Option<usize>, Fault>
-    ensures { MatchResult result
-        (λ place. MatchOption place (HasNth index values.now None)
-        (IsPlaceOf (HasNth index values.now) [] values.now))
-        (λ f. (f ≡ Cut) × ((w : Option (List ℕ)) → HasNth index values.now w → ⊥)) }
-{
-    let mut left = values;
-    let mut before = index;
-    'values: while !left.is_empty() && before > 0 {
-        let Some(later) = after_value(left) else {
-            return Err(Fault::Cut);
-        };
-        left = later;
-        before -= 1;
-    }
-    if left.is_empty() {
-        return Ok(None);
-    }
-    Ok(Some(left.len()))
-}
-
-/// The key of the pair at the start, and the bytes from its value on.
-fn split_key(pairs: &[u8]) -> Option<(&[u8], &[u8])>
-    ensures { MatchOption result
-        (HasNoKey pairs.now)
-        (λ x. (pairs.now ≡ short_field x.0.now ++ x.1.now) × (0 < length x.1.now)) }
-{
-    let (length, named) = pairs.split_first()?;
-    let length = usize::from(*length);
-    if named.len() <= length {
-        return None;
-    }
-    Some(named.split_at(length))
-}
-
-/// What is after the value at the start, by its header only.
-#[inline(always)]
-fn after_value(value: &[u8]) -> Option<&[u8]>
-    ensures { MatchOption result
-        (IsHeaded value.now → ⊥)
-        (λ rest. (rest.now ≡ drop (extent value.now) value.now) × IsHeaded value.now) }
-{
-    let taken = value_len(SliceInput::new(value));
-    if taken == 0 || value.len() < taken {
-        return None;
-    }
-    let (_, later) = value.split_at(taken);
-    Some(later)
 }

@@ -1,7 +1,7 @@
 -- `warnings`: while its loops pass over entries, the first fault is still ahead or there is none
 -- (`ValuesPassed`, `PairsPassed`), and the set tells whether a key is repeated.
 use Rattle.std.proofs.Common.{◌≡◌, ◌≢◌, ◌<◌, ◌≤◌, ◌+◌, ◌-◌, ℕ, zero, suc, Option, Some, None, List, [], ◌∷◌, length, take, drop, Bool, true, false, not, refl, sym, ap, ◌∙◌, subst, arith}
-use Rattle.std.specs.Prelude.{Result, Ok, Err, MatchResult, is_err, max, option_map, ◌||◌, ◌==◌}
+use Rattle.std.specs.Prelude.{Result, Ok, Err, MatchResult, is_err, is_ok, max, option_map, ◌||◌, ◌==◌}
 use Rattle.std.specs.Bool.{then_some}
 use Rattle.std.specs.Borrow.{Bor}
 use Rattle.std.specs.List.{list_any}
@@ -9,8 +9,7 @@ use Rattle.std.specs.Ordering.{nat_cmp, is_eq}
 use Rattle.std.specs.BTreeSet.{BTreeSet, contains, IsEmpty, Updates}
 use Rattle.std.specs.Cmp.Lexicographic.{slice_cmp}
 use Rattle.std.proofs.lemmas.List.{length-drop, drop-drop, drop_all}
-use Rattle.std.specs.Str.{IsUtf8, is_utf8}
-use Rattle.std.proofs.lemmas.Str.{IsUtf8-from_is_utf8, is_utf8-from_IsUtf8}
+use Rattle.std.specs.Str.{IsUtf8}
 use Rattle.amqp_value_core.specs.declared.types.amqp_type.AMQPType.{AMQPType}
 use Rattle.amqp_value_core.specs.declared.types.amqp_type.AMQPType.TheVariants as amqp
 use Rattle.amqp_value_core.specs.Maps.{same_bytes}
@@ -18,7 +17,7 @@ use Rattle.amq_protocol_types.specs.parsing.Headers.{extent}
 use Rattle.amqp_in_place.specs.declared.rabbitmq.warning.Fault.{Fault}
 use Rattle.amqp_in_place.specs.declared.rabbitmq.warning.Fault.TheVariants.{Repeated, NotUtf8, Empty, TooDeep, Decimal}
 use Rattle.amqp_in_place.specs.RabbitmqWarnings.{HasKeys, IsKeyFaultReport, key_of, after_key, WarningPlace, fault_inside, is_key_faulty, is_value_faulty, fault_in_values, fault_in_pairs}
-use Rattle.amqp_in_place.proofs.FirstProblems.{left_over}
+use Rattle.amqp_in_place.proofs.FirstProblems.{checked_utf8, left_over}
 use Rattle.amqp_in_place.proofs.RepeatedKeys.{has_put, by_bytes}
 
 -- ---- the keys in the set
@@ -43,15 +42,11 @@ has_none TooDeep t none = tt
 has_none Decimal t none = tt
 
 pub tells_utf8 : {E : Type 0} (t : BTreeSet (Bor (List ℕ))) (k : List ℕ) (r : Result (Unit {0}) E) (b : Bool) → MatchResult r (λ x. IsUtf8 k) (λ x. IsUtf8 k → ⊥) → b ≡ is_err r → IsKeyFaultReport NotUtf8 t t k b
-tells_utf8 {E} t k r b is e keys all = (e ∙ by r is, λ f. tt)
+tells_utf8 {E} t k r b is e keys all = (e ∙ (by r ∙ ap not (checked_utf8 k r is)), λ f. tt)
   where
-    other : (IsUtf8 k → ⊥) → (c : Bool) → is_utf8 k ≡ c → true ≡ not c
-    other bad true g = absurd (bad (IsUtf8-from_is_utf8 k g))
-    other bad false g = refl
-
-    by : (q : Result (Unit {0}) E) → MatchResult q (λ x. IsUtf8 k) (λ x. IsUtf8 k → ⊥) → is_err q ≡ not (is_utf8 k)
-    by (Ok x) good = ap not (sym (is_utf8-from_IsUtf8 k good))
-    by (Err x) bad = other bad (is_utf8 k) refl
+    by : (q : Result (Unit {0}) E) → is_err q ≡ not (is_ok q)
+    by (Ok x) = refl
+    by (Err x) = refl
 
 pub tells_empty : (t : BTreeSet (Bor (List ℕ))) (k : List ℕ) (b : Bool) → b ≡ (length k == 0) → IsKeyFaultReport Empty t t k b
 tells_empty t k b is keys all = (is, λ e. tt)

@@ -10,6 +10,7 @@ mod Untagged
 -- steps through bodies, views of what is there, and look-ups
 mod Stepping
 mod Views
+pub mod Searches
 pub mod Lookups
 mod Paths
 mod RepeatedKeys
@@ -17,7 +18,7 @@ mod Measuring
 -- canonical encodings
 pub mod Canonicals
 -- what isn't allowed, and what a peer may reject
-mod FirstProblems
+pub mod FirstProblems
 pub mod ProblemReadings
 pub mod AnyKeys
 mod KeyFaults

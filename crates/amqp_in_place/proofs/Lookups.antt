@@ -1,18 +1,14 @@
--- `get` of tables and arrays: what the loops of `place_of` and `nth_value` keep (`FoundSoFar`,
--- `IsAmongLeft`), and what the encoding that they find means.
-use Rattle.std.proofs.Common.{◌≡◌, ◌<◌, ◌↔◌, ℕ, zero, suc, Bool, true, false, cond, List, ◌++◌, length, take, drop, Option, Some, None, option_map, refl, sym, ap, ◌∙◌, subst, arith, length-append}
-use Rattle.std.proofs.Math.Logic.{∥∥₁_elim, ∥∥₁_map}
-use Rattle.std.proofs.lemmas.List.{drop_at, take-append-drop}
-use Rattle.std.specs.Coded.{le_prop}
+-- `get` of tables and arrays: what the loop of `nth_value` keeps (`IsAmongLeft`), and what the
+-- encoding that is found means.
+use Rattle.std.proofs.Common.{◌≡◌, ◌<◌, ◌↔◌, ℕ, zero, suc, Bool, true, false, cond, List, ◌++◌, length, Option, Some, None, option_map, refl, sym, ap, ◌∙◌, subst, arith, length-append}
+use Rattle.std.proofs.Math.Logic.{∥∥₁_map}
 use Rattle.std.specs.Option.{IfSome, option_or, is_some}
 use Rattle.std.specs.Borrow.{Bor}
 use Rattle.amqp_value_core.specs.Values.{Tree, octets, Trees, no_trees, tree, Entries, no_entries, entry}
 use Rattle.amqp_value_core.specs.Maps.{same_bytes, last_at, value_at, has_key}
-use Rattle.amqp_value_core.specs.Grammar.{short_field, ArrayBody, no_values, value, TableBody, no_pairs, pair}
-use Rattle.amqp_value_core.proofs.GrammarLaws.{length-wire, key_has_value, one_key}
-use Rattle.amq_protocol_types.specs.parsing.Headers.{extent}
-use Rattle.amq_protocol_types.proofs.ParsingLaws.{wire_extent}
-use Rattle.amqp_in_place.specs.Bodies.{HasPairs, HasEntries}
+use Rattle.amqp_value_core.specs.Grammar.{ArrayBody, no_values, value, TableBody, no_pairs, pair}
+use Rattle.amqp_value_core.proofs.GrammarLaws.{length-wire, key_has_value}
+use Rattle.amqp_in_place.specs.Bodies.{HasEntries}
 use Rattle.amqp_in_place.specs.declared.refs.ValueRef.{ValueRef}
 use Rattle.amqp_in_place.specs.declared.path.EqualKeys.{EqualKeys}
 use Rattle.amqp_in_place.specs.declared.path.EqualKeys.TheVariants as equal
@@ -24,7 +20,6 @@ use Rattle.amqp_in_place.specs.Walks.{HasEncodingAtStart, IsValueThere, NextValu
 use Rattle.amqp_in_place.specs.Written.{written, IsWrittenAs, values_written, pairs_written, WrittenValues, WrittenPairs}
 use Rattle.amqp_in_place.specs.Encoded.{EncodedValue, StandsFor, IsViewOf, values_by, pairs_by, EncodedValues, EncodedPairs, nth_encoded, first_encoded, last_encoded, encoded_of}
 use Rattle.amqp_in_place.proofs.Views.{stands}
-use Rattle.amqp_in_place.proofs.Places.{left_of_left}
 
 -- ---- emptiness
 
@@ -89,13 +84,16 @@ nth_by f n _ _ no_values = refl
 nth_by f zero _ _ (value w rest v vs first others) = refl
 nth_by f (suc n) _ _ (value w rest v vs first others) = nth_by f n rest vs others
 
+pub nth_meaning : (n : ℕ) (s : List ℕ) (vs : Trees) (p : ArrayBody s vs) → option_map meant (nth_encoded n s vs p) ≡ tree_at n vs
+nth_meaning n s vs p = nth_by meant n s vs p ∙ ap (tree_at n) (meant_values s vs p)
+
 -- the value of an encoding in an array is that value in each form
 module _ (s t : List ℕ) (n : ℕ) (r : Option ValueRef) (at : t ≡ s) (there : (vs : Trees) (p : ArrayBody t vs) → ValueIs (nth_encoded n t vs p) r) where
   is : (vs : Trees) (p : ArrayBody s vs) → ValueIs (nth_encoded n s vs p) r
   is = subst (λ (u : List ℕ). (vs : Trees) (p : ArrayBody u vs) → ValueIs (nth_encoded n u vs p) r) at there
 
   pub nth_means : (vs : Trees) → ArrayBody s vs → FoundIs (tree_at n vs) r
-  nth_means vs p = subst (λ (o : Option Tree). FoundIs o r) (nth_by meant n s vs p ∙ ap (tree_at n) (meant_values s vs p)) (meaning_found _ r (is vs p))
+  nth_means vs p = subst (λ (o : Option Tree). FoundIs o r) (nth_meaning n s vs p) (meaning_found _ r (is vs p))
 
   pub nth_is_written : (ts : Trees) → WrittenValues s ts → WrittenIs (tree_at n ts) r
   nth_is_written ts (vs, p, e) = subst (λ (o : Option Tree). WrittenIs o r) (nth_by as_written n s vs p ∙ ap (tree_at n) (written_values s vs p ∙ sym e)) (written_found _ r (is vs p))
@@ -167,9 +165,12 @@ pair_by : (of : EqualKeys) (f : EncodedValue → Tree) (k s : List ℕ) (ps : En
 pair_by equal.First = first_by
 pair_by equal.Last = last_by
 
+pub pair_meaning : (of : EqualKeys) (k s : List ℕ) (ps : Entries) (p : TableBody s ps) → option_map meant (encoded_of of k s ps p) ≡ value_of_pair of k ps
+pair_meaning of k s ps p = pair_by of meant k s ps p ∙ ap (value_of_pair of k) (meant_pairs s ps p)
+
 module _ (of : EqualKeys) (s k : List ℕ) (r : Option ValueRef) (there : (ps : Entries) (p : TableBody s ps) → ValueIs (encoded_of of k s ps p) r) where
   pub pair_means : (ps : Entries) → TableBody s ps → FoundIs (value_of_pair of k ps) r
-  pair_means ps p = subst (λ (o : Option Tree). FoundIs o r) (pair_by of meant k s ps p ∙ ap (value_of_pair of k) (meant_pairs s ps p)) (meaning_found _ r (there ps p))
+  pair_means ps p = subst (λ (o : Option Tree). FoundIs o r) (pair_meaning of k s ps p) (meaning_found _ r (there ps p))
 
   pub pair_is_written : (ts : Entries) → WrittenPairs s ts → WrittenIs (value_of_pair of k ts) r
   pair_is_written ts (ps, p, e) = subst (λ (o : Option Tree). WrittenIs o r) (pair_by of as_written k s ps p ∙ ap (value_of_pair of k) (written_pairs s ps p ∙ sym e)) (written_found _ r (there ps p))
@@ -181,27 +182,6 @@ module _ (of : EqualKeys) (s k : List ℕ) (r : Option ValueRef) (there : (ps : 
 pub last_means : (s k : List ℕ) (r : Option ValueRef) → ((ps : Entries) → TableBody s ps → FoundIs (last_at k ps) r) → (es : Entries) → HasEntries s es → FoundIs (value_at k es) r
 last_means s k r found es (ps, p, mean) = subst (λ (o : Option Tree). FoundIs o r) (sym (mean.last k)) (found ps p)
 
--- ---- the pairs that are left
-
--- the first of some pairs, of which k is the key, v the bytes from the value on, and t those after it
-record FirstOf (rest k v t : List ℕ) (qs : Entries) (q : TableBody rest qs) : Type 0 where
-  pub at : EncodedValue
-  pub others : Entries
-  pub more : TableBody t others
-  pub place : v ≡ at.bytes ++ t
-  pub first_is : (j : List ℕ) → first_encoded j rest qs q ≡ cond (same_bytes j k) (Some at) (first_encoded j t others more)
-  pub last_is : (j : List ℕ) → last_encoded j rest qs q ≡ option_or (last_encoded j t others more) (cond (same_bytes j k) (Some at) None)
-
-first_of : (rest : List ℕ) (qs : Entries) (q : TableBody rest qs) (k v t : List ℕ) → rest ≡ short_field k ++ v → t ≡ drop (extent v) v → FirstOf rest k v t qs q
-first_of _ _ no_pairs k v t key after = absurd cc
-first_of _ _ (pair j w left u ps is first others) k v t key after =
-    let one = one_key j k (w ++ left) v key in
-    let end : t ≡ left = after ∙ (ap (λ (x : List ℕ). drop (extent x) x) (sym one.1) ∙ drop_at w left (extent (w ++ left)) (sym (wire_extent w left u first))) in
-    let q = pair j w left u ps is first others in
-    let there : FirstOf (short_field j ++ (w ++ left)) j v left (entry j u ps) q =
-    record { at = record { bytes = w; meaning = u; is_wire = first }; others = ps; more = others; place = sym one.1; first_is = λ i. refl; last_is = λ i. refl } in
-    subst (λ (i : List ℕ). FirstOf (short_field j ++ (w ++ left)) i v t (entry j u ps) q) one.0 (subst (λ (x : List ℕ). FirstOf (short_field j ++ (w ++ left)) j v x (entry j u ps) q) (sym end) there)
-
 pub or_assoc : {A : Type 0} (a b c : Option A) → option_or (option_or a b) c ≡ option_or a (option_or b c)
 or_assoc None b c = refl
 or_assoc (Some x) b c = refl
@@ -210,81 +190,12 @@ pub or_none : {A : Type 0} (a : Option A) → option_or a None ≡ a
 or_none None = refl
 or_none (Some x) = refl
 
--- what is asked for is among the pairs that are left, and otherwise it is what was found so far
-abbrev pub FoundSoFar : EqualKeys → List ℕ → List ℕ → List ℕ → Option (Bor (List ℕ)) → Type 0
-FoundSoFar of j s rest at = (ps : Entries) (p : TableBody s ps)
-    → (qs : Entries) × (q : TableBody rest qs) × (seen : Option EncodedValue) × BeginsWith seen at × (encoded_of of j s ps p ≡ option_or (encoded_of of j rest qs q) seen)
-
-pub found-start : (of : EqualKeys) (j s : List ℕ) → FoundSoFar of j s s None
-found-start of j s = λ ps p. (ps, p, None, tt, sym (or_none (encoded_of of j s ps p)))
-
-module _ (rest k t : List ℕ) (v : Bor (List ℕ)) (key : rest ≡ short_field k ++ v.now) (after : t ≡ drop (extent v.now) v.now) where
-  -- after the first pair are fewer bytes, which are pairs
-  pub pairs_more : ∥ HasPairs rest ∥₁ → (length t < length rest) × ∥ HasPairs t ∥₁
-  pairs_more has = (
-    ∥∥₁_elim has le_prop (λ (x : HasPairs rest).
-        let f = first_of rest x.0 x.1 k v.now t key after in
-        omega (arith, ap length key, ap length f.place, length-append k v.now, length-append f.at.bytes t)),
-    ∥∥₁_map has (λ (x : HasPairs rest). let f = first_of rest x.0 x.1 k v.now t key after in (f.others, f.more)),
-  )
-
-  -- the value, and what is after it, are inside what the pairs are inside
-  pub value_inside : (s : List ℕ) → IsLeft s rest → IsLeft s v.now
-  value_inside s left = left_of_left s rest v.now left (short_field k, key)
-
-  pub rest_inside : (s : List ℕ) → IsLeft s rest → IsLeft s t
-  rest_inside s left =
-      left_of_left s v.now t (value_inside s left)
-      (subst (IsLeft v.now) (sym after) (take (extent v.now) v.now, sym (take-append-drop (extent v.now) v.now)))
-
-  module _ (of : EqualKeys) (j s : List ℕ) (at : Option (Bor (List ℕ))) (before : FoundSoFar of j s rest at) where
-    -- the first pair has another key
-    pub found-other : false ≡ same_bytes j k → FoundSoFar of j s t at
-    found-other is = λ ps p.
-        let (qs, q, seen, begins, e) = before ps p in
-        let f = first_of rest qs q k v.now t key after in
-        (f.others, f.more, seen, begins, e ∙ ap (λ (o : Option EncodedValue). option_or o seen) (by of qs q f))
-      where
-        by : (of : EqualKeys) (qs : Entries) (q : TableBody rest qs) (f : FirstOf rest k v.now t qs q) → encoded_of of j rest qs q ≡ encoded_of of j t f.others f.more
-        by equal.First qs q f = f.first_is j ∙ ap (λ (c : Bool). cond c (Some f.at) (first_encoded j t f.others f.more)) (sym is)
-        by equal.Last qs q f =
-            f.last_is j ∙ (ap (λ (c : Bool). option_or (last_encoded j t f.others f.more) (cond c (Some f.at) None)) (sym is) ∙ or_none (last_encoded j t f.others f.more))
-
-    -- it has the key: it is the first, or the last so far
-    pub found-first : of ≡ equal.First → true ≡ same_bytes j k → (ps : Entries) (p : TableBody s ps) → BeginsWith (encoded_of of j s ps p) (Some v)
-    found-first is same ps p =
-        let (qs, q, seen, begins, e) = before ps p in
-        let f = first_of rest qs q k v.now t key after in
-        let here : encoded_of of j rest qs q ≡ Some f.at = ap (λ (o : EqualKeys). encoded_of o j rest qs q) is ∙ (f.first_is j ∙ ap (λ (c : Bool). cond c (Some f.at) (first_encoded j t f.others f.more)) (sym same)) in
-        subst (λ (o : Option EncodedValue). BeginsWith o (Some v)) (sym (e ∙ ap (λ (o : Option EncodedValue). option_or o seen) here)) (t, f.place)
-
-    pub found-last : of ≡ equal.Last → true ≡ same_bytes j k → FoundSoFar of j s t (Some v)
-    found-last is same = λ ps p.
-        let (qs, q, seen, begins, e) = before ps p in
-        let f = first_of rest qs q k v.now t key after in
-        let here : encoded_of of j rest qs q ≡ option_or (encoded_of of j t f.others f.more) (Some f.at) =
-        subst (λ (o : EqualKeys). encoded_of o j rest qs q ≡ option_or (encoded_of o j t f.others f.more) (Some f.at)) (sym is)
-        (f.last_is j ∙ ap (λ (c : Bool). option_or (last_encoded j t f.others f.more) (cond c (Some f.at) None)) (sym same)) in
-        (f.others, f.more, Some f.at, (t, f.place), e ∙ (ap (λ (o : Option EncodedValue). option_or o seen) here ∙ or_assoc (encoded_of of j t f.others f.more) (Some f.at) seen))
-
--- no pair is left
-pub found-end : (of : EqualKeys) (j s rest : List ℕ) (at : Option (Bor (List ℕ))) → length rest ≡ 0 → FoundSoFar of j s rest at → (ps : Entries) (p : TableBody s ps) → BeginsWith (encoded_of of j s ps p) at
-found-end of j s rest at none before ps p =
-    let (qs, q, seen, begins, e) = before ps p in
-    subst (λ (o : Option EncodedValue). BeginsWith o at) (sym (e ∙ by of rest qs q seen none)) begins
-  where
-    by : (of : EqualKeys) (t : List ℕ) (qs : Entries) (q : TableBody t qs) (seen : Option EncodedValue) → length t ≡ 0 → option_or (encoded_of of j t qs q) seen ≡ seen
-    by equal.First _ _ no_pairs seen e = refl
-    by equal.Last _ _ no_pairs seen e = refl
-    by of _ _ (pair k w left v qs is first others) seen e = absurd (omega (arith, e))
-
 -- ---- the value where bytes begin
 
 -- there is one
-pub begins_there : (s : List ℕ) (o : (ps : Entries) → TableBody s ps → Option EncodedValue) (at : Option (Bor (List ℕ))) → ((ps : Entries) (p : TableBody s ps) → BeginsWith (o ps p) at) → ∥ HasPairs s ∥₁
-    → IfSome at (λ bytes. ∥ HasEncodingAtStart bytes.now ∥₁)
-begins_there s o None begins has = tt
-begins_there s o (Some at) begins has = ∥∥₁_map has (λ (x : HasPairs s). by (o x.0 x.1) (begins x.0 x.1))
+pub begins_there : (at : Option (Bor (List ℕ))) → ∥ ((o : Option EncodedValue) × BeginsWith o at) ∥₁ → IfSome at (λ bytes. ∥ HasEncodingAtStart bytes.now ∥₁)
+begins_there None begins = tt
+begins_there (Some at) begins = ∥∥₁_map begins (λ (x : (o : Option EncodedValue) × BeginsWith o (Some at)). by x.0 x.1)
   where
     by : (u : Option EncodedValue) → BeginsWith u (Some at) → HasEncodingAtStart at.now
     by None y = absurd y

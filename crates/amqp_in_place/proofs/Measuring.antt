@@ -1,8 +1,9 @@
 -- `measure_value`: values and levels are counted entry by entry (`ValuesSoFar`, `PairsSoFar`), as
 -- they are written, and are never more than the bytes.
-use Rattle.std.proofs.Common.{◌≡◌, ◌<◌, ◌≤◌, ◌+◌, ◌-◌, ◌^◌, ℕ, suc, max, List, [], ◌∷◌, ◌++◌, length, drop, None, refl, sym, ap, ap₂, ◌∙◌, subst, arith, length-append}
+use Rattle.std.proofs.Common.{◌≡◌, ◌<◌, ◌≤◌, ◌+◌, ◌-◌, ◌^◌, ℕ, suc, max, List, ◌++◌, length, drop, None, refl, sym, ap, ◌∙◌, subst, arith, length-append}
 use Rattle.std.proofs.Math.Logic.{∥∥₁_elim}
 use Rattle.std.specs.Coded.{le_prop}
+use Rattle.std.proofs.lemmas.List.{drop_at}
 use Rattle.amqp_value_core.specs.declared.types.amqp_type.AMQPType.{AMQPType}
 use Rattle.amqp_value_core.specs.Values.{Tree, Trees, no_trees, tree, Entries, no_entries, entry, count, depth, count_all, greatest_depth, entries_count, entries_depth}
 use Rattle.amqp_value_core.specs.Grammar.{short_field, long_field, Wire, wire, Raw, raw_fixed, raw_short, raw_long, raw_octets, raw_array, raw_table, ArrayBody, no_values, value, TableBody, no_pairs, pair}
@@ -228,15 +229,9 @@ module _ (s : List ℕ) (n l : ℕ) (rest : List ℕ) (g : PairsSoFar s n l rest
 
 -- ---- the encoding at the start
 
-drop_prefix : (w rest : List ℕ) → drop (length w) (w ++ rest) ≡ rest
-drop_prefix [] rest = refl
-drop_prefix (c ∷ w) rest = drop_prefix w rest
-
 -- what is left is what the bytes before it are dropped from
 pub rest_dropped : (s rest : List ℕ) → IsLeft s rest → (n : ℕ) → n ≡ length s - length rest → drop n s ≡ rest
-rest_dropped s rest (w, e) n is =
-    let size : n ≡ length w = omega (arith, is, ap length e, length-append w rest) in
-    ap₂ (λ (n : ℕ) (t : List ℕ). drop n t) size e ∙ drop_prefix w rest
+rest_dropped s rest (w, e) n is = ap (drop n) e ∙ drop_at w rest n (omega (arith, is, ap length e, length-append w rest))
 
 -- the bytes of an encoding at the start are those before what is left
 pub measured_bytes : (s rest : List ℕ) (r : ValueRef) → IsViewIn s r rest → OfEncoding s (λ w v p. length s ≡ length w + length rest)

@@ -86,7 +86,7 @@ one_value _ u v x y = x ∙ sym y
 
 -- ---- reading again what was checked
 
-no_prop : IsProp ⊥
+pub no_prop : IsProp ⊥
 no_prop x y = absurd x
 
 -- if bytes are values, the only error is out of memory

@@ -12,6 +12,7 @@ pub mod Walks
 pub mod Suffix
 pub mod InPlaceResults
 pub mod Lookups
+pub mod Searches
 -- canonical encodings
 pub mod Canonicals
 -- what isn't allowed, and what a peer may reject

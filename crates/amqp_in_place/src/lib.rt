@@ -30,6 +30,7 @@ pub mod rabbitmq;
 mod read;
 mod refs;
 mod repeated;
+pub mod search;
 mod steps;
 mod tables;
 

@@ -7,6 +7,7 @@ ghost use Rattle.amqp_in_place.specs.Refs.{Denotes, table_body};
 ghost use Rattle.amqp_in_place.specs.Walks.{FoundIs, WrittenIs};
 ghost use Rattle.amqp_in_place.specs.Written.{IsWrittenAs};
 ghost use Rattle.amqp_in_place.specs.Places.{IsViewWithin};
+ghost use Rattle.amqp_in_place.specs.Searches.{is_first};
 ghost use Rattle.amqp_in_place.specs.Lookups.{at_step, at_path, content, StepsTo, LeadsTo};
 
 use super::refs::{TableRef, ValueRef};
@@ -27,6 +28,17 @@ pub enum EqualKeys {
     First,
     /// The last pair, as in the tree that `parse_value` returns: [`TableRef::get`].
     Last,
+}
+
+impl EqualKeys {
+    pub(crate) fn is_first(self) -> bool
+        ensures { result ≡ is_first self }
+    {
+        match self {
+            EqualKeys::First => true,
+            EqualKeys::Last => false,
+        }
+    }
 }
 
 impl<'a> ValueRef<'a> {

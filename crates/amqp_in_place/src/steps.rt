@@ -1,20 +1,18 @@
-//! One step through a body that was validated: `next_value`, `next_pair` and `next_key` split off
+//! One step through a body that was validated: `next_value` and `next_pair` split off
 //! the first entry. Iterators, look-ups, `measure` and `repeated` loop over these.
 
-ghost use Rattle.std.specs.Prelude.{◌≡◌, ◌++◌, length, drop, IfSome, IsNone};
+ghost use Rattle.std.specs.Prelude.{length, IfSome};
 ghost use Rattle.amqp_value_core.specs.Values.{Tree, Trees, Entries};
-ghost use Rattle.amqp_value_core.specs.Grammar.{short_field, ArrayBody, TableBody};
+ghost use Rattle.amqp_value_core.specs.Grammar.{ArrayBody, TableBody};
 ghost use Rattle.amqp_value_core.specs.Bytes.{slice_bytes};
 ghost use Rattle.amqp_in_place.specs.Bodies.{HasValues, HasPairs};
 ghost use Rattle.amqp_in_place.specs.Refs.{Denotes};
 ghost use Rattle.amqp_in_place.specs.Heads.{HeadHasMeaning, HeadMeans, RefersTo};
 ghost use Rattle.amqp_in_place.specs.Places.{IsViewIn, IsPairViewIn};
-ghost use Rattle.amq_protocol_types.specs.parsing.Headers.{extent};
 ghost use Rattle.amqp_in_place.specs.Walks.{HasEncodingAtStart, IsValueThere, NextValueIs, MoreValues, NextPairIs, MorePairs};
 
 use super::head::{Head, read_head, read_key};
 use super::refs::{ArrayRef, TableRef, ValueRef};
-use amq_protocol_types::parsing::header::value_len;
 use amqp_value_core::input::{ParsableInput, SliceInput};
 use std::str;
 
@@ -86,19 +84,4 @@ pub(crate) fn next_pair<'a>(
         unreachable!()
     };
     Some((key, value_of(head), rest))
-}
-
-// Takes the key of the first pair off bytes that are pairs, and returns the bytes from its value,
-// and those after it: by the lengths and the type tag only.
-#[inline(always)]
-pub(crate) fn next_key<'a>(pairs: &'a [u8]) -> Option<(&'a [u8], &'a [u8], &'a [u8])>
-    requires { ∥ HasPairs pairs.now ∥₁ }
-    ensures none { IsNone result → length pairs.now ≡ 0 }
-    ensures key { IfSome result (λ x. pairs.now ≡ short_field x.0.now ++ x.1.now) }
-    ensures rest { IfSome result (λ x. x.2.now ≡ drop (extent x.1.now) x.1.now) }
-{
-    let (count, named) = pairs.split_first()?;
-    let (key, value) = named.split_at(usize::from(*count));
-    let (_, after) = value.split_at(value_len(SliceInput::new(value)));
-    Some((key, value, after))
 }

@@ -19,7 +19,8 @@ ghost use Rattle.amqp_in_place.specs.Places.{IsViewWithin};
 
 use super::path::EqualKeys;
 use super::refs::{TableRef, ValueRef};
-use super::steps::{next_key, value_there};
+use super::search::place_of_key;
+use super::steps::value_there;
 use amq_protocol_types::parsing::{Err, parse_table_body};
 use amqp_value_core::input::ParsableInput;
 use amqp_value_core::types::FieldTable;
@@ -113,16 +114,8 @@ fn place_of<'a>(pairs: &'a [u8], key: &[u8], of_equal: EqualKeys) -> Option<&'a 
         → BeginsWith (encoded_of of_equal key.now pairs.now ps p) result }
     ensures left { IfSome result (λ at. IsLeft pairs.now at.now) }
 {
-    let mut at = None;
-    let mut rest = pairs;
-    'pairs: while let Some((name, value, after)) = next_key(rest) {
-        if key == name {
-            match of_equal {
-                EqualKeys::First => return Some(value),
-                EqualKeys::Last => at = Some(value),
-            }
-        }
-        rest = after;
-    }
-    at
+    let Ok(place) = place_of_key(pairs, key, of_equal.is_first()) else {
+        unreachable!()
+    };
+    place
 }

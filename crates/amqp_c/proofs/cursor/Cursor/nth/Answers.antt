@@ -1,33 +1,21 @@
 -- `Cursor::nth` (src/lookup.rt): none at the index, cut before or at it, or found, as the
 -- definition of a look-up has it, by the place that `place_of_index` returns.
-use Rattle.std.proofs.Common.{◌≡◌, ℕ, Option, Some, None, Ok, ap, ◌∙◌}
-use Rattle.std.proofs.lemmas.Result.{err_from_is_err_and}
 use Rattle.amqp_c.proofs.LookUps.{none_at_index, cut_before_index, cut_at_index, found_at_index}
 use Rattle.amqp_c.proofs.cursor.Cursor.nth.Goals as goal
 
-pub returns-in_err-count : goal.returns-in_err-count
-returns-in_err-count c =
-    let p = err_from_is_err_and c.from_residual.result c.from_residual.ensures.1 in
-    let x = rw (c.in_err-count.was {u = tt}) at c.place_of_index.ensures in
-    rw (p.1, p.2, x.0) (cut_before_index c.args.bytes.now c.args.self c.args.index c.in-Some.body.now c.in-Some.ensures.0 c.in-Some.ensures.1 x.1)
+pub returns-in_default-place_of_index : goal.returns-in_default-place_of_index
+returns-in_default-place_of_index c = cut_before_index c.args.bytes.now c.args.self c.args.index c.in-Some.body.now c.in-Some.ensures.0 c.in-Some.ensures.1 c.in_default-place_of_index.ensures
 
-pub returns-in_default-2 : goal.returns-in_default-2
-returns-in_default-2 c =
-    let is : c.place_of_index.result ≡ Ok None = c.in_ok-count.was {u = tt} ∙ ap (λ (o : Option ℕ). Ok o) c.in_default-2.is in
-    none_at_index c.args.bytes.now c.args.self c.args.index c.in-Some.body.now c.in-Some.ensures.0 c.in-Some.ensures.1 (rw is at c.place_of_index.ensures)
+pub returns-in_default-place : goal.returns-in_default-place
+returns-in_default-place c =
+    none_at_index c.args.bytes.now c.args.self c.args.index c.in-Some.body.now c.in-Some.ensures.0 c.in-Some.ensures.1 (rw c.in_default-place.is at c.in-Ok.ensures)
 
 pub returns-in-Some-first_value : goal.returns-in-Some-first_value
 returns-in-Some-first_value c =
-    let n = c.in-Some-2.count in
-    let is : c.place_of_index.result ≡ Ok (Some n) = c.in_ok-count.was {u = tt} ∙ ap (λ (o : Option ℕ). Ok o) c.in-Some-2.is in
-    let place = rw is at c.place_of_index.ensures in
     let x = c.in-Some-first_value.ensures in
-    found_at_index c.args.bytes.now c.args.self c.args.index c.in-Some.body.now c.in-Some.ensures.0 c.in-Some.ensures.1 n c.last.result place c.last.ensures c.in-Some-first_value.entry x.stands x.typed x.faithful x.inside.0
-    x.inside.1
+    found_at_index c.args.bytes.now c.args.self c.args.index c.in-Some.body.now c.in-Some.ensures.0 c.in-Some.ensures.1 c.in-Some-place.value.now c.last.result (rw c.in-Some-place.is at c.in-Ok.ensures) c.last.ensures
+    c.in-Some-first_value.entry x.stands x.typed x.faithful x.inside.0 x.inside.1
 
 pub returns-in-None : goal.returns-in-None
 returns-in-None c =
-    let n = c.in-Some-2.count in
-    let is : c.place_of_index.result ≡ Ok (Some n) = c.in_ok-count.was {u = tt} ∙ ap (λ (o : Option ℕ). Ok o) c.in-Some-2.is in
-    let place = rw is at c.place_of_index.ensures in
-    cut_at_index c.args.bytes.now c.args.self c.args.index c.in-Some.body.now c.in-Some.ensures.0 c.in-Some.ensures.1 n c.last.result place c.last.ensures c.in-None.ensures.cut
+    cut_at_index c.args.bytes.now c.args.self c.args.index c.in-Some.body.now c.in-Some.ensures.0 c.in-Some.ensures.1 c.in-Some-place.value.now c.last.result (rw c.in-Some-place.is at c.in-Ok.ensures) c.last.ensures c.in-None.ensures.cut

@@ -1,6 +1,7 @@
 -- `TableRef::value_of_pair`: the value that begins where `place_of` says is the pair's: what it
 -- means, as it is written, and a view of its encoding.
 use Rattle.std.proofs.Common.{List, ℕ, sym, subst}
+use Rattle.std.proofs.Math.Logic.{∥∥₁_map}
 use Rattle.amqp_value_core.specs.Values.{Entries}
 use Rattle.amqp_value_core.specs.Grammar.{TableBody}
 use Rattle.amqp_in_place.specs.Bodies.{HasPairs}
@@ -13,7 +14,7 @@ pub place_of-requires : goal.place_of-requires
 place_of-requires c = subst (λ (s : List ℕ). ∥ HasPairs s ∥₁) (sym c.as_bytes.ensures) c.args.self.well_formed
 
 pub value_there-requires : goal.value_there-requires
-value_there-requires c = begins_there c.as_bytes.result.now (encoded_of c.args.of_equal c.as_bytes-2.result.now c.as_bytes.result.now) c.place_of.result c.place_of.ensures.found (subst (λ (s : List ℕ). ∥ HasPairs s ∥₁) (sym c.as_bytes.ensures) c.args.self.well_formed)
+value_there-requires c = begins_there c.place_of.result (∥∥₁_map (subst (λ (s : List ℕ). ∥ HasPairs s ∥₁) (sym c.as_bytes.ensures) c.args.self.well_formed) (λ (x : HasPairs c.as_bytes.result.now). (_, c.place_of.ensures.found x.0 x.1)))
 
 there : (c : goal.After-value_there) → (ps : Entries) (p : TableBody c.as_bytes.result.now ps) → ValueIs (encoded_of c.args.of_equal c.as_bytes-2.result.now c.as_bytes.result.now ps p) c.value_there.result
 there c ps p = value_found _ c.place_of.result c.value_there.result (c.place_of.ensures.found ps p) c.value_there.ensures
