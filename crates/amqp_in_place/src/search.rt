@@ -1,5 +1,5 @@
-//! The search for a value by type tags and lengths alone, in bytes that may be no body: for views,
-//! whose bytes are one, and for the C API, whose structs may be corrupt.
+//! Searches for a value in the body of an array or a table by type tags and lengths alone. The bytes
+//! of a view are always a body; those that the C API is given may be malformed.
 
 ghost use Rattle.std.specs.Prelude.{◌≡◌, ◌<◌, ◌++◌, ℕ, List, [], Option, None, length, drop, MatchOption, MatchResult};
 ghost use Rattle.amqp_value_core.specs.Grammar.{short_field};
@@ -9,11 +9,12 @@ ghost use Rattle.amqp_in_place.specs.Searches.{IsHeaded, HasPair, HasNth, IsPlac
 use amq_protocol_types::parsing::header::value_len;
 use amqp_value_core::input::SliceInput;
 
-/// The bytes end before what is searched for, or in it.
+/// The bytes end before the value that is searched for, or inside a value before it.
 #[derive(Clone, Copy)]
 pub struct Cut;
 
-/// The bytes from the value on that `index` others are before. It looks at no byte of that value.
+/// Returns the bytes from the value at `index` on, or `None` if there are fewer values. Reads no byte of
+/// that value.
 pub fn place_of_index<'a>(values: &'a [u8], index: usize) -> Result<Option<&'a [u8]>, Cut>
     ensures { MatchResult result
         (λ place. MatchOption place (HasNth index values.now None)
@@ -35,8 +36,9 @@ pub fn place_of_index<'a>(values: &'a [u8], index: usize) -> Result<Option<&'a [
     Ok(Some(left))
 }
 
-/// The bytes from the value on of the pair with the key: of equal keys of the first, or else the
-/// last. It looks at no byte after the first pair's key, or else at all pairs.
+/// Returns the bytes from the value on of the pair with the key, or `None` if no pair has it. Of equal keys
+/// it takes the first with `first_key`, and reads nothing after that key; otherwise it takes the last, and
+/// walks all pairs.
 pub fn place_of_key<'a>(
     pairs: &'a [u8],
     key: &[u8],
@@ -67,7 +69,7 @@ pub fn place_of_key<'a>(
     Ok(at)
 }
 
-/// The key of the pair at the start, and the bytes from its value on.
+/// Splits the pair at the start into its key and the bytes from its value on.
 fn split_key<'a>(pairs: &'a [u8]) -> Option<(&'a [u8], &'a [u8])>
     ensures { MatchOption result
         (HasNoKey pairs.now)
@@ -81,7 +83,7 @@ fn split_key<'a>(pairs: &'a [u8]) -> Option<(&'a [u8], &'a [u8])>
     Some(named.split_at(length))
 }
 
-/// What is after the value at the start, by its header only.
+/// The bytes after the value at the start, by its header alone.
 #[inline(always)]
 fn after_value<'a>(value: &'a [u8]) -> Option<&'a [u8]>
     ensures { MatchOption result
