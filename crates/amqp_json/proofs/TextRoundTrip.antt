@@ -1,4 +1,4 @@
--- `json_text v` is UTF-8, and means `v` if it nests at most 127 deep.
+-- `json_text v` is UTF-8, and means `valued v` if it nests at most 127 deep.
 use Rattle.std.proofs.Common.{◌≡◌, ℕ, ℤ, pos, negsuc, ◌^◌, ◌<◌, ◌≤◌, List, [], ◌∷◌, ◌++◌, Bool, true, false, Some, IsUtf8, refl, sym, ap, ◌∙◌, append-nil, option_and_then, arith, ltb-true}
 use Rattle.std.specs.Int.{Width, w8, w16, w32, w64, cast_signed, to_be_bytes}
 use Rattle.std.specs.Str.{is_utf8, IsAscii}
@@ -27,7 +27,7 @@ use Rattle.amqp_value_core.specs.Names.{name_of}
 use Rattle.amqp_value_core.specs.Values as values
 use Rattle.amqp_value_core.specs.Values.{Scalar, decimal, void, Tree, scalar, short, long, octets, table, Trees, no_trees, tree, Entries, no_entries, entry}
 use Rattle.amqp_json.specs.Meaning.{meaning, meant}
-use Rattle.amqp_json.specs.Written.{under, signed, number_written, long_written, scalar_written, is_marked, written_key, written, items_written, members_written, decimal_text, HasJson, AllHaveJson, EntriesHaveJson, json_text}
+use Rattle.amqp_json.specs.Written.{under, signed, number_written, long_written, scalar_written, is_marked, written_key, written, items_written, members_written, decimal_text, valued, HasJson, AllHaveJson, EntriesHaveJson, json_text}
 use Rattle.amqp_json.proofs.ValueRoundTrip.{read_back}
 
 -- ---- the texts of tokens are UTF-8
@@ -141,7 +141,7 @@ mutual
   is_text (long s) h = long_text s _ refl
   is_text (octets s) h = under_text amqp.ByteArray _ refl (digits_text s)
   is_text (values.array vs) h = let is = are_items vs h in record { numbers = is.numbers; utf8 = (IsUtf8-are_ascii (91 ∷ []) refl, is.utf8) }
-  is_text (table es) h = let is = are_members es h.1 in record { numbers = is.numbers; utf8 = (IsUtf8-are_ascii (123 ∷ []) refl, is.utf8) }
+  is_text (table es) h = let is = are_members es h in record { numbers = is.numbers; utf8 = (IsUtf8-are_ascii (123 ∷ []) refl, is.utf8) }
 
   are_items : (vs : Trees) → AllHaveJson vs → AreItemsText vs
   are_items no_trees h = record { numbers = tt; utf8 = (IsUtf8-are_ascii (93 ∷ []) refl, tt) }
@@ -162,7 +162,7 @@ mutual
 pub text_is_utf8 : (v : Tree) → HasJson v → IsUtf8 (json_text v)
 text_is_utf8 v h = all_utf8 false (json_tokens (written v)) (is_text v h).utf8
 
-pub text_is_read : (v : Tree) → HasJson v → depth (written v) ≤ 127 → meant (json_text v) ≡ Some v
+pub text_is_read : (v : Tree) → HasJson v → depth (written v) ≤ 127 → meant (json_text v) ≡ Some (valued v)
 text_is_read v h shallow =
     let j = written v in
     ap (λ o. option_and_then meaning (option_and_then (λ p. if_last p.0 p.1) o))

@@ -1,4 +1,4 @@
--- `meaning (written v)` is `Some v`: the JSON that is written for a value means the value.
+-- `meaning (written v)` is `Some (valued v)`: the JSON that is written means the value, in whatever order its pairs are.
 use Rattle.std.proofs.Common.{◌≡◌, ℕ, ℤ, pos, negsuc, zero, suc, ◌+◌, ◌^◌, ◌<◌, ◌≤◌, ◌==◌, nat_lt, length, drop, take, get_or, List, [], ◌∷◌, ◌++◌, Bool, true, false, Option, Some, option_map, refl, ap, ◌∙◌, arith, le-ltb}
 use Rattle.std.specs.Prelude.{if◌then◌else◌, decimal as digits}
 use Rattle.std.specs.Char.{digit_value}
@@ -24,11 +24,10 @@ use Rattle.amqp_value_core.specs.Values as values
 use Rattle.amqp_value_core.specs.Values.{Scalar, decimal, void, Tree, scalar, short, long, octets, array, table, Trees, no_trees, tree, Entries, no_entries, entry}
 use Rattle.amqp_value_core.specs.InMemory.{IsNumber, IsScalar}
 use Rattle.amqp_value_core.specs.Json.{is_within}
-use Rattle.amqp_value_core.proofs.GrammarLaws.{rising_pairs}
 use Rattle.amqp_value_core.specs.Names.{name_of}
 use Rattle.amqp_json.specs.Meaning.{type_named, is_type_key, entry_key, is_e, signed_of, signed_in, unsigned_in, decimal_of, value_as, with_entry, object_of, table_of, meaning, meanings, pairs_of}
 use Rattle.amqp_json.proofs.Integers.{fits_within, signed_read, unsigned_read}
-use Rattle.amqp_json.specs.Written.{under, signed, number_written, long_written, scalar_written, written_key, written, items_written, members_written, HasJson, AllHaveJson, EntriesHaveJson}
+use Rattle.amqp_json.specs.Written.{under, signed, number_written, long_written, scalar_written, written_key, written, items_written, members_written, valued, all_valued, pairs_valued, HasJson, AllHaveJson, EntriesHaveJson}
 
 -- what is under the name of a type is read as of that type
 under_back : (type : AMQPType) (j : Json) → is_type_key (36 ∷ name_of type) ≡ true → type_named (name_of type) ≡ Some type → meaning (under type j) ≡ value_as type j
@@ -144,18 +143,18 @@ object_back (entry k v no_entries) ps o = let key = key_back k _ refl in rw key.
 object_back (entry k v (entry j u es)) ps o = refl
 
 mutual
-  pub read_back : (v : Tree) → HasJson v → meaning (written v) ≡ Some v
+  pub read_back : (v : Tree) → HasJson v → meaning (written v) ≡ Some (valued v)
   read_back (scalar x) h = scalar_back x h
   read_back (short s) h = absurd h
   read_back (long s) h = long_back s _ refl h
   read_back (octets s) h = under_back amqp.ByteArray (string (encode_lower s)) refl refl ∙ digits_back s h octets
   read_back (array vs) h = ap (option_map array) (items_back vs h)
-  read_back (table es) h = object_back es es (pairs_of (members_written es)) ∙ ap (option_map table_of) (pairs_back es h.1) ∙ ap (λ ps. Some (table ps)) (rising_pairs es h.0)
+  read_back (table es) h = object_back es es (pairs_of (members_written es)) ∙ ap (option_map table_of) (pairs_back es h)
 
-  items_back : (vs : Trees) → AllHaveJson vs → meanings (items_written vs) ≡ Some vs
+  items_back : (vs : Trees) → AllHaveJson vs → meanings (items_written vs) ≡ Some (all_valued vs)
   items_back no_trees h = refl
   items_back (tree v vs) h = rw (read_back v h.0, items_back vs h.1) refl
 
-  pairs_back : (es : Entries) → EntriesHaveJson es → pairs_of (members_written es) ≡ Some es
+  pairs_back : (es : Entries) → EntriesHaveJson es → pairs_of (members_written es) ≡ Some (pairs_valued es)
   pairs_back no_entries h = refl
-  pairs_back (entry k v es) h = rw (read_back v h.1, pairs_back es h.2) (entry_back k v es h.0)
+  pairs_back (entry k v es) h = rw (read_back v h.1, pairs_back es h.2) (entry_back k (valued v) (pairs_valued es) h.0)

@@ -3,7 +3,6 @@ pub mod Meaning
 pub mod Written
 -- What the calls' clauses say.
 pub mod Nesting
-pub mod Ascending
 pub mod Conversions
 -- For private clauses.
 pub mod Puts

@@ -1,16 +1,14 @@
 -- For private clauses of `src/printing`: what is put into a buffer that may be too small
--- (`PutsBytes`, `PutsTokens`, `PutsJson`), and references to a table's entries (`Refer`).
-use Rattle.std.specs.Prelude.{ℕ, ◌≡◌, ◌≤◌, List, ◌++◌, length, drop, ◌<◌, [], ◌∷◌}
+-- (`PutsBytes`, `PutsTokens`, `PutsJson`).
+use Rattle.std.specs.Prelude.{ℕ, ◌≡◌, ◌≤◌, List, ◌++◌, length, drop}
 use Rattle.json.specs.Token.{Token}
 use Rattle.json.specs.Json.{Json}
 use Rattle.json.specs.Tree.{json_tokens}
 use Rattle.json.specs.Print.{print, ends_value}
 use Rattle.amqp_json.specs.Written.{counted}
 use Rattle.amqp_json.specs.declared.printing.Place.{Place}
-use Rattle.std.specs.Borrow.{Bor}
-use Rattle.amqp_value_core.specs.Values.{Entries, no_entries, entry}
 use Rattle.amqp_in_place.specs.declared.refs.ValueRef.{ValueRef}
-use Rattle.amqp_in_place.specs.Refs.{Denotes, array_body, table_body}
+use Rattle.amqp_in_place.specs.Refs.{array_body, table_body}
 use Rattle.amqp_in_place.specs.declared.refs.ValueRef.TheVariants as at
 
 -- the buffer, which was `start`, begins with a text of that count if the text fits it, and is as it
@@ -37,25 +35,8 @@ PutsTokens old place new end us = (start : List ℕ) (ts : List Token) → AreTo
 abbrev pub PutsJson : List ℕ → Place → List ℕ → Place → Json → Type 0
 PutsJson old place new end j = PutsTokens old place new end (json_tokens j)
 
--- ---- references
-
 -- how many bytes are in a container
 abbrev pub body_len : ValueRef → ℕ
 body_len (at.FieldArray a) = length (array_body a)
 body_len (at.FieldTable t) = length (table_body t)
 body_len _ = 0
-
--- keys, each with the view of a value
-abbrev pub References : Type 0
-References = List (Bor (List ℕ) × ValueRef)
-
--- the entries that they are
-abbrev pub Refer : References → Entries → Type 0
-Refer [] no_entries = Unit {0}
-Refer (x ∷ xs) (entry k v es) = (x.0.now ≡ k) × Denotes x.1 v × Refer xs es
-Refer _ _ = ⊥
-
--- each of the values has fewer bytes in it than n
-abbrev pub AreSmaller : ℕ → References → Type 0
-AreSmaller n [] = Unit {0}
-AreSmaller n (x ∷ xs) = (body_len x.1 < n) × AreSmaller n xs

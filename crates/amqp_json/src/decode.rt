@@ -2,20 +2,18 @@
 
 // The tactics at the functions name the lemmas that clauses are proved by.
 
-ghost use Rattle.std.specs.Prelude.{◌≡◌, ◌≤◌, List, ℕ, length, IfOk, IfErr, IfSome, MatchOption, MatchResult, string_bytes};
+ghost use Rattle.std.specs.Prelude.{◌≡◌, ◌≤◌, List, ℕ, length, IfOk, IfErr, MatchResult, string_bytes};
 ghost use Rattle.amq_protocol_types.specs.declared.parsing.within.Limits.{Limits};
-ghost use Rattle.amqp_in_place.specs.Places.{IsViewIn};
-ghost use Rattle.amqp_in_place.specs.Refs.{Denotes};
+ghost use Rattle.amqp_in_place.specs.Written.{IsWrittenAs};
 ghost use Rattle.amqp_value_core.specs.Values.{Tree};
 ghost use Rattle.amqp_value_core.specs.Texts.{text};
 ghost use Rattle.amqp_value_core.specs.View.{view};
-ghost use Rattle.amqp_json.specs.Ascending.{IfInOrder, OutOfOrder};
 ghost use Rattle.amqp_json.specs.Conversions.{IsJsonOf, IsNotRead, IsJsonWritten, IsNotWritten, HasNoText};
 ghost use Rattle.amqp_json.specs.Views.{HasText, IsReadBack, IsViewOfRead, WritesText};
 ghost use Rattle.amqp_json.specs.Written.{json_text, MeansIfShallow};
 
 use crate::error::{DecodeError, EncodeError, WriteError};
-use crate::printing::{Place, put_any_value, put_value};
+use crate::printing::{Place, put_value};
 use amq_protocol_types::generation::{GenError, WriteContext, gen_value};
 use amqp_in_place::{Limits, ValueRef, read_in_place, read_in_place_unlimited};
 use amqp_value_core::value::AMQPValue;
@@ -28,7 +26,7 @@ use std::alloc::{AllocError, Global};
 /// canonical encoding and the text. It uses stack for each level of nesting.
 pub fn to_json(alloc: Global, value: &AMQPValue) -> Result<String, EncodeError>
     ensures text { IfOk result (λ s. string_bytes s ≡ json_text (view value.now)) }
-    ensures read_back { IfOk result (λ s. MeansIfShallow (string_bytes s) (view value.now)) }
+    ensures read_back { IfOk result (λ s. MeansIfShallow (view value.now) (string_bytes s) (view value.now)) }
     ensures refused { IfErr result (HasNoText (view value.now)) }
 {
     let bytes = canonical(alloc, value)?;
@@ -36,10 +34,10 @@ pub fn to_json(alloc: Global, value: &AMQPValue) -> Result<String, EncodeError>
 }
 
 /// Converts the encoding at the start of the bytes to JSON text, and returns the remaining bytes
-/// too. The value is read as `read_in_place` does.
+/// too. The value is read as `read_in_place` does. The pairs of a table are written in the order in
+/// which they are encoded, also those whose keys come again: of these the last counts.
 ///
-/// It allocates the text. If the keys of a table don't ascend, it also allocates references to the pairs
-/// of each table while it sorts and writes them. It uses stack for at most `limits.depth` levels.
+/// It allocates the text. It uses stack for at most `limits.depth` levels.
 #[tactic(auto, using(amq_protocol_types::proofs::ParsingLaws::found_all))]
 pub fn json_of_encoding<'a>(
     alloc: Global,
@@ -72,9 +70,8 @@ pub fn json_of_view(alloc: Global, value: ValueRef<'_>) -> Result<String, AllocE
 /// Writes the JSON text of the encoding at the start of the bytes to the start of the buffer, and
 /// returns how many bytes the text has, and the bytes after the encoding.
 ///
-/// Nothing is allocated, and nothing is sorted: if the keys of a table don't ascend, it returns
-/// `KeysOutOfOrder`. After an error the buffer may hold some of the text. It uses stack for at most
-/// `limits.depth` levels.
+/// Nothing is allocated, and nothing is sorted: the text is that of `json_of_encoding`. After an
+/// error the buffer may hold some of it. It uses stack for at most `limits.depth` levels.
 pub fn write_json<'a>(
     bytes: &'a [u8],
     limits: Limits,
@@ -89,9 +86,7 @@ pub fn write_json<'a>(
         Err(refusal) => return Err(WriteError::Refused(refusal)),
     };
     let capacity = buffer.len();
-    let Some(count) = write_json_of_view(value, buffer) else {
-        return Err(WriteError::KeysOutOfOrder);
-    };
+    let count = write_json_of_view(value, buffer);
     if count > capacity {
         return Err(WriteError::BufferTooSmall(count));
     }
@@ -99,79 +94,31 @@ pub fn write_json<'a>(
 }
 
 /// Writes the JSON text of a value that was read in place to the start of the buffer, and returns
-/// how many bytes the text has, which may be more than the buffer has. Returns `None` if the keys
-/// of a table don't ascend.
+/// how many bytes the text has, which may be more than the buffer has.
 ///
 /// Nothing is allocated. If the text doesn't fit, the buffer may hold some of it.
-pub fn write_json_of_view(value: ValueRef<'_>, buffer: &mut [u8]) -> Option<usize>
+pub fn write_json_of_view(value: ValueRef<'_>, buffer: &mut [u8]) -> usize
     ensures written { (l : Limits) (s rest : List ℕ) → IsViewOfRead l s value.entry rest
-        → MatchOption result (OutOfOrder s rest) (WritesText l s rest buffer.old buffer.new) }
+        → WritesText l s rest buffer.old buffer.new result }
 {
-    match put_value(buffer, Place::START, value) {
-        Some(end) => Some(end.count),
-        None => None,
-    }
+    put_value(buffer, Place::START, value).count
 }
 
-// The text of a value that was read.
+// The text of a value that was read. It is written to a small buffer first, which also measures it.
+// A longer one is then written to a string of its length.
 fn text_of(alloc: Global, value: ValueRef<'_>) -> Result<String, AllocError>
     requires json { HasText value }
-    ensures text { IfOk result (λ s. (v : Tree) → Denotes value.entry v → string_bytes s ≡ json_text v) }
-{
-    match ordered_text(alloc, value)? {
-        Some(text) => Ok(text),
-        None => sorted_text(alloc, value),
-    }
-}
-
-// The text of a value whose tables may have their keys in any order. Four bytes for each of the encoding are
-// mostly enough for it. A longer text is then written again, to a string of its length.
-fn sorted_text(alloc: Global, value: ValueRef<'_>) -> Result<String, AllocError>
-    requires json { HasText value }
-    ensures text { IfOk result (λ s. (v : Tree) → Denotes value.entry v → string_bytes s ≡ json_text v) }
-{
-    let mut first = vec![in alloc; 0u8; len_inside(value).saturating_mul(4)]?;
-    let end = put_any_value(alloc, first.as_mut_slice(), Place::START, value)?;
-    if end.count <= first.len() {
-        first.truncate(end.count);
-        return Ok(unsafe { String::from_utf8_unchecked(first) });
-    }
-    let mut text = vec![in alloc; 0u8; end.count]?;
-    put_any_value(alloc, text.as_mut_slice(), Place::START, value)?;
-    Ok(unsafe { String::from_utf8_unchecked(text) })
-}
-
-// How many bytes are in a container. It only says how much memory is tried first, so no clause is about it.
-fn len_inside(value: ValueRef<'_>) -> usize {
-    match value {
-        ValueRef::FieldArray(array) => array.iter().as_bytes().len(),
-        ValueRef::FieldTable(table) => table.iter().as_bytes().len(),
-        _ => 0,
-    }
-}
-
-// The text of a value in whose tables the keys ascend. It is written to a small buffer first, which also
-// measures it. A longer one is then written to a string of its length.
-fn ordered_text(alloc: Global, value: ValueRef<'_>) -> Result<Option<String>, AllocError>
-    requires json { HasText value }
-    ensures text { IfOk result (λ found. IfSome found (λ s. (v : Tree) → Denotes value.entry v
-        → string_bytes s ≡ json_text v)) }
-    ensures order { IfOk result (λ found. (s rest : List ℕ) (v : Tree) → IsViewIn s value.entry rest
-        → Denotes value.entry v → IfInOrder found s rest) }
+    ensures text { IfOk result (λ s. (t : Tree) → IsWrittenAs value.entry t → string_bytes s ≡ json_text t) }
 {
     let mut short = [0u8; 1024];
-    let Some(end) = put_value(&mut short, Place::START, value) else {
-        return Ok(None);
-    };
+    let end = put_value(&mut short, Place::START, value);
     if end.count <= short.len() {
         let text = Vec::from_slice(alloc, &short[..end.count])?;
-        return Ok(Some(unsafe { String::from_utf8_unchecked(text) }));
+        return Ok(unsafe { String::from_utf8_unchecked(text) });
     }
     let mut text = vec![in alloc; 0u8; end.count]?;
-    match put_value(text.as_mut_slice(), Place::START, value) {
-        Some(_) => Ok(Some(unsafe { String::from_utf8_unchecked(text) })),
-        None => Ok(None),
-    }
+    put_value(text.as_mut_slice(), Place::START, value);
+    Ok(unsafe { String::from_utf8_unchecked(text) })
 }
 
 // The text of a canonical encoding.
@@ -180,15 +127,12 @@ fn text_of_canonical(alloc: Global, bytes: &[u8]) -> Result<String, EncodeError>
     ensures text { IfOk result (λ s. (v : Tree) → bytes.now ≡ text v → IsReadBack v
         → string_bytes s ≡ json_text v) }
     ensures read_back { IfOk result (λ s. (v : Tree) → bytes.now ≡ text v → IsReadBack v
-        → MeansIfShallow (string_bytes s) v) }
+        → MeansIfShallow v (string_bytes s) v) }
     ensures refused { IfErr result (λ e. (v : Tree) → bytes.now ≡ text v → IsReadBack v
         → HasNoText v e) }
 {
     match read_in_place_unlimited(bytes) {
-        Ok((found, _)) => match ordered_text(alloc, found)? {
-            Some(text) => Ok(text),
-            None => unreachable!(),
-        },
+        Ok((found, _)) => Ok(text_of(alloc, found)?),
         Err(_refusal) => Err(EncodeError::NoTypeTag),
     }
 }

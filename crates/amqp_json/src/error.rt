@@ -128,8 +128,6 @@ pub enum WriteError {
     Refused(ParserError),
     /// The text has that many bytes, more than the buffer. `usize::MAX` stands for any larger number too.
     BufferTooSmall(usize),
-    /// The keys of a table don't ascend, or one is there twice.
-    KeysOutOfOrder,
 }
 
 impl From<AllocError> for JsonError {

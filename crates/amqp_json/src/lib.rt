@@ -6,8 +6,8 @@
 //! ```text
 //! a text     encode: walk, by keys, named and put; where it isn't JSON, syntax,   an encoding, a value
 //!            and where it nests too deep, nesting
-//! encoding   decode: printing::walk, if keys don't ascend printing::sorted;      a text
-//! or value   both by printing::leaves, tokens and put
+//! encoding   decode: printing::walk, by printing::leaves, tokens and put          a text
+//! or value
 //! ```
 //!
 //! `laws` has what the definitions imply. The crate's tests are the rows of

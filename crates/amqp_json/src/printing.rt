@@ -1,13 +1,11 @@
-//! From a `ValueRef` to its JSON text in a buffer. Text that doesn't fit is counted. `walk`
-//! allocates nothing, and stops at a table whose keys don't ascend; `sorted` sorts them.
+//! From a `ValueRef` to its JSON text in a buffer, without allocating. Text that doesn't fit is
+//! counted.
 
 mod leaves;
 mod put;
-mod sorted;
 mod tokens;
 mod walk;
 
-pub(crate) use sorted::put_any_value;
 pub(crate) use walk::put_value;
 
 /// How far a text was written.

@@ -24,7 +24,7 @@ pub returns-clause-read_back : goal.returns-clause-read_back
 returns-clause-read_back c =
     let o = view c.args.value.now in
     let is : c.as_slice.result.now ≡ text o = search rules in
-    IfOk-weaker c.text_of_canonical.result (λ s. (v : Tree) → c.as_slice.result.now ≡ text v → IsReadBack v → MeansIfShallow (string_bytes s) v) (λ s. MeansIfShallow (string_bytes s) o) (λ s h. h o is c.in_ok-bytes.ensures.back) c.text_of_canonical.ensures.read_back
+    IfOk-weaker c.text_of_canonical.result (λ s. (v : Tree) → c.as_slice.result.now ≡ text v → IsReadBack v → MeansIfShallow v (string_bytes s) v) (λ s. MeansIfShallow o (string_bytes s) o) (λ s h. h o is c.in_ok-bytes.ensures.back) c.text_of_canonical.ensures.read_back
 
 pub returns-clause-refused : goal.returns-clause-refused
 returns-clause-refused c =

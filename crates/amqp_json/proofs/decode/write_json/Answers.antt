@@ -4,26 +4,19 @@ use Rattle.std.proofs.Common.{◌≤◌, length, arith}
 use Rattle.amqp_in_place.proofs.Canonicals.{bytes_all}
 use Rattle.amqp_json.proofs.decode.write_json.Goals as goal
 
-pub returns-in_default : goal.returns-in_default
-returns-in_default c =
-    let s = c.args.bytes.now in
-    let is = c.in-Ok.ensures in
-    let rest = c.in-Ok.read.1.now in
-    record { written = (is.within.0, rest, is.within.2, c.in_default.ensures.written c.args.limits s rest (bytes_all s c.type_inv.bytes, is.inside, is.within)) }
-
 pub returns-then-count-capacity : goal.returns-then-count-capacity
 returns-then-count-capacity c =
     let s = c.args.bytes.now in
     let is = c.in-Ok.ensures in
     let rest = c.in-Ok.read.1.now in
-    let (t, ordered, count, fits) = c.in-Some.ensures.written c.args.limits s rest (bytes_all s c.type_inv.bytes, is.inside, is.within) in
-    record { written = (t, rest, ordered, count, omega arith) }
+    let (t, json, count, fits) = c.write_json_of_view-count.ensures.written c.args.limits s rest (bytes_all s c.type_inv.bytes, is.inside, is.within) in
+    record { written = (t, rest, json, count, omega arith) }
 
 pub returns : goal.returns
 returns c =
     let s = c.args.bytes.now in
     let is = c.in-Ok.ensures in
     let rest = c.in-Ok.read.1.now in
-    let (t, ordered, count, fits) = c.in-Some.ensures.written c.args.limits s rest (bytes_all s c.type_inv.bytes, is.inside, is.within) in
-    let few : c.in-Some.count ≤ length c.args.buffer.now = omega arith in
-    record { written = (t, ordered, (fits few).0, few, (fits few).1) }
+    let (t, json, count, fits) = c.write_json_of_view-count.ensures.written c.args.limits s rest (bytes_all s c.type_inv.bytes, is.inside, is.within) in
+    let few : c.write_json_of_view-count.result ≤ length c.args.buffer.now = omega arith in
+    record { written = (t, json, (fits few).0, few, (fits few).1) }
