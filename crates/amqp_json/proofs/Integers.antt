@@ -158,9 +158,6 @@ no_marks : (ds : List ℕ) → AllDigits 10 ds → list_any is_mark ds ≡ false
 no_marks [] h = refl
 no_marks (c ∷ ds) h = rw (no_mark c h.0) (no_marks ds h.1)
 
-of_type : (s : List ℕ) → list_any is_mark s ≡ false → number_type s ≡ amqp.LongLongInt
-of_type s e = rw e refl
-
 pub signed_type : (z : ℤ) → is_within (2 ^ 63) z ≡ true → number_type (signed_decimal z) ≡ amqp.LongLongInt
-signed_type (pos n) h = of_type (digits n) (no_marks (digits n) (decimal_is_IsNumeral n (grind (arith, h))).0.1)
-signed_type (negsuc n) h = of_type (45 ∷ digits (suc n)) (no_marks (digits (suc n)) (decimal_is_IsNumeral (suc n) (grind (arith, h))).0.1)
+signed_type (pos n) h = rw (no_marks (digits n) (decimal_is_IsNumeral n (grind (arith, h))).0.1) refl
+signed_type (negsuc n) h = rw (no_marks (digits (suc n)) (decimal_is_IsNumeral (suc n) (grind (arith, h))).0.1) refl

@@ -16,7 +16,6 @@ pub mod Completing
 pub mod Encodings
 -- writing one
 pub mod Escapes
-pub mod Decimals
 pub mod Printed
 pub mod AsWritten
 pub mod PrintedTexts

@@ -1,6 +1,7 @@
 -- `PutsBytes`, `PutsTokens` and `PutsJson` step by step: bytes, tokens, values and pairs that are
 -- put after others in a buffer. For `src/printing`.
-use Rattle.std.proofs.Common.{◌≡◌, Bool, ℕ, min, ◌+◌, ◌-◌, ◌<◌, List, [], ◌∷◌, ◌*◌, ◌^◌, ◌++◌, length, length-append, refl, sym, ap, ◌∙◌, subst, false, true, append_assoc, arith, ◌≤◌}
+use Rattle.std.proofs.Common.{◌≡◌, Bool, ℕ, min, ◌+◌, ◌-◌, ◌<◌, List, [], ◌∷◌, ◌*◌, ◌^◌, ◌++◌, length, take, drop, length-append, refl, sym, ap, ◌∙◌, subst, false, true, append_assoc, arith, ◌≤◌}
+use Rattle.std.proofs.lemmas.List.{take_at}
 use Rattle.hex.proofs.HexLemmas.{length-encode_with}
 use Rattle.hex.specs.Hex.{lower_digits, encode_lower}
 use Rattle.json.specs.Token.{Token, key, end_array, end_object}
@@ -35,6 +36,13 @@ puts_more a b c i j k xs ys p q = λ start t h. subst (λ (u : List ℕ). Begins
 
 pub puts_as : (a : List ℕ) (i : ℕ) (b : List ℕ) (j : ℕ) (xs ys : List ℕ) → xs ≡ ys → PutsBytes a i b j xs → PutsBytes a i b j ys
 puts_as a i b j xs ys e p = subst (λ (l : List ℕ). PutsBytes a i b j l) e p
+
+-- bytes that are put into a buffer that has room for them are its first bytes
+pub bytes_first : (old new t : List ℕ) (end : ℕ) → PutsBytes old 0 new end t → length t ≤ length old → length old < 2 ^ 63 → (end ≡ length t) × (take end new ≡ t)
+bytes_first old new t end puts fits few =
+    let is = puts old [] (record { count = refl; same = refl; text = λ h. refl }) in
+    let size : end ≡ length t = omega (arith, is.count, fits, few) in
+    (size, ap (take end) (is.text fits) ∙ take_at t (drop (length t) old) end (sym size))
 
 pub tokens_more : (a b c : List ℕ) (p q r : Place) (us vs : List Token) → PutsTokens a p b q us → PutsTokens b q c r vs → PutsTokens a p c r (us ++ vs)
 tokens_more a b c p q r us vs x y = λ start ts h. subst (λ (ws : List Token). AreTokensPrinted start c r ws) (append_assoc ts us vs) (y start (ts ++ us) (x start ts h))

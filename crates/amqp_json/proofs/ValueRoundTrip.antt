@@ -26,10 +26,10 @@ use Rattle.amqp_value_core.specs.Values.{Scalar, decimal, void, Tree, scalar, sh
 use Rattle.amqp_value_core.specs.InMemory.{IsNumber, IsScalar}
 use Rattle.amqp_value_core.specs.Json.{is_within}
 use Rattle.amqp_value_core.specs.Names.{name_of}
-use Rattle.amqp_json.specs.Meaning.{type_named, is_type_key, entry_key, is_e, signed_of, signed_in, unsigned_in, decimal_of, number_as, value_as, with_entry, object_of, table_of, meaning, meanings, pairs_of}
+use Rattle.amqp_json.specs.Meaning.{type_named, is_type_key, entry_key, is_e, signed_of, signed_in, unsigned_in, decimal_of, number_as, number_type, value_as, with_entry, object_of, table_of, meaning, meanings, pairs_of}
 use Rattle.amqp_json.proofs.Integers.{fits_within, signed_read, unsigned_read, signed_type}
-use Rattle.amqp_json.specs.Decimals.{float_text, places_of}
-use Rattle.amqp_json.proofs.DecimalTexts.{has_places, double_meant, float_meant}
+use Rattle.amqp_json.specs.Decimals.{float_text}
+use Rattle.amqp_json.proofs.DecimalTexts.{decimal_is}
 use Rattle.amqp_json.specs.Written.{under, double_written, float_written, signed, number_written, long_written, scalar_written, written_key, written, items_written, members_written, valued, all_valued, pairs_valued, HasJson, AllHaveJson, EntriesHaveJson}
 
 -- what is under the name of a type is read as of that type
@@ -101,14 +101,17 @@ decimal_back scale n few less =
 
 -- ---- values
 
-float_back : (n : ℕ) (o : Option ℕ) → places_of binary32 n ≡ o → n < 2 ^ 32 → meaning (float_written o n) ≡ Some (scalar (values.number amqp.Float n))
-float_back n (Some places) e h = under_back amqp.Float (number (float_text binary32 n places)) refl refl ∙ float_meant n places (has_places binary32 n places e)
+float_back : (n : ℕ) (o : Option (List ℕ)) → float_text binary32 n ≡ o → n < 2 ^ 32 → meaning (float_written o n) ≡ Some (scalar (values.number amqp.Float n))
+float_back n (Some t) e h = under_back amqp.Float (number t) refl refl ∙ ap (option_map (λ m. scalar (values.number amqp.Float m))) (decimal_is binary32 n t e).read
 float_back n None e h =
     under_back amqp.Float (string (encode_lower (to_be_bytes w32 n))) refl refl ∙ ap (λ r. option_map (λ b. scalar (values.number amqp.Float (from_be_bytes w32 b))) (result_ok r)) (decode_sized-encode_lower (to_be_bytes w32 n) 4 refl (bytes_high 4 n))
     ∙ ap (λ m. Some (scalar (values.number amqp.Float m))) (from_be_bytes-to_be_bytes_4 n h)
 
-double_back : (n : ℕ) (o : Option ℕ) → places_of binary64 n ≡ o → n < 2 ^ 64 → meaning (double_written o n) ≡ Some (scalar (values.number amqp.Double n))
-double_back n (Some places) e h = double_meant n places (has_places binary64 n places e)
+double_back : (n : ℕ) (o : Option (List ℕ)) → float_text binary64 n ≡ o → n < 2 ^ 64 → meaning (double_written o n) ≡ Some (scalar (values.number amqp.Double n))
+double_back n (Some t) e h =
+    let is = decimal_is binary64 n t e in
+    let type : number_type t ≡ amqp.Double = rw is.marked refl in
+    ap (λ k. number_as k t) type ∙ ap (option_map (λ m. scalar (values.number amqp.Double m))) is.read
 double_back n None e h =
     under_back amqp.Double (string (encode_lower (to_be_bytes w64 n))) refl refl ∙ ap (λ r. option_map (λ b. scalar (values.number amqp.Double (from_be_bytes w64 b))) (result_ok r)) (decode_sized-encode_lower (to_be_bytes w64 n) 8 refl (bytes_high 8 n))
     ∙ ap (λ m. Some (scalar (values.number amqp.Double m))) (from_be_bytes-to_be_bytes_8 n h)
@@ -124,8 +127,8 @@ number_back amqp.ShortShortUInt n h = under_back amqp.ShortShortUInt (number (di
 number_back amqp.ShortUInt n h = under_back amqp.ShortUInt (number (digits n)) refl refl ∙ natural_back amqp.ShortUInt (2 ^ 16) n h (omega arith)
 number_back amqp.LongUInt n h = under_back amqp.LongUInt (number (digits n)) refl refl ∙ natural_back amqp.LongUInt (2 ^ 32) n h (omega arith)
 number_back amqp.Timestamp n h = under_back amqp.Timestamp (number (digits n)) refl refl ∙ ap (option_map (λ m. scalar (values.number amqp.Timestamp m))) (unsigned_read n h)
-number_back amqp.Float n h = float_back n (places_of binary32 n) refl h
-number_back amqp.Double n h = double_back n (places_of binary64 n) refl h
+number_back amqp.Float n h = float_back n (float_text binary32 n) refl h
+number_back amqp.Double n h = double_back n (float_text binary64 n) refl h
 number_back _ n h = absurd h
 
 scalar_back : (x : Scalar) → IsScalar x → meaning (scalar_written x) ≡ Some (scalar x)

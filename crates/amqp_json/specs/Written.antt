@@ -14,7 +14,7 @@ use Rattle.amqp_value_core.specs.declared.types.amqp_type.AMQPType.TheVariants a
 use Rattle.amqp_value_core.specs.Names.{name_of}
 use Rattle.amqp_value_core.specs.Values as values
 use Rattle.std.specs.Float.{binary32, binary64}
-use Rattle.amqp_json.specs.Decimals.{float_text, places_of}
+use Rattle.amqp_json.specs.Decimals.{float_text}
 use Rattle.amqp_json.specs.Meaning.{most_levels, meant, table_of}
 use Rattle.amqp_value_core.specs.Values.{Scalar, decimal, void, Tree, scalar, short, long, octets, table, Trees, no_trees, tree, Entries, no_entries, entry}
 
@@ -25,14 +25,14 @@ under type j = object (member (36 ∷ name_of type) j no_members)
 abbrev pub signed : Width → ℕ → Json
 signed w n = number (signed_decimal (cast_signed w n))
 
--- a Float with that many digits after its point, or its bits
-abbrev pub float_written : Option ℕ → ℕ → Json
-float_written (Some places) n = under amqp.Float (number (float_text binary32 n places))
+-- a Float with that decimal text, or its bits
+abbrev pub float_written : Option (List ℕ) → ℕ → Json
+float_written (Some text) n = under amqp.Float (number text)
 float_written None n = under amqp.Float (string (encode_lower (to_be_bytes w32 n)))
 
--- a Double with that many digits after its point, or its bits
-abbrev pub double_written : Option ℕ → ℕ → Json
-double_written (Some places) n = number (float_text binary64 n places)
+-- a Double with that decimal text, or its bits
+abbrev pub double_written : Option (List ℕ) → ℕ → Json
+double_written (Some text) n = number text
 double_written None n = under amqp.Double (string (encode_lower (to_be_bytes w64 n)))
 
 abbrev pub number_written : AMQPType → ℕ → Json
@@ -40,8 +40,8 @@ number_written amqp.LongLongInt n = signed w64 n
 number_written amqp.ShortShortInt n = under amqp.ShortShortInt (signed w8 n)
 number_written amqp.ShortInt n = under amqp.ShortInt (signed w16 n)
 number_written amqp.LongInt n = under amqp.LongInt (signed w32 n)
-number_written amqp.Float n = float_written (places_of binary32 n) n
-number_written amqp.Double n = double_written (places_of binary64 n) n
+number_written amqp.Float n = float_written (float_text binary32 n) n
+number_written amqp.Double n = double_written (float_text binary64 n) n
 -- (the others are unsigned: ShortShortUInt, ShortUInt, LongUInt and Timestamp)
 number_written type n = under type (number (digits n))
 

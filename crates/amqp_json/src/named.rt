@@ -183,17 +183,8 @@ pub(crate) fn double_bits(text: &[u8]) -> Option<u64>
     }
 }
 
-/// A number without a type's name: a Double if it has a point or an exponent, otherwise a LongLongInt.
-pub(crate) fn put_plain_number(out: &mut Vec<u8>, text: &str, at: usize) -> Result<(), JsonError>
-    ensures ok { OnOk result (PutsEncodingOf (λ v. number_as (number_type text.now) text.now ≡ Some v)
-        out.old.items out.new.items) }
-    ensures refused { IfErr result (λ e. OnMismatch e (number_as (number_type text.now) text.now ≡ None)) }
-    ensures size { IfErr result (λ e. e ≢ TooLarge) }
-{
-    put_number(out, type_of_number(text), text, at)
-}
-
-fn type_of_number(text: &str) -> AMQPType
+/// The type of a number without a type's name.
+pub(crate) fn type_of_number(text: &str) -> AMQPType
     ensures { result ≡ number_type text.now }
 {
     if has_mark(text.as_bytes()) {
@@ -203,17 +194,11 @@ fn type_of_number(text: &str) -> AMQPType
     }
 }
 
-// Whether there is a point or the letter of an exponent.
+// Whether there is a point or an exponent.
 fn has_mark(text: &[u8]) -> bool
     ensures { result ≡ list_any is_mark text.now }
 {
-    text.iter().any(|c| is_mark(*c))
-}
-
-fn is_mark(c: u8) -> bool
-    ensures { result ≡ is_mark c }
-{
-    c == b'.' || c == b'e' || c == b'E'
+    text.iter().any(|c| *c == b'.' || *c == b'e' || *c == b'E')
 }
 
 // A decimal.

@@ -1,9 +1,9 @@
 //! The decimal text of a `Float` or a `Double`: that with the fewest digits after the point that is
 //! read as it.
 
-ghost use Rattle.std.specs.Prelude.{◌≡◌, ◌<◌, ◌≤◌, ◌^◌, IfSome, length, drop, decimal as digits};
+ghost use Rattle.std.specs.Prelude.{◌≡◌, ◌<◌, ◌≤◌, ◌^◌, Some, None, IfSome, MatchOption, length, drop, decimal as digits};
 ghost use Rattle.amqp_json.specs.Printing.{PutsBytes, format_of, bits_of};
-ghost use Rattle.amqp_json.specs.Decimals.{exponent, significand, times, numerator, shift, half, raised, scaled, minus, with_point, rounded, float_text, is_read, step, is_near, is_text, places_of, widened, double_of};
+ghost use Rattle.amqp_json.specs.Decimals.{exponent, significand, times, numerator, shift, raised, scaled, minus, with_point, rounded, text_with, is_read, is_near, is_text, places_of, float_text, double_of};
 
 use super::put::put;
 use crate::named::{double_bits, float_bits};
@@ -16,22 +16,22 @@ pub enum FloatBits {
     Double(u64),
 }
 
-/// How many digits the float's text has after the point, if the float has a text.
-pub(crate) fn places_of(float: FloatBits) -> Option<u32>
+/// The float's text, if it has one, in a buffer that has room for it.
+#[tactic(auto, using(crate::proofs::DecimalTexts::text_with_utf8))]
+pub(crate) fn float_text(float: FloatBits, buffer: &mut [u8; 96]) -> Option<&str>
+    ensures { MatchOption result (float_text (format_of float) (bits_of float) ≡ None)
+        (λ text. float_text (format_of float) (bits_of float) ≡ Some text.now) }
+{
+    let places = places_of(float)?;
+    Some(unsafe { std::str::from_utf8_unchecked(text_with(float, places, buffer)) })
+}
+
+// How many digits the float's text has after the point, if the float has a text.
+fn places_of(float: FloatBits) -> Option<u32>
     ensures value { result ≡ places_of (format_of float) (bits_of float) }
     ensures bound { IfSome result (λ places. places ≤ 18) }
 {
     (1..19u32).find(|places| is_text(float, *places))
-}
-
-/// Puts the float's text with so many digits after the point.
-pub(crate) fn put_float(buffer: &mut [u8], at: usize, float: FloatBits, places: u32) -> usize
-    requires { places ≤ 18 }
-    ensures puts { PutsBytes buffer.old at buffer.new result
-        (float_text (format_of float) (bits_of float) places) }
-    ensures short { length (float_text (format_of float) (bits_of float) places) ≤ 82 }
-{
-    put_rounded(buffer, at, double_of(float), places)
 }
 
 // Whether the text with so many digits after the point is read as the float.
@@ -42,38 +42,20 @@ fn is_text(float: FloatBits, places: u32) -> bool
     let ten = power(places);
     scaled(double_of(float), ten) / (ten as u128) < 1 << 64
         && is_near(float, ten)
-        && is_rounded(float, places)
+        && is_read(float, text_with(float, places, &mut [0; 96]))
 }
 
-// Whether rounding moved the number by at most the distance to the next float.
+// Whether rounding changed a Double by at most the distance to the next.
 fn is_near(float: FloatBits, ten: u64) -> bool
     requires { ten ≤ 10 ^ 18 }
-    ensures { result ≡ is_near (format_of float) (double_of (format_of float) (bits_of float)) ten }
+    ensures { result ≡ is_near (format_of float) (bits_of float) ten }
 {
-    let double = double_of(float);
-    let rest = raised(double, ten) % (1 << shift(double));
-    let step = ten as u128 * step(float);
-    rest <= half(double) + step && half(double) <= rest + step
-}
-
-fn step(float: FloatBits) -> u128
-    ensures value { result ≡ step (format_of float) }
-    ensures bound { result ≤ 2 ^ 29 }
-{
-    match float {
-        FloatBits::Float(_) => 1 << 29,
-        FloatBits::Double(_) => 1,
-    }
-}
-
-fn is_rounded(float: FloatBits, places: u32) -> bool
-    requires { places ≤ 18 }
-    ensures { result ≡ is_read (format_of float) (bits_of float)
-        (float_text (format_of float) (bits_of float) places) }
-{
-    let mut text = [0u8; 96];
-    let end = put_float(&mut text, 0, float, places);
-    end <= text.len() && is_read(float, &text[..end])
+    let FloatBits::Double(bits) = float else {
+        return true;
+    };
+    let unit = 1u128 << shift(bits);
+    let rest = raised(bits, ten) % unit;
+    rest <= unit / 2 + ten as u128 && unit / 2 <= rest + ten as u128
 }
 
 fn is_read(float: FloatBits, text: &[u8]) -> bool
@@ -85,26 +67,25 @@ fn is_read(float: FloatBits, text: &[u8]) -> bool
     }
 }
 
-// The bits of the Double that equals a float that isn't subnormal.
+// The text with so many digits after the point.
+fn text_with(float: FloatBits, places: u32, buffer: &mut [u8; 96]) -> &[u8]
+    requires { places ≤ 18 }
+    ensures { result.now ≡ text_with (format_of float) (bits_of float) places }
+{
+    let end = put_rounded(buffer, 0, double_of(float), places);
+    &buffer[..end]
+}
+
+// The bits of the Double that equals the float, unless the float is zero or subnormal.
 fn double_of(float: FloatBits) -> u64
     ensures { result ≡ double_of (format_of float) (bits_of float) }
 {
     match float {
-        FloatBits::Float(bits) => widened(bits),
+        FloatBits::Float(bits) => {
+            let bits = bits as u64;
+            bits / (1 << 31) * (1 << 63) + (bits % (1 << 31) * (1 << 29) + 896 * (1 << 52))
+        }
         FloatBits::Double(bits) => bits,
-    }
-}
-
-fn widened(bits: u32) -> u64
-    ensures { result ≡ widened bits }
-{
-    let bits = bits as u64;
-    let size = bits % (1 << 31);
-    let sign = bits / (1 << 31) * (1 << 63);
-    if size == 0 {
-        sign
-    } else {
-        sign + (size * (1 << 29) + 896 * (1 << 52))
     }
 }
 
@@ -166,6 +147,7 @@ fn power(places: u32) -> u64
     10u64.pow(places)
 }
 
+// The number times a power of ten, rounded.
 fn scaled(bits: u64, ten: u64) -> u128
     requires { ten ≤ 10 ^ 18 }
     ensures { result ≡ scaled bits ten }
@@ -177,14 +159,7 @@ fn raised(bits: u64, ten: u64) -> u128
     requires { ten ≤ 10 ^ 18 }
     ensures { result ≡ raised bits ten }
 {
-    numerator(bits) * ten as u128 + half(bits)
-}
-
-fn half(bits: u64) -> u128
-    ensures value { result ≡ half bits }
-    ensures bound { result ≤ 2 ^ 127 }
-{
-    (1 << shift(bits)) / 2
+    numerator(bits) * ten as u128 + (1 << shift(bits)) / 2
 }
 
 fn numerator(bits: u64) -> u128
@@ -218,10 +193,6 @@ fn significand(bits: u64) -> u64
     ensures value { result ≡ significand bits }
     ensures bound { result < 2 ^ 53 }
 {
-    let fraction = bits % (1 << 52);
-    if exponent(bits) == 0 {
-        fraction
-    } else {
-        fraction + (1 << 52)
-    }
+    let hidden = if exponent(bits) == 0 { 0 } else { 1 << 52 };
+    bits % (1 << 52) + hidden
 }

@@ -141,19 +141,23 @@ pub put_value-returns-in-Number-clause-ok : goal.put_value-returns-in-Number-cla
 put_value-returns-in-Number-clause-ok t c =
     let s = c.next.new.self in
     let x = c.in-Number.text.now in
+    let type = c.type_of_number.result in
+    let same : number_as (number_type x) x ≡ number_as type x = rw c.type_of_number.ensures refl in
     let is : c.args.reader.now ≡ Token.number x ∷ s = search rules in
-    on_ok_weaker c.put_plain_number.result (puts_weaker (λ v. number_as (number_type x) x ≡ Some v) (λ v. IsRead c.args.depth meaning (λ d. value d c.args.reader.now) v s) _ _
-    (λ v h d le. token_means d _ s (Token.number x) _ _ is (value_is d (Token.number x ∷ s)) h)) c.put_plain_number.ensures.ok
+    on_ok_weaker c.put_number.result (puts_weaker (λ v. number_as type x ≡ Some v) (λ v. IsRead c.args.depth meaning (λ d. value d c.args.reader.now) v s) _ _
+    (λ v h d le. token_means d _ s (Token.number x) _ _ is (value_is d (Token.number x ∷ s)) (same ∙ h))) c.put_number.ensures.ok
 
 pub put_value-returns-in-Number-clause-refused : goal.put_value-returns-in-Number-clause-refused
 put_value-returns-in-Number-clause-refused t c =
     let s = c.next.new.self in
     let x = c.in-Number.text.now in
+    let type = c.type_of_number.result in
+    let same : number_as (number_type x) x ≡ number_as type x = rw c.type_of_number.ensures refl in
     let is : c.args.reader.now ≡ Token.number x ∷ s = search rules in
-    IfErr-weaker c.put_plain_number.result (λ e. OnMismatch e (number_as (number_type x) x ≡ None)) (λ e. IsRefusal c.args.depth e meaning value c.args.reader.now)
-    (λ e. refusal_by c.args.depth meaning value c.args.reader.now e (number_as (number_type x) x ≡ None)
-    (λ h d le. token_means d _ s (Token.number x) _ _ is (value_is d (Token.number x ∷ s)) h)
-    (λ h. wrong_first c.args.depth meaning value c.args.reader.now (Token.number x) s is (λ d us le. token_means d (Token.number x ∷ us) us (Token.number x) _ _ refl (value_is d (Token.number x ∷ us)) h))) c.put_plain_number.ensures.refused
+    IfErr-weaker c.put_number.result (λ e. OnMismatch e (number_as type x ≡ None)) (λ e. IsRefusal c.args.depth e meaning value c.args.reader.now)
+    (λ e. refusal_by c.args.depth meaning value c.args.reader.now e (number_as type x ≡ None)
+    (λ h d le. token_means d _ s (Token.number x) _ _ is (value_is d (Token.number x ∷ s)) (same ∙ h))
+    (λ h. wrong_first c.args.depth meaning value c.args.reader.now (Token.number x) s is (λ d us le. token_means d (Token.number x ∷ us) us (Token.number x) _ _ refl (value_is d (Token.number x ∷ us)) (same ∙ h)))) c.put_number.ensures.refused
 
 pub put_value-returns-in-String-clause-ok : goal.put_value-returns-in-String-clause-ok
 put_value-returns-in-String-clause-ok t c =
