@@ -17,7 +17,7 @@ use Rattle.amqp_value_core.specs.InMemory.{IsValue}
 use Rattle.amqp_value_core.specs.Outcomes.{Reading, found, Outcome, more, unknown, malformed, read_back, unread}
 use Rattle.amqp_json.specs.Conversions.{IsEncodingWithin}
 use Rattle.amqp_json.specs.Meaning.{meant_within, table_of}
-use Rattle.amqp_json.specs.Puts.{IsEncodedAsItComes}
+use Rattle.amqp_json.specs.reading.Puts.{IsEncodedAsItComes}
 use Rattle.amq_protocol_types.specs.parsing.Refusals.{Refusal}
 use Rattle.amq_protocol_types.specs.parsing.ParseResults.{IsRefusal}
 use Rattle.amqp_in_place.proofs.Refusals.{by_outcome}

@@ -16,7 +16,7 @@ use Rattle.std.specs.Char.{digit_value}
 use Rattle.std.specs.List.{list_any}
 use Rattle.amqp_value_core.specs.declared.types.amqp_type.AMQPType.TheVariants as amqp
 use Rattle.amqp_json.specs.Meaning.{signed_of, unsigned_of, is_mark, number_type}
-use Rattle.amqp_json.specs.Puts.{is_first_digit, is_plain}
+use Rattle.amqp_json.specs.reading.Puts.{is_first_digit, is_plain}
 
 none_if : {A : Type 0} (b : Bool) (x : A) → (b ≡ true → ⊥) → (if b then Some x else None) ≡ None
 none_if true x never = absurd (never refl)

@@ -7,8 +7,8 @@ use Rattle.hex.specs.Hex.{lower_digits, encode_lower}
 use Rattle.json.specs.Token.{Token, key, end_array, end_object}
 use Rattle.json.specs.Print.{print, ends, separator, token_text}
 use Rattle.json.proofs.Printed.Tokens.{print_from_push, ends_push}
-use Rattle.amqp_json.specs.declared.printing.Place.{Place}
-use Rattle.amqp_json.specs.Printing.{Begins, PutsBytes, AreTokensPrinted, PutsTokens, PutsJson, body_len}
+use Rattle.amqp_json.specs.declared.printing.tokens.Place.{Place}
+use Rattle.amqp_json.specs.printing.Buffers.{Begins, PutsBytes, AreTokensPrinted, PutsTokens, PutsJson, body_len}
 use Rattle.amqp_json.specs.Written.{written_key, under, long_written, written, items_written, members_written}
 use Rattle.std.specs.Str.{IsUtf8, is_utf8}
 use Rattle.std.proofs.lemmas.Str.{IsUtf8-from_is_utf8, is_utf8-from_IsUtf8}

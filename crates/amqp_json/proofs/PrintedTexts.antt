@@ -1,4 +1,4 @@
--- Once `PutsJson` holds of a value, the buffer begins with its `json_text`. For `src/decode.rt`.
+-- Once `PutsJson` holds of a value, the buffer begins with its `json_text`. For `src/printing.rt`.
 use Rattle.std.proofs.Common.{◌≡◌, ◌+◌, ◌<◌, ◌≤◌, ◌^◌, ℕ, List, ◌++◌, [], length, take, drop, false, refl, sym, ap, ◌∙◌, subst, append-nil, Some, arith}
 use Rattle.std.proofs.Math.ListN.{drop_of_length-le}
 use Rattle.std.proofs.lemmas.List.{take_at}
@@ -11,8 +11,8 @@ use Rattle.amqp_in_place.specs.Written.{written as as_written}
 use Rattle.amqp_json.specs.Conversions.{IsJsonOf}
 use Rattle.amqp_json.specs.Views.{WritesText}
 use Rattle.amqp_json.specs.Meaning.{meant}
-use Rattle.amqp_json.specs.declared.printing.Place.{Place}
-use Rattle.amqp_json.specs.Printing.{Begins, PutsJson}
+use Rattle.amqp_json.specs.declared.printing.tokens.Place.{Place}
+use Rattle.amqp_json.specs.printing.Buffers.{Begins, PutsJson}
 use Rattle.amqp_json.specs.Written.{json_text, written}
 use Rattle.amqp_json.proofs.Encodings.{valued_written}
 use Rattle.amqp_json.proofs.AsWritten.{written_once, IsReadAs}

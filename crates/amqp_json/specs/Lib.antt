@@ -5,10 +5,8 @@ pub mod Written
 -- What the calls' clauses say.
 pub mod Nesting
 pub mod Conversions
--- For private clauses.
-pub mod Puts
-pub mod Scans
-pub mod Continuations
-pub mod Printing
+-- For private clauses. A folder is for a module of src/.
+pub mod reading
+pub mod printing
 -- Of values that were read in place.
 pub mod Views

@@ -1,5 +1,5 @@
 -- `IsViewOfRead`, a `ValueRef` is the view of a value that was read, and `WritesText`, its JSON
--- text is written to a buffer: for the clauses of `src/decode.rt`.
+-- text is written to a buffer: for the clauses of `src/printing.rt`.
 use Rattle.std.specs.Prelude.{ℕ, ◌≡◌, ◌≤◌, List, ◌++◌, length, drop}
 use Rattle.amqp_in_place.specs.declared.refs.ValueRef.{ValueRef}
 use Rattle.amqp_in_place.specs.Places.{IsViewIn}

@@ -12,12 +12,20 @@ ghost use Rattle.amqp_json.specs.Conversions.{IsEncodingWithin, IsRefusedAs, IsR
 ghost use Rattle.amqp_json.specs.Meaning.{json_within, meant, meant_within, most_levels};
 ghost use Rattle.amqp_json.specs.Nesting.{ReportsNestingOf};
 ghost use Rattle.amqp_json.specs.declared.error.JsonError.TheVariants.{TooLarge};
-ghost use Rattle.amqp_json.specs.Puts.{IsEncodedAsItComes};
+ghost use Rattle.amqp_json.specs.reading.Puts.{IsEncodedAsItComes};
 
+mod brackets;
+mod keys;
+mod named;
+mod nesting;
+mod put;
+mod syntax;
+mod walk;
+
+use self::nesting::first_too_deep;
+use self::syntax::first_fault;
+use self::walk::put_document;
 use crate::error::JsonError;
-use crate::nesting::first_too_deep;
-use crate::syntax::first_fault;
-use crate::walk::put_document;
 use amq_protocol_types::generation::{GenError, WriteContext, gen_value};
 use amq_protocol_types::parsing::{SliceInput, parse_value};
 use amqp_in_place::{Limits, is_canonical};

@@ -6,7 +6,7 @@ use Rattle.json.specs.Json.{Json}
 use Rattle.json.specs.Tree.{json_tokens}
 use Rattle.json.specs.Print.{print, ends_value}
 use Rattle.amqp_json.specs.Written.{counted}
-use Rattle.amqp_json.specs.declared.printing.Place.{Place}
+use Rattle.amqp_json.specs.declared.printing.tokens.Place.{Place}
 use Rattle.amqp_json.specs.declared.printing.decimals.FloatBits.{FloatBits}
 use Rattle.amqp_json.specs.declared.printing.decimals.FloatBits.TheVariants.{Float, Double}
 use Rattle.std.specs.Float as float

@@ -1,4 +1,4 @@
--- For private clauses of `src/syntax.rt`: which bytes complete those that are scanned to a JSON text.
+-- For private clauses of `src/reading/syntax.rt`: which bytes complete those that are scanned to a JSON text.
 use Rattle.std.specs.Prelude.{ℕ, ◌<◌, ◌≡◌, ◌==◌, ◌&&◌, ◌||◌, ◌⊎◌, not, List, [], ◌∷◌, ◌++◌, length, take, Bool, true, false, Option, Some, None, nat_le}
 use Rattle.std.specs.Option.{is_some}
 use Rattle.std.specs.Char.{is_digit, digit_value}
@@ -12,17 +12,17 @@ use Rattle.json.specs.Lex.{Mode, between, in_word, in_string, in_escape, Lexeme,
 use Rattle.json.specs.Lex as lexer
 use Rattle.json.specs.Json.{Json, Items, Members}
 use Rattle.json.specs.Tree.{json_tokens, items_tokens, members_tokens}
-use Rattle.amqp_json.specs.declared.brackets.Bracket.{Bracket}
-use Rattle.amqp_json.specs.declared.brackets.Bracket.TheVariants.{Array, Object}
-use Rattle.amqp_json.specs.declared.syntax.After.{After}
-use Rattle.amqp_json.specs.declared.syntax.After.TheVariants.{OpeningBracket, Comma, Other}
-use Rattle.amqp_json.specs.declared.syntax.Number.{Number}
-use Rattle.amqp_json.specs.declared.syntax.Number.TheVariants as part
-use Rattle.amqp_json.specs.declared.syntax.Next.{Next}
-use Rattle.amqp_json.specs.declared.syntax.Next.TheVariants as next
-use Rattle.amqp_json.specs.declared.syntax.Place.{Place}
-use Rattle.amqp_json.specs.declared.syntax.Place.TheVariants as place
-use Rattle.amqp_json.specs.Scans.{mode_after}
+use Rattle.amqp_json.specs.declared.reading.brackets.Bracket.{Bracket}
+use Rattle.amqp_json.specs.declared.reading.brackets.Bracket.TheVariants.{Array, Object}
+use Rattle.amqp_json.specs.declared.reading.syntax.After.{After}
+use Rattle.amqp_json.specs.declared.reading.syntax.After.TheVariants.{OpeningBracket, Comma, Other}
+use Rattle.amqp_json.specs.declared.reading.syntax.Number.{Number}
+use Rattle.amqp_json.specs.declared.reading.syntax.Number.TheVariants as part
+use Rattle.amqp_json.specs.declared.reading.syntax.Next.{Next}
+use Rattle.amqp_json.specs.declared.reading.syntax.Next.TheVariants as next
+use Rattle.amqp_json.specs.declared.reading.syntax.Place.{Place}
+use Rattle.amqp_json.specs.declared.reading.syntax.Place.TheVariants as place
+use Rattle.amqp_json.specs.reading.Scans.{mode_after}
 use Rattle.amqp_json.specs.Meaning.{json_within}
 
 -- after a value the tokens close these brackets, the first one first, and then the text ends

@@ -10,8 +10,8 @@ use Rattle.amqp_value_core.specs.InMemory.{IsScalar}
 use Rattle.amqp_value_core.specs.Texts.{text}
 use Rattle.amqp_json.specs.declared.error.JsonError.{JsonError}
 use Rattle.amqp_json.specs.declared.error.JsonError.TheVariants.{Syntax, TooDeep, NotAValue}
-use Rattle.amqp_json.specs.declared.keys.Key.{Key}
-use Rattle.amqp_json.specs.declared.keys.Key.TheVariants.{Entry, Name}
+use Rattle.amqp_json.specs.declared.reading.keys.Key.{Key}
+use Rattle.amqp_json.specs.declared.reading.keys.Key.TheVariants.{Entry, Name}
 use Rattle.amqp_json.specs.Nesting.{fits}
 use Rattle.amqp_json.specs.Meaning.{is_type_key, entry_key, meanings, object_of, pairs_of, value_as, meant_within}
 

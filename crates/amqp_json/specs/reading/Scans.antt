@@ -1,11 +1,11 @@
--- For private clauses of `src/nesting.rt` and `src/syntax.rt`: how a byte takes the scan of a text further.
+-- For private clauses of `src/reading/nesting.rt` and `src/reading/syntax.rt`: how a byte takes the scan of a text further.
 use Rattle.std.specs.Prelude.{ℕ, zero, suc, ◌+◌, ◌≤◌, ◌≡◌, ◌==◌, ◌||◌, List, [], ◌∷◌, ◌++◌, length, take, get_or, Bool, cond}
 use Rattle.json.specs.Word.{is_operator, is_space}
 use Rattle.json.specs.Lex.{Mode, between, in_word, in_string, in_escape, lex}
-use Rattle.amqp_json.specs.declared.brackets.Bracket.{Bracket}
-use Rattle.amqp_json.specs.declared.brackets.Bracket.TheVariants.{Array}
-use Rattle.amqp_json.specs.declared.nesting.Place.{Place}
-use Rattle.amqp_json.specs.declared.nesting.Place.TheVariants.{Between, InWord, InString, Escaped}
+use Rattle.amqp_json.specs.declared.reading.brackets.Bracket.{Bracket}
+use Rattle.amqp_json.specs.declared.reading.brackets.Bracket.TheVariants.{Array}
+use Rattle.amqp_json.specs.declared.reading.nesting.Place.{Place}
+use Rattle.amqp_json.specs.declared.reading.nesting.Place.TheVariants.{Between, InWord, InString, Escaped}
 use Rattle.amqp_json.specs.declared.error.SyntaxError.{SyntaxError}
 use Rattle.amqp_json.specs.declared.error.SyntaxError.TheVariants.{UnexpectedEnd, UnfinishedString}
 use Rattle.amqp_json.specs.Nesting.{opens, lexemes_fit}

@@ -2,11 +2,11 @@
 //! read as it.
 
 ghost use Rattle.std.specs.Prelude.{◌≡◌, ◌<◌, ◌≤◌, ◌^◌, Some, None, IfSome, MatchOption, length, drop, decimal as digits};
-ghost use Rattle.amqp_json.specs.Printing.{PutsBytes, format_of, bits_of};
+ghost use Rattle.amqp_json.specs.printing.Buffers.{PutsBytes, format_of, bits_of};
 ghost use Rattle.amqp_json.specs.Decimals.{exponent, significand, times, numerator, shift, raised, scaled, minus, with_point, rounded, text_with, is_read, is_near, is_text, places_of, float_text, double_of};
 
 use super::put::put;
-use crate::named::{double_bits, float_bits};
+use crate::floats::{double_bits, float_bits};
 use itoa::Buffer;
 
 /// The bits of a float.

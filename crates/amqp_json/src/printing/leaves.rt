@@ -14,11 +14,10 @@ ghost use Rattle.amqp_in_place.specs.Refs.{Denotes};
 ghost use Rattle.amqp_json.specs.Written.{decimal_text, double_written, float_written, long_written, written};
 ghost use Rattle.amqp_json.specs.Decimals.{float_text};
 ghost use Rattle.std.specs.Float.{binary32, binary64};
-ghost use Rattle.amqp_json.specs.Printing.{PutsTokens, PutsJson};
+ghost use Rattle.amqp_json.specs.printing.Buffers.{PutsTokens, PutsJson};
 
-use super::Place;
 use super::decimals::{FloatBits, float_text};
-use super::tokens::{put_decimal, put_digits, put_token};
+use super::tokens::{Place, put_decimal, put_digits, put_token};
 use amqp_in_place::ValueRef;
 use amqp_value_core::types::DecimalValue;
 use itoa::Buffer;

@@ -1,16 +1,14 @@
-//! `put_value`: puts the JSON text of a `ValueRef` into a buffer. It allocates nothing. (The crate's
-//! `walk` goes the other way, from JSON to an encoding.)
+//! `put_value`: puts the JSON text of a `ValueRef` into a buffer. It allocates nothing.
 
 ghost use Rattle.std.specs.Prelude.{List, ℕ};
 ghost use Rattle.amqp_value_core.specs.Values.{Tree, Trees, Entries, array as array_tree, table as table_tree};
 ghost use Rattle.amqp_in_place.specs.Refs.{array_body, table_body};
 ghost use Rattle.amqp_in_place.specs.Written.{IsWrittenAs, WrittenValues, WrittenPairs};
-ghost use Rattle.amqp_json.specs.Printing.{PutsJson};
+ghost use Rattle.amqp_json.specs.printing.Buffers.{PutsJson};
 ghost use Rattle.amqp_json.specs.Written.{written};
 
-use super::Place;
 use super::leaves::put_leaf;
-use super::tokens::{put_key, put_token};
+use super::tokens::{Place, put_key, put_token};
 use amqp_in_place::{ArrayRef, TableRef, ValueRef};
 use json::Token;
 

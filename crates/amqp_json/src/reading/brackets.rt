@@ -25,8 +25,8 @@ pub(crate) struct Brackets {
 
 impl Model for Brackets {
     ghost use Rattle.std.specs.Prelude.{List, ◌≤◌};
-    ghost use Rattle.amqp_json.specs.Scans.{innermost_first};
-    ghost use Rattle.amqp_json.specs.declared.brackets.Bracket.{Bracket};
+    ghost use Rattle.amqp_json.specs.reading.Scans.{innermost_first};
+    ghost use Rattle.amqp_json.specs.declared.reading.brackets.Bracket.{Bracket};
 
     ghost Value = { List Bracket };
 

@@ -3,7 +3,7 @@
 ghost use Rattle.std.specs.Prelude.{◌≡◌, true, false, drop};
 ghost use Rattle.std.specs.Str.{bytes_eq};
 ghost use Rattle.amqp_json.specs.Meaning.{is_type_key, entry_key, type_named};
-ghost use Rattle.amqp_json.specs.Puts.{IsKey};
+ghost use Rattle.amqp_json.specs.reading.Puts.{IsKey};
 
 use amqp_value_core::types::AMQPType;
 

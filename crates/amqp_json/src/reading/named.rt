@@ -10,11 +10,12 @@ ghost use Rattle.amqp_value_core.specs.Values.{scalar, decimal as decimal_tree};
 ghost use Rattle.std.specs.Float.{binary32, binary64};
 ghost use Rattle.std.specs.List.{list_any};
 ghost use Rattle.amqp_json.specs.Meaning.{number_as, string_as, decimal_of, signed_of, unsigned_of, float_of, is_mark, number_type};
-ghost use Rattle.amqp_json.specs.Puts.{PutsEncodingOf, PutsScalar, PutsInteger, OnMismatch, is_plain};
+ghost use Rattle.amqp_json.specs.reading.Puts.{PutsEncodingOf, PutsScalar, PutsInteger, OnMismatch, is_plain};
 ghost use Rattle.amqp_json.specs.declared.error.JsonError.TheVariants.{OutOfMemory, TooLarge};
 
+use super::put::{put, put_counted};
 use crate::error::{JsonError, Mismatch};
-use crate::put::{put, put_counted};
+use crate::floats::{double_bits, float_bits};
 use amqp_value_core::types::{AMQPType, DecimalValue};
 use hex::{FromHex, FromHexError};
 use std::alloc::Global;
@@ -157,30 +158,6 @@ fn put_integer(out: &mut Vec<u8>, amqp_type: AMQPType, text: &str) -> Option<Res
         _ => return None,
     };
     Some(done)
-}
-
-/// The bits of the nearest Float, if that is finite.
-pub(crate) fn float_bits(text: &[u8]) -> Option<u32>
-    ensures { result ≡ float_of binary32 text.now }
-{
-    let x: f32 = fast_float::parse(text).ok()?;
-    if x.is_finite() {
-        Some(x.to_bits())
-    } else {
-        None
-    }
-}
-
-/// The bits of the nearest Double, if that is finite.
-pub(crate) fn double_bits(text: &[u8]) -> Option<u64>
-    ensures { result ≡ float_of binary64 text.now }
-{
-    let x: f64 = fast_float::parse(text).ok()?;
-    if x.is_finite() {
-        Some(x.to_bits())
-    } else {
-        None
-    }
 }
 
 /// The type of a number without a type's name.

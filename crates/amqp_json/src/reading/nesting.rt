@@ -1,12 +1,12 @@
 //! `first_too_deep`: the bracket of a text that opens one array or object too many.
 //!
-//! `json::Reader` has no contract on the byte of a token. So `encode` scans a text again that nests too deep.
+//! `json::Reader` has no contract on the byte of a token. So `reading` scans a text again that nests too deep.
 
 ghost use Rattle.std.specs.Prelude.{◌≡◌, ◌<◌, ◌^◌, ◌||◌, ℕ, ◌+◌, ◌-◌, ◌≤◌, Bool, true, false, IfSome, MatchOption};
 ghost use Rattle.json.specs.Lex.{between, lex};
 ghost use Rattle.json.specs.Word.{is_operator, is_space};
 ghost use Rattle.amqp_json.specs.Nesting.{lexemes_fit, IsFirstTooDeep};
-ghost use Rattle.amqp_json.specs.Scans.{fits_byte, mode_after, mode_of};
+ghost use Rattle.amqp_json.specs.reading.Scans.{fits_byte, mode_after, mode_of};
 
 // Where a byte of a text is.
 #[derive(Clone, Copy)]

@@ -1,5 +1,5 @@
 //! Appends type tags, lengths, keys and payloads of encodings to a `Vec<u8>`, for `walk` and
-//! `named`. (`printing::put` goes the other way: it puts JSON text into a buffer of a fixed size.)
+//! `named`.
 
 ghost use Rattle.std.specs.Prelude.{◌≡◌, ◌+◌, ◌-◌, ◌<◌, ◌^◌, ◌∷◌, [], ◌++◌, length, take, drop, false, None, Option, OnOk, IfErr};
 ghost use Rattle.std.specs.Int.{w32, to_be_bytes};
@@ -8,10 +8,10 @@ ghost use Rattle.amqp_value_core.specs.Bytes.{IsShort};
 ghost use Rattle.amqp_value_core.specs.Values.{Tree, Entries};
 ghost use Rattle.amqp_json.specs.Meaning.{is_type_key, entry_key, with_entry};
 ghost use Rattle.amqp_json.specs.declared.error.JsonError.TheVariants.{OutOfMemory};
-ghost use Rattle.amqp_json.specs.Puts.{OnMismatch};
+ghost use Rattle.amqp_json.specs.reading.Puts.{OnMismatch};
 
+use super::keys::{Key, key_of};
 use crate::error::{JsonError, Mismatch};
-use crate::keys::{Key, key_of};
 
 /// A type tag, and bytes.
 pub(crate) fn put(out: &mut Vec<u8>, tag: u8, bytes: &[u8]) -> Result<(), JsonError>

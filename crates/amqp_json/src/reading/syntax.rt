@@ -1,25 +1,25 @@
 //! `first_fault`: the byte at which a text stops being JSON, and what is wrong there.
 //!
-//! `json::Reader` tells that a text isn't JSON, but not at which byte. So `encode` scans a rejected
+//! `json::Reader` tells that a text isn't JSON, but not at which byte. So `reading` scans a rejected
 //! text again.
 
 ghost use Rattle.std.specs.Prelude.{◌≡◌, ◌<◌, ◌+◌, ◌||◌, false, take, drop, length, List, IfErr, MatchResult};
 ghost use Rattle.std.specs.Bool.{OnTrue};
 ghost use Rattle.json.specs.Word.{is_operator, is_space as is_space_byte};
 ghost use Rattle.amqp_json.specs.Conversions.{IsWithin, BeginsNoJson};
-ghost use Rattle.amqp_json.specs.Scans.{IsAtByte};
-ghost use Rattle.amqp_json.specs.Continuations.{Leads, Ends, Opens, TextLeads, TextEnds, PartLeads, PartEnds};
-ghost use Rattle.amqp_json.specs.declared.brackets.Bracket.{Bracket};
-ghost use Rattle.amqp_json.specs.declared.syntax.Next.TheVariants as next;
-ghost use Rattle.amqp_json.specs.declared.syntax.Place.TheVariants as places;
+ghost use Rattle.amqp_json.specs.reading.Scans.{IsAtByte};
+ghost use Rattle.amqp_json.specs.reading.Continuations.{Leads, Ends, Opens, TextLeads, TextEnds, PartLeads, PartEnds};
+ghost use Rattle.amqp_json.specs.declared.reading.brackets.Bracket.{Bracket};
+ghost use Rattle.amqp_json.specs.declared.reading.syntax.Next.TheVariants as next;
+ghost use Rattle.amqp_json.specs.declared.reading.syntax.Place.TheVariants as places;
 ghost use Rattle.amqp_json.specs.declared.error.JsonError.TheVariants.{Syntax};
 
-use crate::brackets::{Bracket, Brackets};
+use super::brackets::{Bracket, Brackets};
 use crate::error::SyntaxError;
 
 /// The first byte that can't continue the bytes before it to a JSON text, and what is wrong there; or the end, if
 /// something is missing there. It is of a text that isn't JSON. A text that opens more than 127 brackets before that
-/// byte isn't scanned further, and the end is returned; `encode` passes none.
+/// byte isn't scanned further, and the end is returned; `reading` passes none.
 pub(crate) fn first_fault(text: &str) -> (usize, SyntaxError)
     ensures within { IsWithin (Syntax result.0 result.1) (length text.now) }
     ensures none { result.0 < length text.now → BeginsNoJson (take (result.0 + 1) text.now) }

@@ -1,5 +1,5 @@
 //! `put_document`: reads the tokens of a JSON text and puts the encoding of its value, with pairs
-//! in the order of the text. (`printing::walk` goes the other way, from a value to JSON text.)
+//! in the order of the text.
 
 // The tactic at the function names the lemmas that clauses are proved by.
 
@@ -9,12 +9,12 @@ ghost use Rattle.json.specs.Json.{value, read_key};
 ghost use Rattle.amqp_json.specs.Conversions.{IsRefusedAs};
 ghost use Rattle.amqp_json.specs.Nesting.{ReportsNestingOf};
 ghost use Rattle.amqp_json.specs.Meaning.{json_of, meaning, meanings, pairs_of, is_type_key};
-ghost use Rattle.amqp_json.specs.Puts.{PutsEncodingOf, PutsValues, PutsPairs, IsNamed, IsLeaf, IsLeafRefusal, IsRead, IsRefusal, IsSyntax, items_at, members_at, array_of, object_meant, next_token};
+ghost use Rattle.amqp_json.specs.reading.Puts.{PutsEncodingOf, PutsValues, PutsPairs, IsNamed, IsLeaf, IsLeafRefusal, IsRead, IsRefusal, IsSyntax, items_at, members_at, array_of, object_meant, next_token};
 
+use super::keys::{Key, key_of, type_of_name};
+use super::named::{other_kind, put_number, put_string, type_of_number};
+use super::put::{fill_length, put, put_counted, put_head, put_key};
 use crate::error::{JsonError, Mismatch, SyntaxError};
-use crate::keys::{Key, key_of, type_of_name};
-use crate::named::{other_kind, put_number, put_string, type_of_number};
-use crate::put::{fill_length, put, put_counted, put_head, put_key};
 use amqp_value_core::types::AMQPType;
 use json::{Reader, Token};
 use std::alloc::Global;

@@ -1,6 +1,6 @@
 -- `json_of_encoding`: `read_in_place` returns a view of what it read, as `json_of_view` requires.
 use Rattle.amqp_in_place.proofs.Canonicals.{bytes_all}
-use Rattle.amqp_json.proofs.decode.json_of_encoding.Goals as goal
+use Rattle.amqp_json.proofs.printing.json_of_encoding.Goals as goal
 
 pub json_of_view-requires : goal.json_of_view-requires
 json_of_view-requires c =

@@ -9,7 +9,7 @@ use Rattle.amqp_json.specs.Views.{IsViewOfRead}
 use Rattle.amqp_json.specs.Written.{json_text}
 use Rattle.amqp_json.proofs.AsWritten.{read_as}
 use Rattle.amqp_json.proofs.PrintedTexts.{decoded}
-use Rattle.amqp_json.proofs.decode.json_of_view.Goals as goal
+use Rattle.amqp_json.proofs.printing.json_of_view.Goals as goal
 
 pub text_of-requires : goal.text_of-requires
 text_of-requires c =

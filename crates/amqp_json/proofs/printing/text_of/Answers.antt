@@ -6,7 +6,7 @@ use Rattle.std.specs.Vec.{with_items}
 use Rattle.std.proofs.lemmas.List.{with_items_is}
 use Rattle.amqp_json.proofs.PrintedTexts.{text_taken, text_filled}
 use Rattle.amqp_json.proofs.TextRoundTrip.{text_is_utf8}
-use Rattle.amqp_json.proofs.decode.text_of.Goals as goal
+use Rattle.amqp_json.proofs.printing.text_of.Goals as goal
 
 -- ---- a text that fits the small buffer
 

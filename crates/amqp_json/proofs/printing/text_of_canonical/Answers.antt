@@ -8,7 +8,7 @@ use Rattle.amqp_json.specs.Meaning.{meant}
 use Rattle.amqp_json.proofs.AsWritten.{canonical_again}
 use Rattle.amqp_json.proofs.Encodings.{not_again}
 use Rattle.amqp_json.proofs.TextRoundTrip.{text_is_read}
-use Rattle.amqp_json.proofs.decode.text_of_canonical.Goals as goal
+use Rattle.amqp_json.proofs.printing.text_of_canonical.Goals as goal
 
 pub text_of-requires : goal.text_of-requires
 text_of-requires c =

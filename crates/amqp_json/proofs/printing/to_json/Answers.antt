@@ -7,7 +7,7 @@ use Rattle.amqp_value_core.specs.View.{view}
 use Rattle.amqp_json.specs.Conversions.{HasNoText}
 use Rattle.amqp_json.specs.Views.{IsReadBack}
 use Rattle.amqp_json.specs.Written.{json_text, MeansIfShallow}
-use Rattle.amqp_json.proofs.decode.to_json.Goals as goal
+use Rattle.amqp_json.proofs.printing.to_json.Goals as goal
 
 pub text_of_canonical-requires : goal.text_of_canonical-requires
 text_of_canonical-requires c =

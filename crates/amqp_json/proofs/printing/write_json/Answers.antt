@@ -2,7 +2,7 @@
 -- the error has the count.
 use Rattle.std.proofs.Common.{◌≤◌, length, arith}
 use Rattle.amqp_in_place.proofs.Canonicals.{bytes_all}
-use Rattle.amqp_json.proofs.decode.write_json.Goals as goal
+use Rattle.amqp_json.proofs.printing.write_json.Goals as goal
 
 pub returns-then-count-capacity : goal.returns-then-count-capacity
 returns-then-count-capacity c =

@@ -4,7 +4,7 @@ use Rattle.amqp_in_place.specs.Written.{written}
 use Rattle.amqp_json.specs.Written.{json_text}
 use Rattle.amqp_json.proofs.AsWritten.{read_as}
 use Rattle.amqp_json.proofs.PrintedTexts.{decoded, text_begins, text_written}
-use Rattle.amqp_json.proofs.decode.write_json_of_view.Goals as goal
+use Rattle.amqp_json.proofs.printing.write_json_of_view.Goals as goal
 
 pub returns : goal.returns
 returns c = record {

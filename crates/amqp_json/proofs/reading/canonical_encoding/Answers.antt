@@ -8,7 +8,7 @@ use Rattle.amqp_value_core.specs.Values.{Tree}
 use Rattle.amqp_json.specs.Conversions.{IsEncodingWithin}
 use Rattle.amqp_json.specs.Meaning.{meant_within}
 use Rattle.amqp_json.proofs.Encodings.{as_written, encodes_meant}
-use Rattle.amqp_json.proofs.encode.canonical_encoding.Goals as goal
+use Rattle.amqp_json.proofs.reading.canonical_encoding.Goals as goal
 
 pub returns-then-is_canonical-clause-ok : goal.returns-then-is_canonical-clause-ok
 returns-then-is_canonical-clause-ok c = as_written c.args.levels _ c.args.json.now c.in_ok-bytes.bytes.items c.as_slice.result.now c.in_ok-bytes.ensures.ok c.as_slice.ensures.value (c.if-is_canonical.ensures.written refl)

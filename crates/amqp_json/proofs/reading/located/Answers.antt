@@ -4,7 +4,7 @@ use Rattle.json.specs.Lex.{tokens}
 use Rattle.amqp_json.specs.Nesting.{OpensTooMany, ReportsNestingOf}
 use Rattle.amqp_json.specs.declared.error.JsonError.{JsonError}
 use Rattle.amqp_json.proofs.Scanning.{never_too_many}
-use Rattle.amqp_json.proofs.encode.located.Goals as goal
+use Rattle.amqp_json.proofs.reading.located.Goals as goal
 
 pub unreachable-requires : goal.unreachable-requires
 unreachable-requires c =

@@ -4,7 +4,7 @@ use Rattle.std.proofs.lemmas.Iterator.{YieldsList-from_range}
 use Rattle.std.proofs.lemmas.Iterator.Adapters.{option_map_id}
 use Rattle.std.proofs.lemmas.Iterator.Search.{find_from_yields_List}
 use Rattle.amqp_json.specs.Decimals.{is_text, places_of}
-use Rattle.amqp_json.specs.Printing.{format_of, bits_of}
+use Rattle.amqp_json.specs.printing.Buffers.{format_of, bits_of}
 use Rattle.amqp_json.proofs.printing.decimals.places_of.Goals as goal
 
 pub returns-clause-value : goal.returns-clause-value

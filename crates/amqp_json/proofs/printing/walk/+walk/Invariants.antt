@@ -7,7 +7,7 @@ use Rattle.amqp_value_core.specs.Values.{Trees, Entries, array, table}
 use Rattle.amqp_in_place.specs.Refs.{array_body, table_body}
 use Rattle.amqp_in_place.specs.Suffix.{values_left, pairs_left}
 use Rattle.amqp_in_place.specs.Written.{WrittenValues, WrittenPairs}
-use Rattle.amqp_json.specs.Printing.{PutsTokens, body_len}
+use Rattle.amqp_json.specs.printing.Buffers.{PutsTokens, body_len}
 use Rattle.amqp_json.specs.Written.{written, items_written, members_written}
 use Rattle.amqp_json.proofs.printing.walk.+walk.Given as goal
 

@@ -2,7 +2,7 @@
 use Rattle.std.proofs.Common.{rules, arith, ◌≡◌, sym, ap, ◌∙◌, true, false, not, ◌==◌, get_or, ◌∷◌}
 use Rattle.std.proofs.lemmas.Str.Pattern.{strip_prefix_char}
 use Rattle.amqp_json.proofs.ObjectKeys.{plain, marked}
-use Rattle.amqp_json.proofs.keys.key_of.Goals as goal
+use Rattle.amqp_json.proofs.reading.keys.key_of.Goals as goal
 
 pub returns-in_default : goal.returns-in_default
 unfolding lib.Utf8.encode

@@ -1,7 +1,7 @@
 -- `decimal`: a text whose exponent doesn't begin with a minus isn't a decimal.
 use Rattle.std.proofs.Common.{rules}
 use Rattle.amqp_json.proofs.ObjectKeys.{no_minus}
-use Rattle.amqp_json.proofs.named.decimal.Goals as goal
+use Rattle.amqp_json.proofs.reading.named.decimal.Goals as goal
 
 pub returns-in_err-strip_prefix : goal.returns-in_err-strip_prefix
 unfolding lib.Utf8.encode

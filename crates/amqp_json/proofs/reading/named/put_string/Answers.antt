@@ -6,7 +6,7 @@ use Rattle.amqp_value_core.specs.declared.types.amqp_type.AMQPType.TheVariants a
 use Rattle.amqp_value_core.specs.Values.{scalar, number, decimal, long, octets}
 use Rattle.amqp_json.specs.Meaning.{string_as}
 use Rattle.amqp_json.proofs.PutEncodings.{scalar_put, long_put, octets_put, float_put, double_put}
-use Rattle.amqp_json.proofs.named.put_string.Goals as goal
+use Rattle.amqp_json.proofs.reading.named.put_string.Goals as goal
 
 pub returns-in-Some-clause-ok : goal.returns-in-Some-clause-ok
 returns-in-Some-clause-ok c =

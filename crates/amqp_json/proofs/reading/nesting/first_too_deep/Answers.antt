@@ -1,8 +1,8 @@
 -- `first_too_deep`: after each byte of the text, the scan decides as `lexemes_fit` does.
 use Rattle.std.proofs.Common.{arith, length, get_or, ap, take_all}
-use Rattle.amqp_json.specs.Scans.{mode_of}
+use Rattle.amqp_json.specs.reading.Scans.{mode_of}
 use Rattle.amqp_json.proofs.Scanning.{scan_first, scan_next, scan_too_deep, scan_end}
-use Rattle.amqp_json.proofs.nesting.first_too_deep.Goals as goal
+use Rattle.amqp_json.proofs.reading.nesting.first_too_deep.Goals as goal
 
 pub bytes-init : goal.bytes-init
 bytes-init c = scan_first c.args.most c.args.text.now

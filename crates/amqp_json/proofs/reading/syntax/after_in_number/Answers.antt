@@ -1,7 +1,7 @@
 -- `after_in_number`: a digit goes on with the number.
 use Rattle.std.proofs.Common.{rules, arith}
 use Rattle.amqp_json.proofs.Numerals.{minus_digit, integer_digit, point_digit, fraction_digit, e_digit, sign_digit, exponent_digit}
-use Rattle.amqp_json.proofs.syntax.after_in_number.Goals as goal
+use Rattle.amqp_json.proofs.reading.syntax.after_in_number.Goals as goal
 
 pub returns-in-Minus-49-to-57-clause-leads : goal.returns-in-Minus-49-to-57-clause-leads
 returns-in-Minus-49-to-57-clause-leads c = minus_digit c.args.number c.args.byte (omega arith) (omega arith) (search rules) (search rules)

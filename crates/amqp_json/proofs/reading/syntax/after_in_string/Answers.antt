@@ -1,7 +1,7 @@
 -- `after_in_string`: each byte goes on with the string as `content` does.
 use Rattle.std.proofs.Common.{rules, arith}
 use Rattle.amqp_json.proofs.Halves.{control_ends, plain_leads, escape_leads, u_leads, short_leads, unknown_ends, fourth_leads}
-use Rattle.amqp_json.proofs.syntax.after_in_string.Goals as goal
+use Rattle.amqp_json.proofs.reading.syntax.after_in_string.Goals as goal
 
 pub returns-in_default-byte-clause-leads : goal.returns-in_default-byte-clause-leads
 returns-in_default-byte-clause-leads c = unknown_ends c.args.next c.args.byte (search rules) (search rules) (search rules)

@@ -1,7 +1,7 @@
 -- `first_fault`: what completes the bytes that are scanned completes the place; no byte after a fault does.
 use Rattle.std.proofs.Common.{arith, rules, length, get_or, ap, ◌≡◌, ◌∙◌}
 use Rattle.amqp_json.proofs.Completing.{scanned_none, scanned_more, scan_stops, mark_stops}
-use Rattle.amqp_json.proofs.syntax.first_fault.Goals as goal
+use Rattle.amqp_json.proofs.reading.syntax.first_fault.Goals as goal
 
 pub bytes-init : goal.bytes-init
 bytes-init c = (omega arith, scanned_none c.args.text.now _ c.new.ensures)

@@ -10,12 +10,12 @@ use Rattle.amqp_value_core.specs.Values.{array, scalar, void, boolean}
 use Rattle.amqp_value_core.specs.Grammar.{long_field}
 use Rattle.amqp_value_core.specs.Texts.{text}
 use Rattle.amqp_json.specs.Meaning.{meaning, meanings, pairs_of, number_as, number_type, table_of, is_type_key}
-use Rattle.amqp_json.specs.Puts.{OnMismatch, PutsEncodingOf, IsNamed, IsRead, IsRefusal, items_at, members_at, array_of, object_meant, next_token, converted}
+use Rattle.amqp_json.specs.reading.Puts.{OnMismatch, PutsEncodingOf, IsNamed, IsRead, IsRefusal, items_at, members_at, array_of, object_meant, next_token, converted}
 use Rattle.amqp_json.proofs.ObjectKeys.{entry_fits, closer}
 use Rattle.amqp_json.proofs.MeantContainers.{converted-items, token_means, no_level, array_meant, object_is, table_is}
 use Rattle.amqp_json.proofs.PutEncodings.{PairsLeft, items_first, items_next, items_done, items_none, pairs_first, key_is, pairs_next, pairs_done, pair_none, key_none, next_none, array_put, table_put, puts_weaker, scalar_put, long_put}
 use Rattle.amqp_json.proofs.Refusals.{refusal_by, wrong_first, wrong_end, array_refused, object_refused, table_refused, named_refused, keyless_refused, deep_array, deep_object}
-use Rattle.amqp_json.proofs.walk.+walk.Goals as goal
+use Rattle.amqp_json.proofs.reading.walk.+walk.Goals as goal
 
 pub put_array-returns-clause-ok : goal.put_array-returns-clause-ok
 put_array-returns-clause-ok t c =

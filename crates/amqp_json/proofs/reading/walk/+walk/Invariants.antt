@@ -1,9 +1,9 @@
 -- Of the loops in `put_items` and `put_pairs`: what is put, with what is left, is the container's
 -- body. The depth decreases in calls, and the number of tokens in the loops.
 use Rattle.std.proofs.Common.{◌+◌, ◌*◌, ◌≤◌, ◌∷◌, length, option_map}
-use Rattle.amqp_json.specs.Puts.{next_token}
+use Rattle.amqp_json.specs.reading.Puts.{next_token}
 use Rattle.amqp_json.proofs.PutEncodings.{ItemsLeft, PairsLeft}
-use Rattle.amqp_json.proofs.walk.+walk.Given as goal
+use Rattle.amqp_json.proofs.reading.walk.+walk.Given as goal
 
 abbrev pub decreases-put_value : goal.decreases-put_value
 decreases-put_value l = 4 * l.depth

@@ -4,7 +4,7 @@ use Rattle.std.proofs.Common.{rules, ◌≡◌, ◌∷◌, Some, ap, ◌∙◌, 
 use Rattle.json.specs.Reads.{token_of}
 use Rattle.amqp_json.specs.Nesting.{OpensTooMany}
 use Rattle.amqp_json.proofs.Refusals.{document_refused, more_tokens}
-use Rattle.amqp_json.proofs.walk.put_document.Goals as goal
+use Rattle.amqp_json.proofs.reading.walk.put_document.Goals as goal
 
 pub returns-in_err-put_value-clause-nesting : goal.returns-in_err-put_value-clause-nesting
 returns-in_err-put_value-clause-nesting c =

@@ -5,10 +5,10 @@ use Rattle.std.proofs.lemmas.Result.{on_ok_weaker}
 use Rattle.json.specs.Token.{number, string}
 use Rattle.json.specs.Reads.{token_of}
 use Rattle.amqp_json.specs.Meaning.{number_as, string_as}
-use Rattle.amqp_json.specs.Puts.{IsLeaf}
+use Rattle.amqp_json.specs.reading.Puts.{IsLeaf}
 use Rattle.amqp_json.proofs.PutEncodings.{puts_weaker}
 use Rattle.amqp_json.proofs.ObjectKeys.{number_leaf, string_leaf, closer}
-use Rattle.amqp_json.proofs.walk.put_leaf.Goals as goal
+use Rattle.amqp_json.proofs.reading.walk.put_leaf.Goals as goal
 
 pub returns-in-Number-clause-ok : goal.returns-in-Number-clause-ok
 returns-in-Number-clause-ok c =

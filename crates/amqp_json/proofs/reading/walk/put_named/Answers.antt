@@ -6,12 +6,12 @@ use Rattle.json.specs.Json.{value, read_key}
 use Rattle.json.specs.Reads.{token_of}
 use Rattle.json.proofs.Grammar.{value_is, read_key_is}
 use Rattle.amqp_json.specs.Meaning.{type_named}
-use Rattle.amqp_json.specs.Puts.{IsNamed, IsLeaf, IsRead, IsRefusal, members_at, object_meant, converted}
+use Rattle.amqp_json.specs.reading.Puts.{IsNamed, IsLeaf, IsRead, IsRefusal, members_at, object_meant, converted}
 use Rattle.amqp_json.proofs.PutEncodings.{puts_weaker}
 use Rattle.amqp_json.proofs.Levels.{StartsAs, first_is, no_key}
 use Rattle.amqp_json.proofs.Refusals.{refusal_of, wrong_after, wrong_first, wrong_after_leaf, leaf_refused}
 use Rattle.amqp_json.proofs.ObjectKeys.{no_named, no_value, sole, not_closed, not_alone}
-use Rattle.amqp_json.proofs.walk.put_named.Goals as goal
+use Rattle.amqp_json.proofs.reading.walk.put_named.Goals as goal
 
 pub returns-in_default-clause-refused : goal.returns-in_default-clause-refused
 returns-in_default-clause-refused c k depth is name =

@@ -1,8 +1,8 @@
 -- `after_first_byte`: by the byte.
 use Rattle.std.proofs.Common.{rules, arith, inl, inr}
 use Rattle.amqp_json.proofs.Completing.{quote_leads, object_leads, array_leads, array_ends, trailing_comma, no_array, true_leads, false_leads, null_leads, minus_begins, zero_begins, digit_begins, no_value}
-use Rattle.amqp_json.proofs.syntax.Scan.after_first_byte.Goals as goal
-use Rattle.amqp_json.proofs.syntax.Scan.after_first_byte.Goals.{in_default-via-then-byte-lt48, in_default-via-else-byte-lt48+else-byte-lt58}
+use Rattle.amqp_json.proofs.reading.syntax.Scan.after_first_byte.Goals as goal
+use Rattle.amqp_json.proofs.reading.syntax.Scan.after_first_byte.Goals.{in_default-via-then-byte-lt48, in_default-via-else-byte-lt48+else-byte-lt58}
 
 pub returns-in-34-clause-leads : goal.returns-in-34-clause-leads
 returns-in-34-clause-leads c = quote_leads c.args.after _ c.args.byte _ (search rules) c.string.ensures

@@ -1,7 +1,7 @@
 -- `after_first_byte_of_key`: by the byte.
 use Rattle.std.proofs.Common.{rules}
 use Rattle.amqp_json.proofs.Completing.{key_quote, object_ends, no_object, no_key}
-use Rattle.amqp_json.proofs.syntax.Scan.after_first_byte_of_key.Goals as goal
+use Rattle.amqp_json.proofs.reading.syntax.Scan.after_first_byte_of_key.Goals as goal
 
 pub returns-in-34-clause-leads : goal.returns-in-34-clause-leads
 returns-in-34-clause-leads c = key_quote c.args.after _ c.args.byte _ (search rules) c.string.ensures

@@ -1,7 +1,7 @@
 -- `after_value`: by the innermost bracket and the byte.
 use Rattle.std.proofs.Common.{rules}
 use Rattle.amqp_json.proofs.Completing.{comma_in_array, comma_in_object, end_of_array, end_of_object, not_in_array, not_in_object, after_all}
-use Rattle.amqp_json.proofs.syntax.Scan.after_value.Goals as goal
+use Rattle.amqp_json.proofs.reading.syntax.Scan.after_value.Goals as goal
 
 pub returns-in_default-clause-leads : goal.returns-in_default-clause-leads
 returns-in_default-clause-leads c = after_all _ c.args.byte c.in_default.ensures c.requires.solid

@@ -1,7 +1,7 @@
 -- `place_after`: by the place.
 use Rattle.std.proofs.Common.{rules, sym, ◌∙◌, true, false}
 use Rattle.amqp_json.proofs.Completing.{stays, colon_leads, missing_colon, in_letters, in_number, in_text, after_text}
-use Rattle.amqp_json.proofs.syntax.Scan.place_after.Goals as goal
+use Rattle.amqp_json.proofs.reading.syntax.Scan.place_after.Goals as goal
 
 pub returns-in_default : goal.returns-in_default
 returns-in_default c = record { place = tt; leads = stays c.args.self.now.place _ c.args.byte (sym c.is_space.ensures ∙ c.if-is_space.true) c.in_default.not-EndOfWord c.in_default.not-Word c.in_default.not-Number c.in_default.not-InString }
