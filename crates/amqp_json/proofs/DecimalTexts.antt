@@ -49,13 +49,9 @@ has_places f n places e =
 
 -- ---- the text is a number of JSON
 
-digits_after : (ds : List ℕ) → AllDigits 10 ds → AllDigits 10 (drop 1 ds)
-digits_after [] h = tt
-digits_after (c ∷ ds) h = h.1
-
-some_after : (ds : List ℕ) → 2 ≤ length ds → 0 < length (drop 1 ds)
-some_after [] h = absurd (omega (arith, h))
-some_after (c ∷ ds) h = omega (arith, h)
+after_first : (ds : List ℕ) → AllDigits 10 ds → 2 ≤ length ds → AllDigits 10 (drop 1 ds) × (0 < length (drop 1 ds))
+after_first [] h many = absurd (omega (arith, many))
+after_first (c ∷ ds) h many = (h.1, omega (arith, many))
 
 two_digits : (n : ℕ) → 10 ≤ n → n < 2 ^ 64 → 2 ≤ length (digits n)
 two_digits n low few =
@@ -78,10 +74,10 @@ parts whole after = record {
 }
 
 parts_plain : (whole after : ℕ) → whole < 2 ^ 64 → 10 ≤ after → after < 2 ^ 64 → IsPlain (parts whole after)
-parts_plain whole after few low fits = record {
+parts_plain whole after few low fits = let rest = after_first (digits after) (decimal_is_IsNumeral after fits).0.1 (two_digits after low fits) in record {
   well_formed = record {
     whole_digits = (decimal_is_IsNumeral whole few).0.1;
-    fraction_digits = digits_after (digits after) (decimal_is_IsNumeral after fits).0.1;
+    fraction_digits = rest.0;
     exponent_digits = tt;
     no_point = λ e. absurd (true≢false e);
     no_exponent = λ e. refl;
@@ -89,7 +85,7 @@ parts_plain whole after few low fits = record {
   };
   whole = decimal_nonempty whole few;
   no_leading_zero = no_zero whole few;
-  fraction = λ e. some_after (digits after) (two_digits after low fits);
+  fraction = λ e. rest.1;
   marked = λ e. absurd (true≢false e);
 }
 
@@ -139,14 +135,12 @@ decimal_is f n t = by (places_of f n) refl
     by None found e = absurd cc
     by (Some places) found e =
         let s = text_with f n places in
-        let ten = 10 ^ places in
-        let m = double_of f n in
         let is = has_places f n places found in
         let plain = plain_text f n places is in
         let same : s ≡ t = cc in
         subst (IsDecimal f n) same (record {
           number = IsNumber-plain s plain;
           utf8 = text_utf8 s plain;
-          marked = marked_after (minus m) _ (marked_after (digits (scaled m ten / ten)) _ refl);
+          marked = marked_after (minus (double_of f n)) _ (marked_after (digits (scaled (double_of f n) (10 ^ places) / 10 ^ places)) _ refl);
           read = read_as (float_of f s) n is.read;
         })

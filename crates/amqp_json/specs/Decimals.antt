@@ -5,7 +5,7 @@ use Rattle.std.specs.List.{find, range_with_len}
 use Rattle.std.specs.Float.{Format, binary32, binary64}
 use Rattle.amqp_json.specs.Meaning.{float_of}
 
--- the bits of the Double that equals a float, unless the float is zero or subnormal
+-- the bits of the Double that equals a float, unless the float is subnormal, or zero: that of zero is rounded to zero
 abbrev pub double_of : Format → ℕ → ℕ
 double_of binary32 n = n / 2 ^ 31 * 2 ^ 63 + (n % 2 ^ 31 * 2 ^ 29 + 896 * 2 ^ 52)
 double_of binary64 n = n
