@@ -116,17 +116,10 @@ fn put_with_point(buffer: &mut [u8], at: usize, n: u128, ten: u64) -> usize
     ensures puts { PutsBytes buffer.old at buffer.new result (with_point n ten) }
     ensures short { length (with_point n ten) ≤ 81 }
 {
-    let at = put_whole(buffer, at, n / ten as u128);
+    let mut whole = Buffer::new();
+    let at = put(buffer, at, whole.format(n / ten as u128).as_bytes());
     let at = put(buffer, at, b".");
     put_fraction(buffer, at, ten + (n % ten as u128) as u64)
-}
-
-fn put_whole(buffer: &mut [u8], at: usize, n: u128) -> usize
-    ensures puts { PutsBytes buffer.old at buffer.new result (digits n) }
-    ensures short { length (digits n) ≤ 40 }
-{
-    let mut text = Buffer::new();
-    put(buffer, at, text.format(n).as_bytes())
 }
 
 // The digits after the first.
