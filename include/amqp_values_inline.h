@@ -380,7 +380,6 @@ static inline const char *amqpv_strerror(amqpv_result result) {
     case AMQPV_OUT_OF_RANGE: return "number out of range";
     case AMQPV_NO_ROOM: return "buffer too small";
     case AMQPV_NO_MEMORY: return "out of memory";
-    case AMQPV_UNORDERED: return "keys do not ascend";
     }
     return "unknown result";
 }

@@ -162,7 +162,7 @@ function showJson(reading) {
     if (reading === now.reading) {
         now.json = jsonText(reading) ?? "";
         const more = now.json.length > MOST_TYPED ? " .." : "";
-        $("json-text").textContent = now.json.slice(0, MOST_TYPED) + more || "none: keys don't ascend";
+        $("json-text").textContent = now.json.slice(0, MOST_TYPED) + more;
         $("json-part").hidden = $("copy-JSON").hidden = reading.code !== AMQPV.OK;
     }
 }

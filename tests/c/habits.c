@@ -321,7 +321,7 @@ static void check_and_convert(void) {
     }
 }
 
-/* Without an allocator JSON has its keys in the order of the table, which must ascend. */
+/* JSON has its keys in the order of the table. */
 static void unordered(void) {
     amqpv_writer w;
     amqpv_input in;

@@ -599,7 +599,7 @@ def test_much_memory() -> None:
     wanted, in_order = write(read(data)[0]), json_of(read(data)[0]).encode()
     limits = 0, 2**32 - 1, 1
     assert c_api.canonical(data, *limits) == (OK, wanted)
-    assert c_api.to_json(data, *limits) == (OK, in_order)
+    assert c_api.to_json(data, *limits) == (OK, text.encode())
     assert c_api.write_json(wanted, *limits) == (OK, in_order)
     assert c_api.from_json(text.encode()) == (OK, wanted, None)
     result, found = c_api.warn(data, 0, 1, 0, 1)

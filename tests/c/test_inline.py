@@ -21,7 +21,7 @@ WORDS = (
     "done", "none", "more bytes are needed", "unknown type tag", "a value is missing or truncated", "a key is truncated",
     "a key is not UTF-8", "a float is infinite or NaN", "nested too deep", "too large", "not UTF-8", "not JSON",
     "not the JSON of a value", "the value has no encoding", "invalid argument", "invalid key", "wrong type",
-    "number out of range", "buffer too small", "out of memory", "keys do not ascend",
+    "number out of range", "buffer too small", "out of memory",
 )  # fmt: skip
 Program = Path
 

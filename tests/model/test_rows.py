@@ -12,7 +12,7 @@ ROWS = [it for it in stored("rust.calls") if it[0].startswith(("wire ", "parse_v
 JSON_ROWS = [it for it in stored("json.calls") if it[0].startswith(("json ", "json_bytes ", "json_of_encoding "))]
 # The answer of `json_of_encoding`: the text, what is left, and what is answered within limits.
 JSON_OF_ENCODING = re.compile(
-    r"ok (.*?)(?: rest (\w+))?(?:; write_json KeysOutOfOrder)?; frame \d+ error TooLarge(?:; depth \d+ error Eof)?",
+    r"ok (.*?)(?: rest (\w+))?; frame \d+ error TooLarge(?:; depth \d+ error Eof)?",
     re.DOTALL,
 )
 # A longer text is shown as bytes.

@@ -6,7 +6,7 @@ use Rattle.amq_protocol_types.specs.declared.parsing.errors.Needed.TheVariants.{
 use Rattle.amq_protocol_types.specs.declared.parsing.errors.ErrorKind.TheVariants as kind
 use Rattle.amq_protocol_types.specs.parsing.Refusals.{Refusal}
 use Rattle.amqp_c.specs.declared.fault.Fault.{Fault}
-use Rattle.amqp_c.specs.declared.fault.Fault.TheVariants.{More, UnknownTag, Cut, KeyCut, KeyNotUtf8, NotFinite, TooDeep, TooLarge, NotUtf8, NotJson, NotAValue, NoEncoding, Invalid, BadKey, BadTag, OutOfRange, NoRoom, NoMemory, Unordered}
+use Rattle.amqp_c.specs.declared.fault.Fault.TheVariants.{More, UnknownTag, Cut, KeyCut, KeyNotUtf8, NotFinite, TooDeep, TooLarge, NotUtf8, NotJson, NotAValue, NoEncoding, Invalid, BadKey, BadTag, OutOfRange, NoRoom, NoMemory}
 use Rattle.amqp_c.specs.declared.cursor.Cursor.{Cursor}
 use Rattle.amqp_c.specs.declared.entry.Entry.{Entry}
 
@@ -32,7 +32,6 @@ code_of BadTag = negsuc 14
 code_of OutOfRange = negsuc 15
 code_of (NoRoom n) = negsuc 16
 code_of NoMemory = negsuc 17
-code_of Unordered = negsuc 18
 
 -- the result: 0 if the call succeeded
 abbrev pub return_code_of : {T : Type 0} → Result T Fault → ℤ

@@ -45,8 +45,6 @@ pub enum Fault {
     NoRoom(usize),
     /// An allocation failed.
     NoMemory,
-    /// The keys of a table don't ascend, each once.
-    Unordered,
 }
 
 impl Fault {
@@ -73,7 +71,6 @@ impl Fault {
             Fault::OutOfRange => -16,
             Fault::NoRoom(_) => -17,
             Fault::NoMemory => -18,
-            Fault::Unordered => -19,
         }
     }
 }

@@ -33,7 +33,7 @@ ghost use Rattle.amqp_c.specs.Steps.{StepsToNext};
 ghost use Rattle.amqp_c.specs.Paths.{FindsPath};
 ghost use Rattle.amqp_c.specs.Scalars.{IsInteger, RefusesInt, RefusesUint};
 ghost use Rattle.amqp_c.specs.Items.{fixed_width, byte_string, encoded};
-ghost use Rattle.amqp_c.specs.JsonTexts.{WritesOrderedJson};
+ghost use Rattle.amqp_c.specs.JsonTexts.{WritesJson};
 ghost use Rattle.amqp_c.specs.Reads.{IsEntryOf, IsReadEntry, FailsByGrammar, HasProblemInside, ReadsAs, IsMeasured, TellsCanonical};
 
 mod buffer;

@@ -56,29 +56,11 @@ inside_of_text json.OutOfMemory n within = tt
 inside_of_text json.TooLarge n within = tt
 
 -- ---- from an encoding to JSON text
-module _ (input : Input) where
-  -- a text that was made is put
-  pub text_put : (t bytes old new rest : List ℕ) (r : Result ℕ Fault) → IsJsonOf (limits input) (encoding input) t rest → bytes ≡ t → length bytes < 2 ^ 64
-      → MatchResult r (IsPutAtStart bytes old new) (LacksRoom (length bytes) (length old)) → MatchResult r (IsJsonPut input old new) (IsJsonFault input (length old))
-  text_put t bytes old new rest (Ok n) is same few put = (t, rest, is, subst (λ (b : List ℕ). IsPutAtStart b old new n) same put)
-  text_put t bytes old new rest (Err f) is same few (e, less) =
-      let all : length bytes ≡ counted t = omega (arith, ap length same, few) in
-      inr (inr (t, rest, is, (e ∙ ap NoRoom all, omega (arith, all, less))))
 
-  found_one : (v u : Tree) (rest left : List ℕ) → found v rest ≡ found u left → v ≡ u
-  found_one v u rest left e = cc
-
-  one_text : (t u rest left : List ℕ) → IsJsonOf (limits input) (encoding input) t rest → IsJsonOf (limits input) (encoding input) u left → t ≡ u
-  one_text t u rest left (v, x, is, means) (z, y, same, again) =
-      is ∙ (ap json_text (found_one v z rest left (one_outcome_within input.max_depth (encoding input) (found v rest) (found z left) x.1 y.1)) ∙ sym same)
-
-  -- a text that was measured fits the buffer
-  pub measured_put : (nothing after rest old new : List ℕ) (n m : ℕ) → WritesText (limits input) (encoding input) rest nothing after n → n ≤ length old
-      → WritesText (limits input) (encoding input) rest old new m → IsJsonPut input old new m
-  measured_put nothing after rest old new n m (t, first, measured, _) fits (u, second, count, put) =
-      let same : n ≡ m = measured ∙ ap counted (one_text t u rest rest first.0 second.0) ∙ sym count in
-      let is = put (omega (arith, same, fits)) in
-      (u, rest, second.0, (is.0, omega (arith, same, fits), is.1))
-
-  pub never_unordered : (old new rest : List ℕ) (n : ℕ) → WritesText (limits input) (encoding input) rest old new n → OutOfOrder (encoding input) rest → ⊥
-  never_unordered old new rest n (t, ordered, count, put) falls = not_both (encoding input) rest rest ordered.1 falls
+-- a text that was measured fits the buffer
+pub measured_put : (input : Input) (nothing after rest old new : List ℕ) (n m : ℕ) → WritesText (limits input) (encoding input) rest nothing after n → n ≤ length old
+    → WritesText (limits input) (encoding input) rest old new m → IsJsonPut input old new m
+measured_put input nothing after rest old new n m (t, first, measured, _) fits (u, second, count, put) =
+    let same : n ≡ m = measured ∙ ap counted (one_text (limits input) (encoding input) t u rest rest first second) ∙ sym count in
+    let is = put (omega (arith, same, fits)) in
+    (u, rest, second, (is.0, omega (arith, same, fits), is.1))

@@ -5,17 +5,17 @@ ghost use Rattle.std.specs.Prelude.{◌≡◌, ◌≤◌, false, min, length, So
 ghost use Rattle.amqp_json.specs.Meaning.{most_levels};
 ghost use Rattle.amqp_c.specs.declared.fault.Fault.TheVariants.{Invalid};
 ghost use Rattle.amqp_c.specs.Inputs.{has_known_flags};
-ghost use Rattle.amqp_c_alloc.specs.JsonCalls.{IsJsonPut, IsJsonFault, IsPutOrRejected, offset_or_old, json_fault, json_offset};
+ghost use Rattle.amqp_c.specs.JsonTexts.{IsJsonPut, IsJsonFault};
+ghost use Rattle.amqp_c_alloc.specs.JsonCalls.{IsPutOrRejected, offset_or_old, json_fault, json_offset};
 
 use amqp_c::{Fault, Input, Problem, put_at_start};
-use amqp_json::{JsonError, encoding_of_json_within, json_of_view, write_json_of_view};
+use amqp_json::{JsonError, encoding_of_json_within, write_json_of_view};
 use std::alloc::Global;
 use std::str;
 
 /// Writes the JSON text of the value at the start of the input to the start of `buffer`, and
-/// returns how many bytes the text has. Nothing is allocated unless the keys of a table don't
-/// ascend.
-pub fn put_json(alloc: Global, input: &Input<'_>, buffer: &mut [u8]) -> Result<usize, Fault>
+/// returns how many bytes the text has. Nothing is allocated.
+pub fn put_json(input: &Input<'_>, buffer: &mut [u8]) -> Result<usize, Fault>
     ensures written { MatchResult result
         (IsJsonPut input.now buffer.old buffer.new)
         (IsJsonFault input.now (length buffer.old)) }
@@ -23,19 +23,11 @@ pub fn put_json(alloc: Global, input: &Input<'_>, buffer: &mut [u8]) -> Result<u
     ensures kept { OnErr result (buffer.new ≡ buffer.old) }
 {
     let value = input.view()?;
-    let Some(count) = write_json_of_view(value, &mut []) else {
-        let Ok(text) = json_of_view(alloc, value) else {
-            return Err(Fault::NoMemory);
-        };
-        return put_at_start(text.as_bytes(), buffer);
-    };
+    let count = write_json_of_view(value, &mut []);
     if count > buffer.len() {
         return Err(Fault::NoRoom(count));
     }
-    match write_json_of_view(value, buffer) {
-        Some(written) => Ok(written),
-        None => unreachable!(),
-    }
+    Ok(write_json_of_view(value, buffer))
 }
 
 /// The result of converting a JSON text to an encoding in a buffer.

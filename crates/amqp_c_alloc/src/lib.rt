@@ -2,15 +2,15 @@
 //! JSON texts, and what a client or a stream queue may not accept in a value that RabbitMQ accepts.
 //!
 //! They allocate by C's `malloc`, `realloc` and `free` (the canonical encoding only if the value isn't encoded so
-//! already, a JSON text only if the keys of a table don't ascend), and free all of it. They keep no state, print
-//! nothing and never end the process. `include/amqp_values.h` declares them, and says how much stack they use.
+//! already, a JSON text never), and free all of it. They keep no state, print nothing and never end the process.
+//! `include/amqp_values.h` declares them, and says how much stack they use.
 //!
 //! Tests are in `tests/c`: `tests/c/test_by_model.py` compares each call with the reference
 //! implementation, and `tests/c/memory.c` makes each allocation fail.
 #![tactic(auto)]
 
 ghost use Rattle.amqp_c_alloc.specs.CanonicalCalls.{WritesCanonical};
-ghost use Rattle.amqp_c_alloc.specs.JsonCalls.{WritesJson, WritesEncoding};
+ghost use Rattle.amqp_c_alloc.specs.JsonCalls.{WritesJsonWhole, WritesEncoding};
 ghost use Rattle.amqp_c_alloc.specs.WarningCalls.{GivesWarnings};
 
 mod canonical;
@@ -47,9 +47,9 @@ pub extern "C" fn amqpv_proved_to_json(
     buffer: &mut [u8],
     length: &mut usize,
 ) -> i32
-    ensures { WritesJson input.now buffer.old result buffer.new length.new }
+    ensures { WritesJsonWhole input.now buffer.old result buffer.new length.new }
 {
-    return_length(put_json(alloc, input, buffer), length)
+    return_length(put_json(input, buffer), length)
 }
 
 /// Writes the canonical encoding of the value that a JSON text means to the start of `buffer`, or stores where the

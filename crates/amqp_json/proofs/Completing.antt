@@ -17,21 +17,21 @@ use Rattle.json.specs.Lex.{Lexeme, comma, colon, Mode, between, in_word, in_stri
 use Rattle.json.specs.Lex as lexer
 use Rattle.json.specs.Json.{Json, value, if_last}
 use Rattle.json.proofs.Unique.Spelling.{value-json_tokens_back}
-use Rattle.amqp_json.specs.declared.brackets.Bracket.{Bracket}
-use Rattle.amqp_json.specs.declared.brackets.Bracket.TheVariants.{Array, Object}
-use Rattle.amqp_json.specs.declared.syntax.After.{After}
-use Rattle.amqp_json.specs.declared.syntax.After.TheVariants.{OpeningBracket, Comma, Other}
-use Rattle.amqp_json.specs.declared.syntax.Number.{Number}
-use Rattle.amqp_json.specs.declared.syntax.Number.TheVariants as part
-use Rattle.amqp_json.specs.declared.syntax.Next.{Next}
-use Rattle.amqp_json.specs.declared.syntax.Next.TheVariants as next
-use Rattle.amqp_json.specs.declared.syntax.Place as at
-use Rattle.amqp_json.specs.declared.syntax.Place.TheVariants as places
+use Rattle.amqp_json.specs.declared.reading.brackets.Bracket.{Bracket}
+use Rattle.amqp_json.specs.declared.reading.brackets.Bracket.TheVariants.{Array, Object}
+use Rattle.amqp_json.specs.declared.reading.syntax.After.{After}
+use Rattle.amqp_json.specs.declared.reading.syntax.After.TheVariants.{OpeningBracket, Comma, Other}
+use Rattle.amqp_json.specs.declared.reading.syntax.Number.{Number}
+use Rattle.amqp_json.specs.declared.reading.syntax.Number.TheVariants as part
+use Rattle.amqp_json.specs.declared.reading.syntax.Next.{Next}
+use Rattle.amqp_json.specs.declared.reading.syntax.Next.TheVariants as next
+use Rattle.amqp_json.specs.declared.reading.syntax.Place as at
+use Rattle.amqp_json.specs.declared.reading.syntax.Place.TheVariants as places
 use Rattle.amqp_json.specs.declared.error.SyntaxError.{SyntaxError}
 use Rattle.amqp_json.specs.Meaning.{json_within}
 use Rattle.amqp_json.specs.Conversions.{BeginsNoJson}
-use Rattle.amqp_json.specs.Scans.{mode_after}
-use Rattle.amqp_json.specs.Continuations.{Closes, BeginsValue, place_of, place_in, mode_of, no_more, after_part, word_ends, EndsWord, Spells, AfterText, Completes, Leads, Ends, Opens, PartLeads, TextLeads, IsScannedTo}
+use Rattle.amqp_json.specs.reading.Scans.{mode_after}
+use Rattle.amqp_json.specs.reading.Continuations.{Closes, BeginsValue, place_of, place_in, mode_of, no_more, after_part, word_ends, EndsWord, Spells, AfterText, Completes, Leads, Ends, Opens, PartLeads, TextLeads, IsScannedTo}
 use Rattle.amqp_json.proofs.Scanning.{IsOther, by_byte}
 use Rattle.amqp_json.proofs.Numerals.{no_digits, a_digit, not_equal, of_word, whole_digits}
 use Rattle.amqp_json.proofs.Continued.{first_is, starts_value, ends_array, starts_item, starts_member, is_word, is_word_or_bad, value_starts, items_start, members_start, item_value, object_opens, array_opens, array_closes, object_closes, key_opens, allowed, token_at, not_end, string_no_end, word_no_end, word_is, cond_word, number_at, string_at, lex_word, space_between, space_in_word, operator_in_word, over_word}

@@ -9,11 +9,11 @@ use Rattle.json.specs.Lex.{Lexeme, comma, colon, Mode, between, in_word, in_stri
 use Rattle.json.specs.Lex as lexer
 use Rattle.json.specs.Json.{Json, null, boolean, number, string, array, object, no_items, item, no_members, member}
 use Rattle.json.specs.Tree.{json_tokens, items_tokens, members_tokens}
-use Rattle.amqp_json.specs.declared.brackets.Bracket.{Bracket}
-use Rattle.amqp_json.specs.declared.brackets.Bracket.TheVariants.{Array, Object}
-use Rattle.amqp_json.specs.declared.syntax.After.{After}
-use Rattle.amqp_json.specs.declared.syntax.After.TheVariants.{OpeningBracket, Comma, Other}
-use Rattle.amqp_json.specs.Continuations.{Closes, BeginsValue, place_of, word_ends}
+use Rattle.amqp_json.specs.declared.reading.brackets.Bracket.{Bracket}
+use Rattle.amqp_json.specs.declared.reading.brackets.Bracket.TheVariants.{Array, Object}
+use Rattle.amqp_json.specs.declared.reading.syntax.After.{After}
+use Rattle.amqp_json.specs.declared.reading.syntax.After.TheVariants.{OpeningBracket, Comma, Other}
+use Rattle.amqp_json.specs.reading.Continuations.{Closes, BeginsValue, place_of, word_ends}
 use Rattle.amqp_json.proofs.Scanning.{IsOther, by_byte}
 
 -- ---- the first token

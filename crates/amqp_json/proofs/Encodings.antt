@@ -1,26 +1,23 @@
 -- The value that is read from an encoding, canonical or not, is the one that it encodes (`Wire`),
--- and it has a JSON text (`HasJson`).
-use Rattle.std.proofs.Common.{ℕ, List, ◌++◌, length, IsTrue, Less, Equal, Greater, ◌≡◌, [], Some, sym, ap, ◌∙◌, subst, append-nil, Bool, true, false, cond, refl}
-use Rattle.std.specs.Cmp.Lexicographic.{slice_cmp}
-use Rattle.std.specs.Ordering.{nat_cmp, match_ordering}
-use Rattle.std.specs.declared.cmp.Ordering.{Ordering}
+-- and as it is written, it has a JSON text (`HasJson`) and is the value (`valued`).
+use Rattle.std.proofs.Common.{ℕ, List, ◌++◌, length, IsTrue, ◌≡◌, [], Some, sym, ap, ap₂, ◌∙◌, subst, append-nil, Bool, true, false, cond, refl}
 use Rattle.std.specs.Int.{w32, to_be_bytes}
 use Rattle.amqp_value_core.specs.declared.types.amqp_type.AMQPType.{AMQPType}
 use Rattle.amqp_value_core.specs.Grammar.{short_field, Wire, wire, Raw, raw_fixed, raw_short, raw_long, raw_octets, raw_array, raw_table, ArrayBody, no_values, value, TableBody, no_pairs, pair}
-use Rattle.amqp_value_core.specs.Bytes.{IsBytes, IsShort}
-use Rattle.amqp_value_core.specs.Values.{Tree, scalar, Trees, Entries, no_entries, entry, readable, short}
-use Rattle.amqp_value_core.specs.Maps.{insert, insert_all}
+use Rattle.amqp_value_core.specs.Bytes.{IsBytes}
+use Rattle.amqp_value_core.specs.Values.{Tree, scalar, Trees, tree, Entries, entry, readable, short, array, table}
+use Rattle.amqp_in_place.specs.Written.{written, raw_written, values_written, pairs_written}
 use Rattle.amqp_value_core.proofs.Bytes.{bytes_before, bytes_after, byte_at}
-use Rattle.amqp_value_core.proofs.GrammarLaws.{of_mean, what_is_read, raw_value, one_outcome, one_reading, prefix_within, wire_found, text_is_wire, wire_of, found_prefix}
-use Rattle.amqp_json.specs.Written.{HasJson, AllHaveJson, EntriesHaveJson}
+use Rattle.amqp_value_core.proofs.GrammarLaws.{mean_put, what_is_read, raw_value, one_outcome, one_reading, prefix_within, wire_found, text_is_wire, wire_of}
+use Rattle.amqp_json.specs.Written.{valued, all_valued, pairs_valued, HasJson, AllHaveJson, EntriesHaveJson}
 use Rattle.amq_protocol_types.specs.declared.parsing.within.Limits.{Limits}
 use Rattle.amqp_in_place.specs.Canonicals.{IsReadAsWritten}
 use Rattle.amqp_value_core.specs.Texts.{text}
 use Rattle.amqp_value_core.specs.InMemory.{IsValue}
 use Rattle.amqp_value_core.specs.Outcomes.{Reading, found, Outcome, more, unknown, malformed, read_back, unread}
 use Rattle.amqp_json.specs.Conversions.{IsEncodingWithin}
-use Rattle.amqp_json.specs.Meaning.{meant_within}
-use Rattle.amqp_json.specs.Puts.{IsEncodedAsItComes}
+use Rattle.amqp_json.specs.Meaning.{meant_within, table_of}
+use Rattle.amqp_json.specs.reading.Puts.{IsEncodedAsItComes}
 use Rattle.amq_protocol_types.specs.parsing.Refusals.{Refusal}
 use Rattle.amq_protocol_types.specs.parsing.ParseResults.{IsRefusal}
 use Rattle.amqp_in_place.proofs.Refusals.{by_outcome}
@@ -28,41 +25,49 @@ use Rattle.amqp_json.specs.Views.{IsReadBack}
 
 -- ---- the value of an encoding has a JSON text
 
-inserted : (k : List ℕ) (v : Tree) (es : Entries) → IsShort k → HasJson v → EntriesHaveJson es → EntriesHaveJson (insert k v es)
-inserted k v no_entries fits has rest = (fits, has, tt)
-inserted k v (entry j u es) fits has rest = by (slice_cmp nat_cmp k j) (inserted k v es fits has rest.2)
-  where
-    by : (o : Ordering) → EntriesHaveJson (insert k v es) → EntriesHaveJson (match_ordering o (entry k v (entry j u es)) (entry j v es) (entry j u (insert k v es)))
-    by Less after = (fits, has, rest)
-    by Equal after = (rest.0, has, rest.2)
-    by Greater after = (rest.0, rest.1, after)
-
-all_inserted : (ps es : Entries) → EntriesHaveJson ps → EntriesHaveJson es → EntriesHaveJson (insert_all es ps)
-all_inserted no_entries es pairs rest = rest
-all_inserted (entry k v ps) es pairs rest = all_inserted ps (insert k v es) pairs.2 (inserted k v es pairs.0 pairs.1 rest)
-
 mutual
-  pub has_json : (w : List ℕ) (v : Tree) → IsBytes w → Wire w v → HasJson v
+  pub has_json : (w : List ℕ) (v : Tree) → IsBytes w → (p : Wire w v) → HasJson (written w v p)
   has_json _ _ bytes (wire c type b v k p) = raw_has type b v (what_is_read _ v (wire c type b v k p)).1 bytes.1 p
 
-  raw_has : (type : AMQPType) (b : List ℕ) (v : Tree) → IsTrue (readable v) → IsBytes b → Raw type b v → HasJson v
+  raw_has : (type : AMQPType) (b : List ℕ) (v : Tree) → IsTrue (readable v) → IsBytes b → (p : Raw type b v) → HasJson (raw_written type b v p)
   raw_has _ _ _ reads bytes (raw_fixed type f b row len) = raw_value type b (scalar (f.denotes b)) bytes (raw_fixed type f b row len)
   raw_has _ _ _ reads bytes (raw_short s is) = absurd (cc reads)
   raw_has _ _ _ reads bytes (raw_long s fits) = byte_at s (bytes_after (to_be_bytes w32 (length s)) s bytes)
   raw_has _ _ _ reads bytes (raw_octets s fits) = byte_at s (bytes_after (to_be_bytes w32 (length s)) s bytes)
   raw_has _ _ _ reads bytes (raw_array body vs fits all) = body_has body vs (bytes_after (to_be_bytes w32 (length body)) body bytes) all
-  raw_has _ _ _ reads bytes (raw_table body ps es fits all mean) =
-      (mean.rising, of_mean EntriesHaveJson ps es mean (all_inserted ps no_entries (pairs_have body ps (bytes_after (to_be_bytes w32 (length body)) body bytes) all) tt))
+  raw_has _ _ _ reads bytes (raw_table body ps es fits all mean) = pairs_have body ps (bytes_after (to_be_bytes w32 (length body)) body bytes) all
 
-  body_has : (body : List ℕ) (vs : Trees) → IsBytes body → ArrayBody body vs → AllHaveJson vs
+  body_has : (body : List ℕ) (vs : Trees) → IsBytes body → (p : ArrayBody body vs) → AllHaveJson (values_written body vs p)
   body_has _ _ bytes no_values = tt
   body_has _ _ bytes (value w left v vs p all) = (has_json w v (bytes_before w left bytes) p, body_has left vs (bytes_after w left bytes) all)
 
-  pairs_have : (body : List ℕ) (ps : Entries) → IsBytes body → TableBody body ps → EntriesHaveJson ps
+  pairs_have : (body : List ℕ) (ps : Entries) → IsBytes body → (p : TableBody body ps) → EntriesHaveJson (pairs_written body ps p)
   pairs_have _ _ bytes no_pairs = tt
   pairs_have _ _ bytes (pair k w left v ps is p all) =
       let after = bytes_after (short_field k) (w ++ left) bytes in
       (is, has_json w v (bytes_before w left after) p, pairs_have left ps (bytes_after w left after) all)
+
+-- ---- as it is written, it is the value
+
+mutual
+  pub valued_written : (w : List ℕ) (v : Tree) (p : Wire w v) → valued (written w v p) ≡ v
+  valued_written _ _ (wire c type b v k p) = raw_valued type b v p
+
+  raw_valued : (type : AMQPType) (b : List ℕ) (v : Tree) (p : Raw type b v) → valued (raw_written type b v p) ≡ v
+  raw_valued _ _ _ (raw_fixed type f b row len) = refl
+  raw_valued _ _ _ (raw_short s is) = refl
+  raw_valued _ _ _ (raw_long s fits) = refl
+  raw_valued _ _ _ (raw_octets s fits) = refl
+  raw_valued _ _ _ (raw_array body vs fits all) = ap array (body_valued body vs all)
+  raw_valued _ _ _ (raw_table body ps es fits all mean) = ap table_of (table_valued body ps all) ∙ ap table (sym (mean_put ps es mean))
+
+  body_valued : (body : List ℕ) (vs : Trees) (p : ArrayBody body vs) → all_valued (values_written body vs p) ≡ vs
+  body_valued _ _ no_values = refl
+  body_valued _ _ (value w left v vs p all) = ap₂ tree (valued_written w v p) (body_valued left vs all)
+
+  table_valued : (body : List ℕ) (ps : Entries) (p : TableBody body ps) → pairs_valued (pairs_written body ps p) ≡ ps
+  table_valued _ _ no_pairs = refl
+  table_valued _ _ (pair k w left v ps is p all) = ap₂ (entry k) (valued_written w v p) (table_valued left ps all)
 
 -- ---- from an encoding to its value, and to the canonical encoding
 
@@ -129,9 +134,3 @@ not_again v e back h =
     by_outcome (λ (e : Refusal). readable v ≡ false) (Outcome (text v)) ⊥ (λ n y. refused v (more n) (readable v) refl back y (λ e. absurd (cc e)))
     (λ y. refused v unknown (readable v) refl back y (λ e. absurd (cc e))) (λ y. refused v malformed (readable v) refl back y (λ e. absurd (cc e)))
     (λ k h. absurd h) e h
-
--- a value that is read from bytes has a JSON text
-pub found_has_json : (s rest : List ℕ) (v : Tree) → IsBytes s → Outcome s (found v rest) → HasJson v
-found_has_json s rest v bytes o =
-    let (w, is, e) = found_prefix s rest v o in
-    has_json w v (bytes_before w rest (subst IsBytes e bytes)) is

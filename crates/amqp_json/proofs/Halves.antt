@@ -5,9 +5,9 @@ use Rattle.std.specs.Option.{is_some}
 use Rattle.std.specs.Char.{is_digit, digit_value, encode_utf8, is_ascii_hexdigit}
 use Rattle.std.proofs.lemmas.Bool.{ne_eqb, eqb-true, leb-true, leb-false, le-leb, ltb-true, lt-ltb, le-ltb, eq-eqb, and_parts, and_from, false≢true}
 use Rattle.json.specs.Text.{code_unit, short_escape, is_high_surrogate, is_low_surrogate, surrogate_pair, content, plain, after_u, after_high, prepend}
-use Rattle.amqp_json.specs.declared.syntax.Next.{Next}
-use Rattle.amqp_json.specs.declared.syntax.Next.TheVariants as next
-use Rattle.amqp_json.specs.Continuations.{is_thirteen, is_half, is_second_half, unit_ends, first_ends, backslash_ends, TextLeads, TextEnds}
+use Rattle.amqp_json.specs.declared.reading.syntax.Next.{Next}
+use Rattle.amqp_json.specs.declared.reading.syntax.Next.TheVariants as next
+use Rattle.amqp_json.specs.reading.Continuations.{is_thirteen, is_half, is_second_half, unit_ends, first_ends, backslash_ends, TextLeads, TextEnds}
 
 pub prepended : (bytes : List ℕ) (o : Option (List ℕ)) → is_some (prepend bytes o) ≡ is_some o
 prepended bytes None = refl

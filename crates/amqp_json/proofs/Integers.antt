@@ -12,8 +12,11 @@ use Rattle.std.proofs.lemmas.Fmt.{decimal_is_IsNumeral, decimal_digit, decimal-d
 use Rattle.std.proofs.lemmas.Slice.Eq.{bytes_eq-Decides}
 use Rattle.std.proofs.lemmas.Str.Parse.{numerals_by_value, tells_digits, digit_from_value, not_in_digits, without_leading_plus_none}
 use Rattle.amqp_value_core.specs.Json.{is_within}
-use Rattle.amqp_json.specs.Meaning.{signed_of, unsigned_of}
-use Rattle.amqp_json.specs.Puts.{is_first_digit, is_plain}
+use Rattle.std.specs.Char.{digit_value}
+use Rattle.std.specs.List.{list_any}
+use Rattle.amqp_value_core.specs.declared.types.amqp_type.AMQPType.TheVariants as amqp
+use Rattle.amqp_json.specs.Meaning.{signed_of, unsigned_of, is_mark, number_type}
+use Rattle.amqp_json.specs.reading.Puts.{is_first_digit, is_plain}
 
 none_if : {A : Type 0} (b : Bool) (x : A) → (b ≡ true → ⊥) → (if b then Some x else None) ≡ None
 none_if true x never = absurd (never refl)
@@ -145,3 +148,16 @@ unsigned_read n small =
     let value = (decimal_is_IsNumeral n small).1 in
     let few : nat_lt n (2 ^ 64) ≡ true = grind (arith, small) in
     rw (value, few, is_same (digits n) (digits n) refl) refl
+
+-- ---- decimal text has no point and no exponent
+
+no_mark : (c : ℕ) → digit_value c < 10 → is_mark c ≡ false
+no_mark c h = grind arith
+
+no_marks : (ds : List ℕ) → AllDigits 10 ds → list_any is_mark ds ≡ false
+no_marks [] h = refl
+no_marks (c ∷ ds) h = rw (no_mark c h.0) (no_marks ds h.1)
+
+pub signed_type : (z : ℤ) → is_within (2 ^ 63) z ≡ true → number_type (signed_decimal z) ≡ amqp.LongLongInt
+signed_type (pos n) h = rw (no_marks (digits n) (decimal_is_IsNumeral n (grind (arith, h))).0.1) refl
+signed_type (negsuc n) h = rw (no_marks (digits (suc n)) (decimal_is_IsNumeral (suc n) (grind (arith, h))).0.1) refl

@@ -17,10 +17,9 @@ pub mod Encodings
 -- writing one
 pub mod Escapes
 pub mod Printed
-pub mod Sorting
-pub mod AscendingKeys
-pub mod InOrder
+pub mod AsWritten
 pub mod PrintedTexts
 -- what is written is read back
+pub mod DecimalTexts
 pub mod ValueRoundTrip
 pub mod TextRoundTrip

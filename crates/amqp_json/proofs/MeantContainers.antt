@@ -10,7 +10,7 @@ use Rattle.json.proofs.Unique.Spelling.{value-json_tokens_back}
 use Rattle.json.proofs.Grammar.{value-begin_array, value-begin_object, items_end, items_more, members_more, read_key_is}
 use Rattle.amqp_value_core.specs.Values.{Tree, array, no_trees, tree, Entries, no_entries, entry}
 use Rattle.amqp_json.specs.Meaning.{is_type_key, entry_key, with_entry, meaning, meanings, pairs_of, object_of, table_of}
-use Rattle.amqp_json.specs.Puts.{array_of, object_meant, items_at, members_at, next_token, converted}
+use Rattle.amqp_json.specs.reading.Puts.{array_of, object_meant, items_at, members_at, next_token, converted}
 
 abbrev pick : {A : Type 0} → A → Option A → A
 pick d None = d

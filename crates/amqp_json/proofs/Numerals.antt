@@ -5,9 +5,9 @@ use Rattle.std.specs.List.{prefix_len}
 use Rattle.std.specs.Char.{is_ascii_digit}
 use Rattle.std.proofs.lemmas.Bool.{agree_below_at, ne_eqb, leb-true, le-leb, and_parts, and_from}
 use Rattle.json.specs.Word.{is_operator, is_space, after_digits, after_sign, after_whole, after_fraction, after_exponent}
-use Rattle.amqp_json.specs.declared.syntax.Number.{Number}
-use Rattle.amqp_json.specs.declared.syntax.Number.TheVariants as part
-use Rattle.amqp_json.specs.Continuations.{no_more, PartLeads}
+use Rattle.amqp_json.specs.declared.reading.syntax.Number.{Number}
+use Rattle.amqp_json.specs.declared.reading.syntax.Number.TheVariants as part
+use Rattle.amqp_json.specs.reading.Continuations.{no_more, PartLeads}
 
 one_more : (n c : ℕ) (xs : List ℕ) → drop (1 + n) (c ∷ xs) ≡ drop n xs
 one_more n c xs = let e : 1 + n ≡ suc n = omega arith in ap (λ i. drop i (c ∷ xs)) e

@@ -13,7 +13,7 @@ use Rattle.json.specs.declared.token.Token.{Token as KitToken}
 use Rattle.json.specs.declared.token.Token.TheVariants as kit
 use Rattle.json.proofs.Grammar.{value_is, members_end, members_more, members_no_key, members_fail}
 use Rattle.amqp_value_core.specs.declared.types.amqp_type.AMQPType.{AMQPType}
-use Rattle.amqp_json.specs.Puts.{IsLeaf, IsNoLeaf, members_at, object_meant, converted}
+use Rattle.amqp_json.specs.reading.Puts.{IsLeaf, IsNoLeaf, members_at, object_meant, converted}
 
 -- ---- keys with a `$` and without
 

@@ -1,9 +1,9 @@
 -- The brackets that are open, after one more is.
 use Rattle.std.proofs.Common.{◌≡◌, ℕ, zero, suc, ◌+◌, ◌<◌, ◌≤◌, List, ◌∷◌, length, set, get_or, refl, ap, ◌∙◌, arith}
 use Rattle.std.proofs.lemmas.List.{get_or-set_same, get_or-set_other}
-use Rattle.amqp_json.specs.declared.brackets.Bracket.{Bracket}
-use Rattle.amqp_json.specs.declared.brackets.Bracket.TheVariants.{Array}
-use Rattle.amqp_json.specs.Scans.{innermost_first}
+use Rattle.amqp_json.specs.declared.reading.brackets.Bracket.{Bracket}
+use Rattle.amqp_json.specs.declared.reading.brackets.Bracket.TheVariants.{Array}
+use Rattle.amqp_json.specs.reading.Scans.{innermost_first}
 
 inner_kept : (bs : List Bracket) (at : ℕ) (b : Bracket) (n : ℕ) → n ≤ at → innermost_first (set bs at b) n ≡ innermost_first bs n
 inner_kept bs at b zero le = refl

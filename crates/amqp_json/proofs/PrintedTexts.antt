@@ -1,32 +1,32 @@
--- Once `PutsJson` holds of a value, the buffer begins with its `json_text`. For `src/decode.rt`.
-use Rattle.std.proofs.Common.{◌≡◌, ◌+◌, ◌<◌, ◌≤◌, ◌^◌, ℕ, List, ◌++◌, [], length, take, drop, false, refl, sym, ap, ◌∙◌, subst, append-nil, arith}
+-- Once `PutsJson` holds of a value, the buffer begins with its `json_text`. For `src/printing.rt`.
+use Rattle.std.proofs.Common.{◌≡◌, ◌+◌, ◌<◌, ◌≤◌, ◌^◌, ℕ, List, ◌++◌, [], length, take, drop, false, refl, sym, ap, ◌∙◌, subst, append-nil, Some, arith}
 use Rattle.std.proofs.Math.ListN.{drop_of_length-le}
 use Rattle.std.proofs.lemmas.List.{take_at}
 use Rattle.json.specs.Print.{print, print_from}
 use Rattle.amqp_value_core.specs.Values.{Tree}
-use Rattle.amqp_value_core.specs.Outcomes.{found}
-use Rattle.amqp_value_core.specs.Bytes.{IsBytes}
-use Rattle.amqp_value_core.proofs.Bytes.{bytes_before}
-use Rattle.amqp_value_core.proofs.GrammarLaws.{prefix_within, wire_of}
+use Rattle.amqp_value_core.proofs.GrammarLaws.{one_reading}
 use Rattle.amq_protocol_types.specs.declared.parsing.within.Limits.{Limits}
-use Rattle.amq_protocol_types.specs.parsing.Limits.{Within}
-use Rattle.amqp_json.specs.Conversions.{IsJsonOf, IsOrderedJsonOf}
+use Rattle.amqp_in_place.specs.declared.refs.ValueRef.{ValueRef}
+use Rattle.amqp_in_place.specs.Written.{written as as_written}
+use Rattle.amqp_json.specs.Conversions.{IsJsonOf}
 use Rattle.amqp_json.specs.Views.{WritesText}
 use Rattle.amqp_json.specs.Meaning.{meant}
-use Rattle.amqp_json.specs.declared.printing.Place.{Place}
-use Rattle.amqp_json.specs.Printing.{Begins, PutsJson}
-use Rattle.amqp_json.specs.Written.{HasJson, json_text, written}
-use Rattle.amqp_json.proofs.Encodings.{has_json}
+use Rattle.amqp_json.specs.declared.printing.tokens.Place.{Place}
+use Rattle.amqp_json.specs.printing.Buffers.{Begins, PutsJson}
+use Rattle.amqp_json.specs.Written.{json_text, written}
+use Rattle.amqp_json.proofs.Encodings.{valued_written}
+use Rattle.amqp_json.proofs.AsWritten.{written_once, IsReadAs}
 use Rattle.amqp_json.proofs.TextRoundTrip.{text_is_read}
 
-pub within_has_json : (l : Limits) (s rest : List ℕ) (v : Tree) → IsBytes s → Within l s (found v rest) → HasJson v
-within_has_json l s rest v bytes x =
-    let prefix = prefix_within l.depth s rest v x.1 in
-    has_json prefix.0 v (bytes_before prefix.0 rest (subst IsBytes prefix.2 bytes)) (wire_of l.depth prefix.0 v prefix.1)
+pub decoded : (l : Limits) (s rest t : List ℕ) (view : ValueRef) (is : IsReadAs l s view rest) → t ≡ json_text (as_written is.0 is.1 is.2) → IsJsonOf l s t rest
+decoded l s rest t view (w, v, p, split, within, viewed, has) is =
+    (w, v, p, split, within, is, λ shallow. ap meant is ∙ text_is_read (as_written w v p) has shallow ∙ ap Some (valued_written w v p))
 
-pub decoded : (l : Limits) (s rest t : List ℕ) (v : Tree) → IsBytes s → Within l s (found v rest) → t ≡ json_text v → IsJsonOf l s t rest
-decoded l s rest t v bytes x is =
-    (v, x, is, λ shallow. ap meant is ∙ text_is_read v (within_has_json l s rest v bytes x) shallow)
+-- an encoding has one text
+pub one_text : (l : Limits) (s t u rest left : List ℕ) → IsJsonOf l s t rest → IsJsonOf l s u left → t ≡ u
+one_text l s t u rest left (w, v, p, e, x, is, means) (w2, v2, p2, e2, y, is2, means2) =
+    let one = one_reading w w2 rest left v v2 p p2 (sym e ∙ e2) in
+    is ∙ (ap json_text (written_once w w2 v v2 p p2 one.0) ∙ sym is2)
 
 -- ---- a text in a buffer, from its start
 
@@ -43,7 +43,7 @@ text_begins v old new end puts =
     (puts old [] (record { text = empty; after = refl })).text
 
 -- it is counted, and if it fits the buffer, it is at its start
-pub text_written : (l : Limits) (s t rest old new : List ℕ) (count : ℕ) → IsOrderedJsonOf l s t rest → Begins old new count t → 1 + length old < 2 ^ 64 → WritesText l s rest old new count
+pub text_written : (l : Limits) (s t rest old new : List ℕ) (count : ℕ) → IsJsonOf l s t rest → Begins old new count t → 1 + length old < 2 ^ 64 → WritesText l s rest old new count
 text_written l s t rest old new count is put few = (
   t,
   is,

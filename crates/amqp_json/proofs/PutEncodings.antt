@@ -1,5 +1,5 @@
 -- `PutsEncodingOf`, value by value and pair by pair: `ItemsLeft` and `PairsLeft` are what the loops
--- of `src/walk.rt` keep.
+-- of `src/reading/walk.rt` keep.
 use Rattle.std.proofs.Common.{◌≡◌, ℕ, suc, Bor, ◌-◌, ◌+◌, ◌<◌, ◌≤◌, ◌^◌, List, [], ◌∷◌, ◌++◌, length, take, drop, Option, Some, None, option_map, refl, sym, ap, ◌∙◌, subst, arith, append_assoc, append-nil, length-append}
 use Rattle.std.specs.Int.{w32, to_be_bytes, w64, from_be_bytes}
 use Rattle.std.proofs.Math.Seq.{take-append_seam, drop-append-add}
@@ -16,7 +16,7 @@ use Rattle.amqp_value_core.specs.Texts.{text}
 use Rattle.amqp_value_core.proofs.GrammarLaws.{put_mean, text_is_wire}
 use Rattle.amqp_json.specs.declared.error.JsonError.{JsonError}
 use Rattle.amqp_json.specs.Meaning.{entry_key, with_entry, meaning, meanings, pairs_of, table_of, number_as}
-use Rattle.amqp_json.specs.Puts.{IsSyntax, OnMismatch, IsRead, IsRefusal, PutsEncodingOf, PutsValues, PutsPairs, PutsScalar, items_at, members_at, next_token, converted, PutsInteger}
+use Rattle.amqp_json.specs.reading.Puts.{IsSyntax, OnMismatch, IsRead, IsRefusal, PutsEncodingOf, PutsValues, PutsPairs, PutsScalar, items_at, members_at, next_token, converted, PutsInteger}
 use Rattle.amqp_json.proofs.ObjectKeys.{no_entry}
 use Rattle.amqp_json.specs.Nesting.{fits}
 use Rattle.amqp_json.proofs.Levels.{json_fits, not_end, some_token, no_end, no_key}

@@ -1,4 +1,4 @@
--- `IsRefusal`: what refuses a part refuses the array or object that has it. For `src/walk.rt`.
+-- `IsRefusal`: what refuses a part refuses the array or object that has it. For `src/reading/walk.rt`.
 use Rattle.std.proofs.Common.{◌≡◌, ℕ, suc, ◌≤◌, ◌<◌, ◌-◌, true, false, drop, List, [], ◌∷◌, ◌++◌, length, Option, Some, None, option_and_then, refl, sym, ap, ◌∙◌, subst, arith, append_assoc}
 use Rattle.json.specs.Token.{Token, begin_array, end_array, begin_object, end_object, key}
 use Rattle.json.specs.Json as json
@@ -11,7 +11,7 @@ use Rattle.amqp_value_core.specs.Values.{Tree, array, no_trees, no_entries}
 use Rattle.amqp_json.specs.declared.error.JsonError.{JsonError}
 use Rattle.amqp_json.specs.declared.error.JsonError.TheVariants.{Syntax, TooDeep, NotAValue}
 use Rattle.amqp_json.specs.Nesting.{fits, OpensTooMany, ReportsNestingOf}
-use Rattle.amqp_json.specs.Puts.{IsSyntax, OnMismatch, IsLeaf, IsLeafRefusal, IsNamed, IsRefusal, GoesTooDeep, IsWrongBefore, items_at, members_at, array_of, object_meant, next_token, converted}
+use Rattle.amqp_json.specs.reading.Puts.{IsSyntax, OnMismatch, IsLeaf, IsLeafRefusal, IsNamed, IsRefusal, GoesTooDeep, IsWrongBefore, items_at, members_at, array_of, object_meant, next_token, converted}
 use Rattle.amqp_json.specs.Meaning.{is_type_key, type_named, meaning, meanings, pairs_of, table_of}
 use Rattle.amqp_json.proofs.MeantContainers.{none_of, converted_some, spelled_as, converted-items, array_meant, object_is, table_is, table_first, next_is}
 use Rattle.amqp_json.proofs.Levels.{opens-some, StartsAs, starts, longer, first_is, no_key, json_fits, alone_fits}

@@ -12,7 +12,7 @@ use Rattle.json.specs.Lex.{Lexeme, comma, colon, Mode, between, in_word, in_stri
 use Rattle.json.specs.Lex as lexer
 use Rattle.json.specs.Ascii as ascii
 use Rattle.amqp_json.specs.Nesting.{opens, fits_after, fits, lexemes_fit, IsFirstTooDeep, OpensTooMany, IsTooDeepAt}
-use Rattle.amqp_json.specs.Scans.{mode_after, fits_byte, ScansTo}
+use Rattle.amqp_json.specs.reading.Scans.{mode_after, fits_byte, ScansTo}
 use Rattle.json.specs.Json.{Json, null, boolean, number, string, array, object, Items, no_items, item, Members, no_members, member, value, if_last}
 use Rattle.json.specs.Tree.{json_tokens, items_tokens, members_tokens}
 use Rattle.json.proofs.Nesting.{value-depth}

@@ -1,7 +1,8 @@
--- `json_text v` is UTF-8, and means `v` if it nests at most 127 deep.
-use Rattle.std.proofs.Common.{◌≡◌, ℕ, ℤ, pos, negsuc, ◌^◌, ◌<◌, ◌≤◌, List, [], ◌∷◌, ◌++◌, Bool, true, false, Some, IsUtf8, refl, sym, ap, ◌∙◌, append-nil, option_and_then, arith, ltb-true}
+-- `json_text v` is UTF-8, and means `valued v` if it nests at most 127 deep.
+use Rattle.std.proofs.Common.{◌≡◌, ℕ, ℤ, pos, negsuc, ◌^◌, ◌<◌, ◌≤◌, List, [], ◌∷◌, ◌++◌, Bool, true, false, Option, Some, None, IsUtf8, refl, sym, ap, ◌∙◌, append-nil, option_and_then, arith, ltb-true}
 use Rattle.std.specs.Int.{Width, w8, w16, w32, w64, cast_signed, to_be_bytes}
 use Rattle.std.specs.Str.{is_utf8, IsAscii}
+use Rattle.std.specs.Float.{Format, binary32, binary64}
 use Rattle.std.specs.Prelude.{decimal as digits}
 use Rattle.std.specs.Fmt.{signed_decimal}
 use Rattle.std.proofs.Math.Facts.{sfits_to_z}
@@ -27,7 +28,9 @@ use Rattle.amqp_value_core.specs.Names.{name_of}
 use Rattle.amqp_value_core.specs.Values as values
 use Rattle.amqp_value_core.specs.Values.{Scalar, decimal, void, Tree, scalar, short, long, octets, table, Trees, no_trees, tree, Entries, no_entries, entry}
 use Rattle.amqp_json.specs.Meaning.{meaning, meant}
-use Rattle.amqp_json.specs.Written.{under, signed, number_written, long_written, scalar_written, is_marked, written_key, written, items_written, members_written, decimal_text, HasJson, AllHaveJson, EntriesHaveJson, json_text}
+use Rattle.amqp_json.specs.Decimals.{float_text}
+use Rattle.amqp_json.proofs.DecimalTexts.{decimal_is}
+use Rattle.amqp_json.specs.Written.{under, double_written, float_written, signed, number_written, long_written, scalar_written, is_marked, written_key, written, items_written, members_written, decimal_text, valued, HasJson, AllHaveJson, EntriesHaveJson, json_text}
 use Rattle.amqp_json.proofs.ValueRoundTrip.{read_back}
 
 -- ---- the texts of tokens are UTF-8
@@ -99,6 +102,17 @@ under_text type j name is = record {
   utf8 = (IsUtf8-are_ascii (123 ∷ []) refl, (IsUtf8-key (36 ∷ name_of type) (IsUtf8-are_ascii (36 ∷ name_of type) name), are_append (json_tokens j) (end_object ∷ []) is.utf8 (IsUtf8-are_ascii (125 ∷ []) refl, tt)));
 }
 
+decimal_number : (f : Format) (n : ℕ) (t : List ℕ) → float_text f n ≡ Some t → IsText (number t)
+decimal_number f n t e = let is = decimal_is f n t e in record { numbers = is.number; utf8 = (is.utf8, tt) }
+
+double_is_text : (n : ℕ) (o : Option (List ℕ)) → float_text binary64 n ≡ o → IsText (double_written o n)
+double_is_text n (Some t) e = decimal_number binary64 n t e
+double_is_text n None e = under_text amqp.Double _ refl (digits_text (to_be_bytes w64 n))
+
+float_is_text : (n : ℕ) (o : Option (List ℕ)) → float_text binary32 n ≡ o → IsText (float_written o n)
+float_is_text n (Some t) e = under_text amqp.Float _ refl (decimal_number binary32 n t e)
+float_is_text n None e = under_text amqp.Float _ refl (digits_text (to_be_bytes w32 n))
+
 number_text : (type : AMQPType) (n : ℕ) → IsNumber type n → IsText (number_written type n)
 number_text amqp.ShortShortInt n h = under_text amqp.ShortShortInt _ refl (signed_text w8 n (omega arith) h)
 number_text amqp.ShortShortUInt n h = under_text amqp.ShortShortUInt _ refl (natural_text n (omega (arith, h)))
@@ -108,8 +122,8 @@ number_text amqp.LongInt n h = under_text amqp.LongInt _ refl (signed_text w32 n
 number_text amqp.LongUInt n h = under_text amqp.LongUInt _ refl (natural_text n (omega (arith, h)))
 number_text amqp.LongLongInt n h = signed_text w64 n (omega arith) h
 number_text amqp.Timestamp n h = under_text amqp.Timestamp _ refl (natural_text n h)
-number_text amqp.Float n h = under_text amqp.Float _ refl (digits_text (to_be_bytes w32 n))
-number_text amqp.Double n h = under_text amqp.Double _ refl (digits_text (to_be_bytes w64 n))
+number_text amqp.Float n h = float_is_text n (float_text binary32 n) refl
+number_text amqp.Double n h = double_is_text n (float_text binary64 n) refl
 number_text _ n h = absurd h
 
 scalar_text : (x : Scalar) → IsScalar x → IsText (scalar_written x)
@@ -141,7 +155,7 @@ mutual
   is_text (long s) h = long_text s _ refl
   is_text (octets s) h = under_text amqp.ByteArray _ refl (digits_text s)
   is_text (values.array vs) h = let is = are_items vs h in record { numbers = is.numbers; utf8 = (IsUtf8-are_ascii (91 ∷ []) refl, is.utf8) }
-  is_text (table es) h = let is = are_members es h.1 in record { numbers = is.numbers; utf8 = (IsUtf8-are_ascii (123 ∷ []) refl, is.utf8) }
+  is_text (table es) h = let is = are_members es h in record { numbers = is.numbers; utf8 = (IsUtf8-are_ascii (123 ∷ []) refl, is.utf8) }
 
   are_items : (vs : Trees) → AllHaveJson vs → AreItemsText vs
   are_items no_trees h = record { numbers = tt; utf8 = (IsUtf8-are_ascii (93 ∷ []) refl, tt) }
@@ -162,7 +176,7 @@ mutual
 pub text_is_utf8 : (v : Tree) → HasJson v → IsUtf8 (json_text v)
 text_is_utf8 v h = all_utf8 false (json_tokens (written v)) (is_text v h).utf8
 
-pub text_is_read : (v : Tree) → HasJson v → depth (written v) ≤ 127 → meant (json_text v) ≡ Some v
+pub text_is_read : (v : Tree) → HasJson v → depth (written v) ≤ 127 → meant (json_text v) ≡ Some (valued v)
 text_is_read v h shallow =
     let j = written v in
     ap (λ o. option_and_then meaning (option_and_then (λ p. if_last p.0 p.1) o))

@@ -9,7 +9,8 @@ use Rattle.amqp_in_place.specs.InPlaceResults.{NeedsNoMemory}
 use Rattle.amqp_value_core.specs.Values.{Tree, readable}
 use Rattle.amqp_value_core.specs.Outcomes.{found}
 use Rattle.amqp_value_core.specs.Texts.{text, Fits}
-use Rattle.amqp_json.specs.Ascending.{InOrder, OutOfOrder}
+use Rattle.amqp_value_core.specs.Grammar.{Wire}
+use Rattle.amqp_in_place.specs.Written.{written as as_written}
 use Rattle.amqp_json.specs.Meaning.{meaning, meant_within, json_within}
 use Rattle.amqp_json.specs.Nesting.{ReportsNesting}
 use Rattle.amqp_json.specs.Written.{json_text, counted, MeansIfShallow}
@@ -62,18 +63,14 @@ IsWithin e len = Unit {0}
 
 -- ---- to a text
 
--- a text is the JSON text of the value at the start of s, as reading within the limits finds it, with
--- `rest` after it, and means that value
+-- a text is the JSON text of the encoding at the start of s, with every pair in the order in which it is written, and
+-- means the value that reading within the limits finds there, with `rest` after it
 abbrev pub IsJsonOf : Limits → List ℕ → List ℕ → List ℕ → Type 0
-IsJsonOf l s t rest = (v : Tree) × Within l s (found v rest) × (t ≡ json_text v) × MeansIfShallow t v
-
--- the same, and in the tables of the encoding the keys ascend
-abbrev pub IsOrderedJsonOf : Limits → List ℕ → List ℕ → List ℕ → Type 0
-IsOrderedJsonOf l s t rest = IsJsonOf l s t rest × InOrder s rest
+IsJsonOf l s t rest = (w : List ℕ) × (v : Tree) × (p : Wire w v) × (s ≡ w ++ rest) × Within l s (found v rest) × (t ≡ json_text (as_written w v p)) × MeansIfShallow (as_written w v p) t v
 
 -- that text is the first n bytes of the buffer, and after them it is as it was
 abbrev pub IsJsonWritten : Limits → List ℕ → List ℕ → List ℕ → ℕ → List ℕ → Type 0
-IsJsonWritten l s old new n rest = (t : List ℕ) × IsOrderedJsonOf l s t rest × (n ≡ length t) × (n ≤ length old) × (new ≡ t ++ drop n old)
+IsJsonWritten l s old new n rest = (t : List ℕ) × IsJsonOf l s t rest × (n ≡ length t) × (n ≤ length old) × (new ≡ t ++ drop n old)
 
 -- why a value has no JSON text
 abbrev pub HasNoText : Tree → EncodeError → Type 0
@@ -88,8 +85,7 @@ IsNotRead l s (decode.Refused e) = RefusesWithin l s e
 IsNotRead l s decode.OutOfMemory = (extent s ≤ l.frame) × IsWholeValue s
 
 -- why no text of the value at the start of s is in a buffer of that many bytes: it isn't read, which
--- needs no memory; the text has more bytes, as many as the error says; or keys don't ascend
+-- needs no memory; or the text has more bytes, as many as the error says
 abbrev pub IsNotWritten : Limits → List ℕ → ℕ → WriteError → Type 0
 IsNotWritten l s buffer (write.Refused e) = RefusesWithin l s e × NeedsNoMemory e
-IsNotWritten l s buffer (write.BufferTooSmall n) = (t : List ℕ) × (rest : List ℕ) × IsOrderedJsonOf l s t rest × (n ≡ counted t) × (buffer < n)
-IsNotWritten l s buffer write.KeysOutOfOrder = (v : Tree) × (rest : List ℕ) × Within l s (found v rest) × OutOfOrder s rest
+IsNotWritten l s buffer (write.BufferTooSmall n) = (t : List ℕ) × (rest : List ℕ) × IsJsonOf l s t rest × (n ≡ counted t) × (buffer < n)

@@ -1,5 +1,5 @@
 -- `IsViewOfRead`, a `ValueRef` is the view of a value that was read, and `WritesText`, its JSON
--- text is written to a buffer: for the clauses of `src/decode.rt`.
+-- text is written to a buffer: for the clauses of `src/printing.rt`.
 use Rattle.std.specs.Prelude.{ℕ, ◌≡◌, ◌≤◌, List, ◌++◌, length, drop}
 use Rattle.amqp_in_place.specs.declared.refs.ValueRef.{ValueRef}
 use Rattle.amqp_in_place.specs.Places.{IsViewIn}
@@ -10,12 +10,13 @@ use Rattle.amqp_value_core.specs.Bytes.{IsBytes}
 use Rattle.amqp_value_core.specs.Outcomes.{Outcome, found, read_back}
 use Rattle.amqp_value_core.specs.Texts.{text}
 use Rattle.amqp_value_core.specs.Values.{Tree}
-use Rattle.amqp_json.specs.Conversions.{IsOrderedJsonOf}
+use Rattle.amqp_json.specs.Conversions.{IsJsonOf}
+use Rattle.amqp_in_place.specs.Written.{IsWrittenAs}
 use Rattle.amqp_json.specs.Written.{HasJson, counted}
 
--- the view is of a value that has a JSON text
+-- the view is of a value that has a JSON text, as it is written
 abbrev pub HasText : ValueRef → Type 0
-HasText r = (v : Tree) × Denotes r v × HasJson v
+HasText r = (t : Tree) × IsWrittenAs r t × HasJson t
 
 -- what reading the canonical encoding results in, whatever follows
 abbrev pub IsReadBack : Tree → Type 0
@@ -27,4 +28,4 @@ IsViewOfRead l s view rest = IsBytes s × IsViewIn s view rest × ((v : Tree) ×
 
 -- the text of the value has n bytes, and if these fit the buffer, it is at their start
 abbrev pub WritesText : Limits → List ℕ → List ℕ → List ℕ → List ℕ → ℕ → Type 0
-WritesText l s rest old new n = (t : List ℕ) × IsOrderedJsonOf l s t rest × (n ≡ counted t) × (n ≤ length old → (n ≡ length t) × (new ≡ t ++ drop n old))
+WritesText l s rest old new n = (t : List ℕ) × IsJsonOf l s t rest × (n ≡ counted t) × (n ≤ length old → (n ≡ length t) × (new ≡ t ++ drop n old))

@@ -10,24 +10,39 @@ ghost use Rattle.amqp_value_core.specs.Bytes.{IsBytes};
 ghost use Rattle.amqp_value_core.specs.Values.{Tree};
 ghost use Rattle.amqp_json.specs.Meaning.{meaning, meant, meant_within};
 ghost use Rattle.amqp_json.specs.Nesting.{IsTooDeepAt};
-ghost use Rattle.amqp_json.specs.Written.{written, HasJson, json_text, MeansIfShallow};
+ghost use Rattle.amq_protocol_types.specs.declared.parsing.within.Limits.{Limits};
+ghost use Rattle.amqp_json.specs.Conversions.{IsJsonOf};
+ghost use Rattle.amqp_in_place.specs.Written.{written as as_written};
+ghost use Rattle.amqp_json.specs.Written.{written, valued, HasJson, json_text, MeansIfShallow};
 
-/// What is written for a value means the value.
+/// What is written for a value means the value: a table's pairs may be in any order, and of equal keys
+/// the last counts.
 #[tactic(auto, using(crate::proofs::ValueRoundTrip::read_back))]
 pub fn read_back()
-    ensures { (v : Tree) → HasJson v → meaning (written v) ≡ Some v }
+    ensures { (v : Tree) → HasJson v → meaning (written v) ≡ Some (valued v) }
 {}
 
 /// The text of a value is read as the value, if the text nests at most 127 deep.
 #[tactic(auto, using(crate::proofs::TextRoundTrip::text_is_read))]
 pub fn text_read_back()
-    ensures { (v : Tree) → HasJson v → MeansIfShallow (json_text v) v }
+    ensures { (v : Tree) → HasJson v → MeansIfShallow v (json_text v) (valued v) }
 {}
 
-/// Each value that is encoded has a text.
+/// Each value that is encoded has a text, as it is written.
 #[tactic(auto, using(crate::proofs::Encodings::has_json))]
 pub fn encoded_has_json()
-    ensures { (w : List ℕ) (v : Tree) → IsBytes w → Wire w v → HasJson v }
+    ensures { (w : List ℕ) (v : Tree) → IsBytes w → (p : Wire w v) → HasJson (as_written w v p) }
+{}
+
+/// The bytes at the start of others have at most one JSON text.
+pub fn encoded_has_one_text()
+    ensures { (l : Limits) (s t u rest left : List ℕ) → IsJsonOf l s t rest → IsJsonOf l s u left → t ≡ u }
+{}
+
+/// As an encoded value is written, it is the value.
+#[tactic(auto, using(crate::proofs::Encodings::valued_written))]
+pub fn encoded_is_value()
+    ensures { (w : List ℕ) (v : Tree) (p : Wire w v) → valued (as_written w v p) ≡ v }
 {}
 
 /// A text that means a value within a limit on nesting is never too deep for it.

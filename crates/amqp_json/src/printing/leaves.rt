@@ -11,11 +11,13 @@ ghost use Rattle.json.specs.Token.{begin_object, end_object, key, number, string
 ghost use Rattle.amqp_value_core.specs.Values.{Tree};
 ghost use Rattle.amqp_in_place.specs.Heads.{IsPlainRef};
 ghost use Rattle.amqp_in_place.specs.Refs.{Denotes};
-ghost use Rattle.amqp_json.specs.Written.{decimal_text, long_written, written};
-ghost use Rattle.amqp_json.specs.Printing.{PutsTokens, PutsJson};
+ghost use Rattle.amqp_json.specs.Written.{decimal_text, double_written, float_written, long_written, written};
+ghost use Rattle.amqp_json.specs.Decimals.{float_text};
+ghost use Rattle.std.specs.Float.{binary32, binary64};
+ghost use Rattle.amqp_json.specs.printing.Buffers.{PutsTokens, PutsJson};
 
-use super::Place;
-use super::tokens::{put_decimal, put_digits, put_token};
+use super::decimals::{FloatBits, float_text};
+use super::tokens::{Place, put_decimal, put_digits, put_token};
 use amqp_in_place::ValueRef;
 use amqp_value_core::types::DecimalValue;
 use itoa::Buffer;
@@ -100,20 +102,26 @@ fn digits(buffer: &mut [u8], place: Place, name: &str, bytes: &[u8]) -> Place
     put_token(buffer, place, Token::EndObject)
 }
 
+// Its decimal text, if it has one, otherwise its bits.
 #[inline(never)]
 fn float(buffer: &mut [u8], place: Place, bits: u32) -> Place
-    ensures { PutsTokens buffer.old place buffer.new result
-        (begin_object ∷ key (codes "$Float") ∷ string (encode_lower (to_be_bytes w32 bits)) ∷ end_object ∷ []) }
+    ensures { PutsJson buffer.old place buffer.new result (float_written (float_text binary32 bits) bits) }
 {
-    digits(buffer, place, "$Float", &bits.to_be_bytes())
+    match float_text(FloatBits::Float(bits), &mut [0; 96]) {
+        Some(text) => named(buffer, place, "$Float", Token::Number(text)),
+        None => digits(buffer, place, "$Float", &bits.to_be_bytes()),
+    }
 }
 
+// Its decimal text, if it has one, otherwise its bits.
 #[inline(never)]
 fn double(buffer: &mut [u8], place: Place, bits: u64) -> Place
-    ensures { PutsTokens buffer.old place buffer.new result
-        (begin_object ∷ key (codes "$Double") ∷ string (encode_lower (to_be_bytes w64 bits)) ∷ end_object ∷ []) }
+    ensures { PutsJson buffer.old place buffer.new result (double_written (float_text binary64 bits) bits) }
 {
-    digits(buffer, place, "$Double", &bits.to_be_bytes())
+    match float_text(FloatBits::Double(bits), &mut [0; 96]) {
+        Some(text) => put_token(buffer, place, Token::Number(text)),
+        None => digits(buffer, place, "$Double", &bits.to_be_bytes()),
+    }
 }
 
 #[inline(never)]

@@ -1,6 +1,6 @@
-//! Puts bytes of JSON text into a buffer, as they are, escaped or in hexadecimal. (The crate's
-//! `put` appends encodings to a `Vec<u8>`.) Each call returns how many bytes there are then, which
-//! may be more than the buffer has space for: those that don't fit are counted, and not written.
+//! Puts bytes of JSON text into a buffer, as they are, escaped or in hexadecimal. Each call returns
+//! how many bytes there are then, which may be more than the buffer has space for: those that don't
+//! fit are counted, and not written.
 
 // The tactics at the functions name the lemma that a clause is proved by, and open the definition of an escape.
 
@@ -11,7 +11,7 @@ ghost use Rattle.std.specs.Simd.Lanes.{mask_l};
 ghost use Rattle.hex.specs.Hex.{encode_lower};
 ghost use Rattle.json.specs.Print.{escape_letter, escape_byte, escape};
 ghost use Rattle.json.specs.Run.{is_plain, is_stop};
-ghost use Rattle.amqp_json.specs.Printing.{PutsBytes};
+ghost use Rattle.amqp_json.specs.printing.Buffers.{PutsBytes};
 
 use std::simd::prelude::*;
 

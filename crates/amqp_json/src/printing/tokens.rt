@@ -6,14 +6,30 @@ ghost use Rattle.hex.specs.Hex.{encode_lower};
 ghost use Rattle.json.specs.Token.{key, string};
 ghost use Rattle.json.specs.Reads.{token_of};
 ghost use Rattle.json.specs.Print.{begins, ends, escape, token_text};
-ghost use Rattle.amqp_json.specs.Printing.{PutsBytes, PutsTokens};
+ghost use Rattle.amqp_json.specs.printing.Buffers.{PutsBytes, PutsTokens};
 ghost use Rattle.amqp_json.specs.Written.{is_marked, written_key, decimal_text};
 
-use super::Place;
 use super::put::{put, put_escaped, put_hexadecimal};
 use amqp_value_core::types::DecimalValue;
 use itoa::Buffer;
 use json::Token;
+
+/// How far a text was written.
+#[derive(Clone, Copy)]
+pub struct Place {
+    /// How many bytes it has, which may be more than the buffer has.
+    pub count: usize,
+    /// Whether a value has just ended.
+    pub after_value: bool,
+}
+
+impl Place {
+    /// Before the text.
+    pub const START: Place = Place {
+        count: 0,
+        after_value: false,
+    };
+}
 
 /// A token, with a comma before it after a value.
 #[inline(always)]

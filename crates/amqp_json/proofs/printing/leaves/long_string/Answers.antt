@@ -2,7 +2,7 @@
 use Rattle.std.proofs.Common.{rules, sym, subst}
 use Rattle.std.specs.Str.{IsUtf8}
 use Rattle.json.specs.Json.{Json}
-use Rattle.amqp_json.specs.Printing.{PutsJson}
+use Rattle.amqp_json.specs.printing.Buffers.{PutsJson}
 use Rattle.amqp_json.proofs.Printed.{bytes_are_named}
 use Rattle.amqp_json.proofs.printing.leaves.long_string.Goals as goal
 

@@ -8,7 +8,7 @@ use Rattle.json.specs.Token.{begin_object, end_object, key, number}
 use Rattle.amqp_value_core.specs.Values.{Tree}
 use Rattle.amqp_in_place.specs.declared.refs.ValueRef.{ValueRef}
 use Rattle.amqp_in_place.specs.Refs.{Denotes}
-use Rattle.amqp_json.specs.Printing.{PutsTokens, PutsJson}
+use Rattle.amqp_json.specs.printing.Buffers.{PutsTokens, PutsJson}
 use Rattle.amqp_json.specs.Written.{written}
 use Rattle.amqp_json.proofs.printing.leaves.put_leaf.Goals as goal
 

@@ -1,7 +1,7 @@
 -- Of the loop in `put_escaped`: what is put, and the escape of what is left, are that of the text.
 use Rattle.std.proofs.Common.{◌≡◌, ◌-◌, ◌≤◌, ◌++◌, List, ℕ, length, drop}
 use Rattle.json.specs.Print.{escape}
-use Rattle.amqp_json.specs.Printing.{PutsBytes}
+use Rattle.amqp_json.specs.printing.Buffers.{PutsBytes}
 use Rattle.amqp_json.proofs.printing.put.put_escaped.Given as goal
 
 -- with what is left, the text is there
