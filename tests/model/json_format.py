@@ -10,7 +10,7 @@ from contextlib import suppress
 from random import Random
 from typing import Any
 
-# The type tag that a value is written with, and its content: of a table a dict, of an array a list, else bytes.
+# The type tag that a value is written with, and its content: of a table a dict, or a list of pairs, of an array a list, else bytes.
 Value = tuple[str, Any]
 
 # How many arrays and objects may be open in a text.
@@ -279,7 +279,7 @@ def is_json(text: str) -> bool:
 
 
 def json_of(value: Value) -> str:
-    """The text that is written for a value."""
+    """The text that is written for a value, with a table's pairs as they are listed, or else by their keys."""
     tag, content = value
     match tag:
         case "V":
@@ -289,7 +289,8 @@ def json_of(value: Value) -> str:
         case "A":
             return f"[{','.join(map(json_of, content))}]"
         case "F":
-            return "{" + ",".join(f"{json_of_key(key)}:{json_of(it)}" for key, it in sorted(content.items())) + "}"
+            pairs = content if isinstance(content, list) else sorted(content.items())
+            return "{" + ",".join(f"{json_of_key(key)}:{json_of(it)}" for key, it in pairs) + "}"
         case "D":
             return f'{{"$DecimalValue":"{int.from_bytes(content[1:], "big")}e-{content[0]}"}}'
         case "S":

@@ -40,7 +40,7 @@ help
     {"$LongInt":5}, also ShortShortInt, ShortShortUInt, ShortInt, ShortUInt, LongUInt, Timestamp
     {"$Double":"3ff8000000000000"}, the bits of 1.5, also Float
     {"$ByteArray":"00ff"}, its digits, also LongString; {"$DecimalValue":"314e-2"}, 3.14
-  Keys are sorted. One that begins with $ is written with one more.
+  A table's pairs keep their order. A key that begins with $ is written with one more.
 
   --check rabbitmq is rabbitmq-4.0, the newest version that this program's tests run. 4.3 was
   tested by hand, and does the same; 3.11 to 3.13, 4.1 and 4.2 weren't tested.
