@@ -12,7 +12,10 @@ use Rattle.std.proofs.lemmas.Fmt.{decimal_is_IsNumeral, decimal_digit, decimal-d
 use Rattle.std.proofs.lemmas.Slice.Eq.{bytes_eq-Decides}
 use Rattle.std.proofs.lemmas.Str.Parse.{numerals_by_value, tells_digits, digit_from_value, not_in_digits, without_leading_plus_none}
 use Rattle.amqp_value_core.specs.Json.{is_within}
-use Rattle.amqp_json.specs.Meaning.{signed_of, unsigned_of}
+use Rattle.std.specs.Char.{digit_value}
+use Rattle.std.specs.List.{list_any}
+use Rattle.amqp_value_core.specs.declared.types.amqp_type.AMQPType.TheVariants as amqp
+use Rattle.amqp_json.specs.Meaning.{signed_of, unsigned_of, is_mark, number_type}
 use Rattle.amqp_json.specs.Puts.{is_first_digit, is_plain}
 
 none_if : {A : Type 0} (b : Bool) (x : A) → (b ≡ true → ⊥) → (if b then Some x else None) ≡ None
@@ -145,3 +148,19 @@ unsigned_read n small =
     let value = (decimal_is_IsNumeral n small).1 in
     let few : nat_lt n (2 ^ 64) ≡ true = grind (arith, small) in
     rw (value, few, is_same (digits n) (digits n) refl) refl
+
+-- ---- decimal text has no point and no exponent
+
+no_mark : (c : ℕ) → digit_value c < 10 → is_mark c ≡ false
+no_mark c h = grind arith
+
+no_marks : (ds : List ℕ) → AllDigits 10 ds → list_any is_mark ds ≡ false
+no_marks [] h = refl
+no_marks (c ∷ ds) h = rw (no_mark c h.0) (no_marks ds h.1)
+
+of_type : (s : List ℕ) → list_any is_mark s ≡ false → number_type s ≡ amqp.LongLongInt
+of_type s e = rw e refl
+
+pub signed_type : (z : ℤ) → is_within (2 ^ 63) z ≡ true → number_type (signed_decimal z) ≡ amqp.LongLongInt
+signed_type (pos n) h = of_type (digits n) (no_marks (digits n) (decimal_is_IsNumeral n (grind (arith, h))).0.1)
+signed_type (negsuc n) h = of_type (45 ∷ digits (suc n)) (no_marks (digits (suc n)) (decimal_is_IsNumeral (suc n) (grind (arith, h))).0.1)

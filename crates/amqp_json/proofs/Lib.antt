@@ -16,9 +16,11 @@ pub mod Completing
 pub mod Encodings
 -- writing one
 pub mod Escapes
+pub mod Decimals
 pub mod Printed
 pub mod AsWritten
 pub mod PrintedTexts
 -- what is written is read back
+pub mod DecimalTexts
 pub mod ValueRoundTrip
 pub mod TextRoundTrip

@@ -1,7 +1,8 @@
 -- `json_text v` is UTF-8, and means `valued v` if it nests at most 127 deep.
-use Rattle.std.proofs.Common.{◌≡◌, ℕ, ℤ, pos, negsuc, ◌^◌, ◌<◌, ◌≤◌, List, [], ◌∷◌, ◌++◌, Bool, true, false, Some, IsUtf8, refl, sym, ap, ◌∙◌, append-nil, option_and_then, arith, ltb-true}
+use Rattle.std.proofs.Common.{◌≡◌, ℕ, ℤ, pos, negsuc, ◌^◌, ◌<◌, ◌≤◌, List, [], ◌∷◌, ◌++◌, Bool, true, false, Option, Some, None, IsUtf8, refl, sym, ap, ◌∙◌, append-nil, option_and_then, arith, ltb-true}
 use Rattle.std.specs.Int.{Width, w8, w16, w32, w64, cast_signed, to_be_bytes}
 use Rattle.std.specs.Str.{is_utf8, IsAscii}
+use Rattle.std.specs.Float.{Format, binary32, binary64}
 use Rattle.std.specs.Prelude.{decimal as digits}
 use Rattle.std.specs.Fmt.{signed_decimal}
 use Rattle.std.proofs.Math.Facts.{sfits_to_z}
@@ -27,7 +28,9 @@ use Rattle.amqp_value_core.specs.Names.{name_of}
 use Rattle.amqp_value_core.specs.Values as values
 use Rattle.amqp_value_core.specs.Values.{Scalar, decimal, void, Tree, scalar, short, long, octets, table, Trees, no_trees, tree, Entries, no_entries, entry}
 use Rattle.amqp_json.specs.Meaning.{meaning, meant}
-use Rattle.amqp_json.specs.Written.{under, signed, number_written, long_written, scalar_written, is_marked, written_key, written, items_written, members_written, decimal_text, valued, HasJson, AllHaveJson, EntriesHaveJson, json_text}
+use Rattle.amqp_json.specs.Decimals.{float_text, places_of}
+use Rattle.amqp_json.proofs.DecimalTexts.{has_places, float_number, float_utf8}
+use Rattle.amqp_json.specs.Written.{under, double_written, float_written, signed, number_written, long_written, scalar_written, is_marked, written_key, written, items_written, members_written, decimal_text, valued, HasJson, AllHaveJson, EntriesHaveJson, json_text}
 use Rattle.amqp_json.proofs.ValueRoundTrip.{read_back}
 
 -- ---- the texts of tokens are UTF-8
@@ -99,6 +102,17 @@ under_text type j name is = record {
   utf8 = (IsUtf8-are_ascii (123 ∷ []) refl, (IsUtf8-key (36 ∷ name_of type) (IsUtf8-are_ascii (36 ∷ name_of type) name), are_append (json_tokens j) (end_object ∷ []) is.utf8 (IsUtf8-are_ascii (125 ∷ []) refl, tt)));
 }
 
+float_is_text : (f : Format) (n places : ℕ) → places_of f n ≡ Some places → IsText (number (float_text f n places))
+float_is_text f n places e = let is = has_places f n places e in record { numbers = float_number f n places is; utf8 = (float_utf8 f n places is, tt) }
+
+double_text : (n : ℕ) (o : Option ℕ) → places_of binary64 n ≡ o → IsText (double_written o n)
+double_text n (Some places) e = float_is_text binary64 n places e
+double_text n None e = under_text amqp.Double _ refl (digits_text (to_be_bytes w64 n))
+
+float_text_is : (n : ℕ) (o : Option ℕ) → places_of binary32 n ≡ o → IsText (float_written o n)
+float_text_is n (Some places) e = under_text amqp.Float _ refl (float_is_text binary32 n places e)
+float_text_is n None e = under_text amqp.Float _ refl (digits_text (to_be_bytes w32 n))
+
 number_text : (type : AMQPType) (n : ℕ) → IsNumber type n → IsText (number_written type n)
 number_text amqp.ShortShortInt n h = under_text amqp.ShortShortInt _ refl (signed_text w8 n (omega arith) h)
 number_text amqp.ShortShortUInt n h = under_text amqp.ShortShortUInt _ refl (natural_text n (omega (arith, h)))
@@ -108,8 +122,8 @@ number_text amqp.LongInt n h = under_text amqp.LongInt _ refl (signed_text w32 n
 number_text amqp.LongUInt n h = under_text amqp.LongUInt _ refl (natural_text n (omega (arith, h)))
 number_text amqp.LongLongInt n h = signed_text w64 n (omega arith) h
 number_text amqp.Timestamp n h = under_text amqp.Timestamp _ refl (natural_text n h)
-number_text amqp.Float n h = under_text amqp.Float _ refl (digits_text (to_be_bytes w32 n))
-number_text amqp.Double n h = under_text amqp.Double _ refl (digits_text (to_be_bytes w64 n))
+number_text amqp.Float n h = float_text_is n (places_of binary32 n) refl
+number_text amqp.Double n h = double_text n (places_of binary64 n) refl
 number_text _ n h = absurd h
 
 scalar_text : (x : Scalar) → IsScalar x → IsText (scalar_written x)

@@ -1,5 +1,5 @@
 -- `meaning (written v)` is `Some (valued v)`: the JSON that is written means the value, in whatever order its pairs are.
-use Rattle.std.proofs.Common.{◌≡◌, ℕ, ℤ, pos, negsuc, zero, suc, ◌+◌, ◌^◌, ◌<◌, ◌≤◌, ◌==◌, nat_lt, length, drop, take, get_or, List, [], ◌∷◌, ◌++◌, Bool, true, false, Option, Some, option_map, refl, ap, ◌∙◌, arith, le-ltb}
+use Rattle.std.proofs.Common.{◌≡◌, ℕ, ℤ, pos, negsuc, zero, suc, ◌+◌, ◌^◌, ◌<◌, ◌≤◌, ◌==◌, nat_lt, length, drop, take, get_or, List, [], ◌∷◌, ◌++◌, Bool, true, false, Option, Some, None, option_map, refl, ap, ◌∙◌, arith, le-ltb}
 use Rattle.std.specs.Prelude.{if◌then◌else◌, decimal as digits}
 use Rattle.std.specs.Char.{digit_value}
 use Rattle.std.specs.Fmt.{signed_decimal}
@@ -8,6 +8,7 @@ use Rattle.std.specs.Result.{result_ok}
 use Rattle.std.specs.Str.Parse.{AllDigits}
 use Rattle.std.specs.Int.{Width, w8, w16, w32, w64, cast_signed, cast_unsigned, to_be_bytes, from_be_bytes, bytes_high_first, byte_at}
 use Rattle.std.specs.Str.{is_utf8}
+use Rattle.std.specs.Float.{binary32, binary64}
 use mir.Val.{bits, hbits}
 use Rattle.std.proofs.Math.Facts.{sfits_to_z}
 use Rattle.std.proofs.Math.Seq.{take-append_seam, drop-append-add}
@@ -25,9 +26,11 @@ use Rattle.amqp_value_core.specs.Values.{Scalar, decimal, void, Tree, scalar, sh
 use Rattle.amqp_value_core.specs.InMemory.{IsNumber, IsScalar}
 use Rattle.amqp_value_core.specs.Json.{is_within}
 use Rattle.amqp_value_core.specs.Names.{name_of}
-use Rattle.amqp_json.specs.Meaning.{type_named, is_type_key, entry_key, is_e, signed_of, signed_in, unsigned_in, decimal_of, value_as, with_entry, object_of, table_of, meaning, meanings, pairs_of}
-use Rattle.amqp_json.proofs.Integers.{fits_within, signed_read, unsigned_read}
-use Rattle.amqp_json.specs.Written.{under, signed, number_written, long_written, scalar_written, written_key, written, items_written, members_written, valued, all_valued, pairs_valued, HasJson, AllHaveJson, EntriesHaveJson}
+use Rattle.amqp_json.specs.Meaning.{type_named, is_type_key, entry_key, is_e, signed_of, signed_in, unsigned_in, decimal_of, number_as, value_as, with_entry, object_of, table_of, meaning, meanings, pairs_of}
+use Rattle.amqp_json.proofs.Integers.{fits_within, signed_read, unsigned_read, signed_type}
+use Rattle.amqp_json.specs.Decimals.{float_text, places_of}
+use Rattle.amqp_json.proofs.DecimalTexts.{has_places, double_meant, float_meant}
+use Rattle.amqp_json.specs.Written.{under, double_written, float_written, signed, number_written, long_written, scalar_written, written_key, written, items_written, members_written, valued, all_valued, pairs_valued, HasJson, AllHaveJson, EntriesHaveJson}
 
 -- what is under the name of a type is read as of that type
 under_back : (type : AMQPType) (j : Json) → is_type_key (36 ∷ name_of type) ≡ true → type_named (name_of type) ≡ Some type → meaning (under type j) ≡ value_as type j
@@ -98,9 +101,22 @@ decimal_back scale n few less =
 
 -- ---- values
 
+float_back : (n : ℕ) (o : Option ℕ) → places_of binary32 n ≡ o → n < 2 ^ 32 → meaning (float_written o n) ≡ Some (scalar (values.number amqp.Float n))
+float_back n (Some places) e h = under_back amqp.Float (number (float_text binary32 n places)) refl refl ∙ float_meant n places (has_places binary32 n places e)
+float_back n None e h =
+    under_back amqp.Float (string (encode_lower (to_be_bytes w32 n))) refl refl ∙ ap (λ r. option_map (λ b. scalar (values.number amqp.Float (from_be_bytes w32 b))) (result_ok r)) (decode_sized-encode_lower (to_be_bytes w32 n) 4 refl (bytes_high 4 n))
+    ∙ ap (λ m. Some (scalar (values.number amqp.Float m))) (from_be_bytes-to_be_bytes_4 n h)
+
+double_back : (n : ℕ) (o : Option ℕ) → places_of binary64 n ≡ o → n < 2 ^ 64 → meaning (double_written o n) ≡ Some (scalar (values.number amqp.Double n))
+double_back n (Some places) e h = double_meant n places (has_places binary64 n places e)
+double_back n None e h =
+    under_back amqp.Double (string (encode_lower (to_be_bytes w64 n))) refl refl ∙ ap (λ r. option_map (λ b. scalar (values.number amqp.Double (from_be_bytes w64 b))) (result_ok r)) (decode_sized-encode_lower (to_be_bytes w64 n) 8 refl (bytes_high 8 n))
+    ∙ ap (λ m. Some (scalar (values.number amqp.Double m))) (from_be_bytes-to_be_bytes_8 n h)
+
 number_back : (type : AMQPType) (n : ℕ) → IsNumber type n → meaning (number_written type n) ≡ Some (scalar (values.number type n))
 number_back amqp.LongLongInt n h =
-    ap (option_map (λ z. scalar (values.number amqp.LongLongInt (cast_unsigned w64 z)))) (text_back w64 n (omega arith) h).0 ∙ ap (λ m. Some (scalar (values.number amqp.LongLongInt m))) (of_z-to_z w64 n h)
+    ap (λ t. number_as t (signed_decimal (cast_signed w64 n))) (signed_type (cast_signed w64 n) (text_back w64 n (omega arith) h).1)
+    ∙ ap (option_map (λ z. scalar (values.number amqp.LongLongInt (cast_unsigned w64 z)))) (text_back w64 n (omega arith) h).0 ∙ ap (λ m. Some (scalar (values.number amqp.LongLongInt m))) (of_z-to_z w64 n h)
 number_back amqp.ShortShortInt n h = under_back amqp.ShortShortInt (signed w8 n) refl refl ∙ signed_back amqp.ShortShortInt w8 n (omega arith) h
 number_back amqp.ShortInt n h = under_back amqp.ShortInt (signed w16 n) refl refl ∙ signed_back amqp.ShortInt w16 n (omega arith) h
 number_back amqp.LongInt n h = under_back amqp.LongInt (signed w32 n) refl refl ∙ signed_back amqp.LongInt w32 n (omega arith) h
@@ -108,12 +124,8 @@ number_back amqp.ShortShortUInt n h = under_back amqp.ShortShortUInt (number (di
 number_back amqp.ShortUInt n h = under_back amqp.ShortUInt (number (digits n)) refl refl ∙ natural_back amqp.ShortUInt (2 ^ 16) n h (omega arith)
 number_back amqp.LongUInt n h = under_back amqp.LongUInt (number (digits n)) refl refl ∙ natural_back amqp.LongUInt (2 ^ 32) n h (omega arith)
 number_back amqp.Timestamp n h = under_back amqp.Timestamp (number (digits n)) refl refl ∙ ap (option_map (λ m. scalar (values.number amqp.Timestamp m))) (unsigned_read n h)
-number_back amqp.Float n h =
-    under_back amqp.Float (string (encode_lower (to_be_bytes w32 n))) refl refl ∙ ap (λ r. option_map (λ b. scalar (values.number amqp.Float (from_be_bytes w32 b))) (result_ok r)) (decode_sized-encode_lower (to_be_bytes w32 n) 4 refl (bytes_high 4 n))
-    ∙ ap (λ m. Some (scalar (values.number amqp.Float m))) (from_be_bytes-to_be_bytes_4 n h)
-number_back amqp.Double n h =
-    under_back amqp.Double (string (encode_lower (to_be_bytes w64 n))) refl refl ∙ ap (λ r. option_map (λ b. scalar (values.number amqp.Double (from_be_bytes w64 b))) (result_ok r)) (decode_sized-encode_lower (to_be_bytes w64 n) 8 refl (bytes_high 8 n))
-    ∙ ap (λ m. Some (scalar (values.number amqp.Double m))) (from_be_bytes-to_be_bytes_8 n h)
+number_back amqp.Float n h = float_back n (places_of binary32 n) refl h
+number_back amqp.Double n h = double_back n (places_of binary64 n) refl h
 number_back _ n h = absurd h
 
 scalar_back : (x : Scalar) → IsScalar x → meaning (scalar_written x) ≡ Some (scalar x)

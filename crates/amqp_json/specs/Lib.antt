@@ -1,5 +1,6 @@
 -- What a JSON text means, and what is written for a value.
 pub mod Meaning
+pub mod Decimals
 pub mod Written
 -- What the calls' clauses say.
 pub mod Nesting

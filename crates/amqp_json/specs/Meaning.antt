@@ -7,7 +7,10 @@
 --
 -- Strings and keys are without JSON's escapes here. A number is its text. (36 is `$`, 45 is `-`, 101 is `e`.)
 use Rattle.std.specs.Prelude.{ℕ, ℤ, ◌^◌, ◌&&◌, ◌||◌, ◌==◌, List, drop, length, decimal as unsigned_decimal, slice_index, Bool, not, nat_lt, if◌then◌else◌, Option, Some, None, option_map, option_and_then, [], ◌∷◌}
-use Rattle.std.specs.List.{before_first, after_first, find}
+use Rattle.std.specs.List.{before_first, after_first, find, list_any}
+use Rattle.std.specs.Float.{Format, binary32, binary64, float_is_finite}
+use Rattle.std.specs.Float.Ieee.{to_bits}
+use Rattle.fast_float.specs.Parse.{parse_float}
 use Rattle.std.specs.Result.{result_ok}
 use Rattle.std.specs.Str.{bytes_eq}
 use Rattle.std.specs.Str.Parse.{digits_value, signed_digits_value}
@@ -85,8 +88,12 @@ signed_in half s = option_and_then (λ z. if is_within half z then Some z else N
 abbrev pub unsigned_in : ℕ → List ℕ → Option ℕ
 unsigned_in limit s = option_and_then (λ n. if nat_lt n limit then Some n else None) (unsigned_of s)
 
--- a JSON number as a value of the type. Only the integer types and Timestamp take one, each within its range. A signed
--- one is held as its two's complement
+-- the bits of the finite float that is nearest to the number
+abbrev pub float_of : Format → List ℕ → Option ℕ
+float_of f s = option_and_then (λ x. if float_is_finite x then Some (to_bits f x) else None) (parse_float f s)
+
+-- a JSON number as a value of the type. Only the integer types, Timestamp, Float and Double take one, each within its
+-- range. A signed one is held as its two's complement, a Float and a Double as the bits of the nearest one
 abbrev pub number_as : AMQPType → List ℕ → Option Tree
 number_as amqp.ShortShortInt s = option_map (λ z. scalar (values.number amqp.ShortShortInt (cast_unsigned w8 z))) (signed_in (2 ^ 7) s)
 number_as amqp.ShortShortUInt s = option_map (λ n. scalar (values.number amqp.ShortShortUInt n)) (unsigned_in (2 ^ 8) s)
@@ -96,6 +103,8 @@ number_as amqp.LongInt s = option_map (λ z. scalar (values.number amqp.LongInt 
 number_as amqp.LongUInt s = option_map (λ n. scalar (values.number amqp.LongUInt n)) (unsigned_in (2 ^ 32) s)
 number_as amqp.LongLongInt s = option_map (λ z. scalar (values.number amqp.LongLongInt (cast_unsigned w64 z))) (signed_of s)
 number_as amqp.Timestamp s = option_map (λ n. scalar (values.number amqp.Timestamp n)) (unsigned_of s)
+number_as amqp.Float s = option_map (λ n. scalar (values.number amqp.Float n)) (float_of binary32 s)
+number_as amqp.Double s = option_map (λ n. scalar (values.number amqp.Double n)) (float_of binary64 s)
 number_as type s = None
 
 -- a decimal: its digits as a number below 2^32, then `e-`, then its scale, which is below 256
@@ -114,6 +123,13 @@ string_as amqp.Double s = option_map (λ b. scalar (values.number amqp.Double (f
 string_as amqp.LongString s = option_map long (result_ok (decode_of s))
 string_as amqp.ByteArray s = option_map octets (result_ok (decode_of s))
 string_as type s = None
+
+-- the type of a JSON number that isn't under a type key: a Double if it has a point (46) or an exponent
+abbrev pub is_mark : ℕ → Bool
+is_mark c = (c == 46) || (c == 101) || (c == 69)
+
+abbrev pub number_type : List ℕ → AMQPType
+number_type s = if list_any is_mark s then amqp.Double else amqp.LongLongInt
 
 -- the value of the type that a JSON number or string means; no other JSON means one
 abbrev pub value_as : AMQPType → Json → Option Tree
@@ -137,7 +153,7 @@ abbrev mutual
   pub meaning : Json → Option Tree
   meaning null = Some (scalar values.void)
   meaning (boolean b) = Some (scalar (values.boolean b))
-  meaning (number s) = number_as amqp.LongLongInt s
+  meaning (number s) = number_as (number_type s) s
   meaning (string s) = Some (long s)
   meaning (array js) = option_map values.array (meanings js)
   meaning (object ms) = object_of ms (pairs_of ms)

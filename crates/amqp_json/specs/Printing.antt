@@ -7,6 +7,9 @@ use Rattle.json.specs.Tree.{json_tokens}
 use Rattle.json.specs.Print.{print, ends_value}
 use Rattle.amqp_json.specs.Written.{counted}
 use Rattle.amqp_json.specs.declared.printing.Place.{Place}
+use Rattle.amqp_json.specs.declared.printing.decimals.FloatBits.{FloatBits}
+use Rattle.amqp_json.specs.declared.printing.decimals.FloatBits.TheVariants.{Float, Double}
+use Rattle.std.specs.Float as float
 use Rattle.amqp_in_place.specs.declared.refs.ValueRef.{ValueRef}
 use Rattle.amqp_in_place.specs.Refs.{array_body, table_body}
 use Rattle.amqp_in_place.specs.declared.refs.ValueRef.TheVariants as at
@@ -40,3 +43,12 @@ abbrev pub body_len : ValueRef → ℕ
 body_len (at.FieldArray a) = length (array_body a)
 body_len (at.FieldTable t) = length (table_body t)
 body_len _ = 0
+
+-- the format of a float, and its bits
+abbrev pub format_of : FloatBits → float.Format
+format_of (Float n) = float.binary32
+format_of (Double n) = float.binary64
+
+abbrev pub bits_of : FloatBits → ℕ
+bits_of (Float n) = n
+bits_of (Double n) = n

@@ -1,5 +1,5 @@
 -- `written` and `json_text`: the JSON that is written for a value, with the pairs of its tables in any order.
-use Rattle.std.specs.Prelude.{ℕ, ◌≡◌, ◌≤◌, Some, ◌-◌, ◌^◌, min, length, List, ◌∷◌, ◌++◌, ◌==◌, Bool, slice_index, decimal as digits, if◌then◌else◌}
+use Rattle.std.specs.Prelude.{ℕ, ◌≡◌, ◌≤◌, Option, Some, None, ◌-◌, ◌^◌, min, length, List, ◌∷◌, ◌++◌, ◌==◌, Bool, slice_index, decimal as digits, if◌then◌else◌}
 use Rattle.std.specs.Int.{Width, w8, w16, w32, w64, cast_signed, to_be_bytes}
 use Rattle.std.specs.Fmt.{signed_decimal}
 use Rattle.std.specs.Str.{is_utf8}
@@ -13,6 +13,8 @@ use Rattle.amqp_value_core.specs.declared.types.amqp_type.AMQPType.{AMQPType}
 use Rattle.amqp_value_core.specs.declared.types.amqp_type.AMQPType.TheVariants as amqp
 use Rattle.amqp_value_core.specs.Names.{name_of}
 use Rattle.amqp_value_core.specs.Values as values
+use Rattle.std.specs.Float.{binary32, binary64}
+use Rattle.amqp_json.specs.Decimals.{float_text, places_of}
 use Rattle.amqp_json.specs.Meaning.{most_levels, meant, table_of}
 use Rattle.amqp_value_core.specs.Values.{Scalar, decimal, void, Tree, scalar, short, long, octets, table, Trees, no_trees, tree, Entries, no_entries, entry}
 
@@ -23,13 +25,23 @@ under type j = object (member (36 ∷ name_of type) j no_members)
 abbrev pub signed : Width → ℕ → Json
 signed w n = number (signed_decimal (cast_signed w n))
 
+-- a Float with that many digits after its point, or its bits
+abbrev pub float_written : Option ℕ → ℕ → Json
+float_written (Some places) n = under amqp.Float (number (float_text binary32 n places))
+float_written None n = under amqp.Float (string (encode_lower (to_be_bytes w32 n)))
+
+-- a Double with that many digits after its point, or its bits
+abbrev pub double_written : Option ℕ → ℕ → Json
+double_written (Some places) n = number (float_text binary64 n places)
+double_written None n = under amqp.Double (string (encode_lower (to_be_bytes w64 n)))
+
 abbrev pub number_written : AMQPType → ℕ → Json
 number_written amqp.LongLongInt n = signed w64 n
 number_written amqp.ShortShortInt n = under amqp.ShortShortInt (signed w8 n)
 number_written amqp.ShortInt n = under amqp.ShortInt (signed w16 n)
 number_written amqp.LongInt n = under amqp.LongInt (signed w32 n)
-number_written amqp.Float n = under amqp.Float (string (encode_lower (to_be_bytes w32 n)))
-number_written amqp.Double n = under amqp.Double (string (encode_lower (to_be_bytes w64 n)))
+number_written amqp.Float n = float_written (places_of binary32 n) n
+number_written amqp.Double n = double_written (places_of binary64 n) n
 -- (the others are unsigned: ShortShortUInt, ShortUInt, LongUInt and Timestamp)
 number_written type n = under type (number (digits n))
 

@@ -75,14 +75,14 @@ pub enum Mismatch {
     /// A table's key of more than 255 bytes.
     #[error("a key of more than 255 bytes")]
     KeyTooLong,
-    /// Anything but a number for a type that is written as a number.
+    /// Anything but a number for a type whose values are numbers. A `Float` or a `Double` may also be a string.
     #[error("expected a number")]
     NotANumber,
     /// Anything but a string for a type that is written as a string.
     #[error("expected a string")]
     NotAString,
-    /// A number that isn't an integer, or that the type doesn't hold.
-    #[error("expected an integer that the type holds")]
+    /// A number that the type doesn't hold: one with a point or an exponent for an integer type, or one that is too large.
+    #[error("expected a number that the type holds")]
     OutOfRange,
     /// An odd number of hexadecimal digits.
     #[error("expected an even number of hexadecimal digits")]
@@ -90,7 +90,7 @@ pub enum Mismatch {
     /// A character that isn't a hexadecimal digit.
     #[error("expected only hexadecimal digits")]
     NotHexadecimal,
-    /// A `Float` that doesn't have 8 digits, or a `Double` that doesn't have 16.
+    /// The string of a `Float` that doesn't have 8 digits, or that of a `Double` that doesn't have 16.
     #[error("expected 8 hexadecimal digits of a Float, or 16 of a Double")]
     DigitCount,
     /// A decimal that isn't a number, `e-` and a scale, as `314e-2`.

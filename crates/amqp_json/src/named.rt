@@ -7,7 +7,9 @@ ghost use Rattle.std.specs.Prelude.{◌≡◌, ◌≢◌, Some, None, OnOk, IfOk
 ghost use Rattle.std.specs.Result.{result_ok};
 ghost use Rattle.hex.specs.Hex.{decode_of};
 ghost use Rattle.amqp_value_core.specs.Values.{scalar, decimal as decimal_tree};
-ghost use Rattle.amqp_json.specs.Meaning.{number_as, string_as, decimal_of, signed_of, unsigned_of};
+ghost use Rattle.std.specs.Float.{binary32, binary64};
+ghost use Rattle.std.specs.List.{list_any};
+ghost use Rattle.amqp_json.specs.Meaning.{number_as, string_as, decimal_of, signed_of, unsigned_of, float_of, is_mark, number_type};
 ghost use Rattle.amqp_json.specs.Puts.{PutsEncodingOf, PutsScalar, PutsInteger, OnMismatch, is_plain};
 ghost use Rattle.amqp_json.specs.declared.error.JsonError.TheVariants.{OutOfMemory, TooLarge};
 
@@ -47,11 +49,7 @@ fn not_this_number(amqp_type: AMQPType) -> Mismatch {
 /// What a value of another kind is: no number or no string.
 pub(crate) fn other_kind(amqp_type: AMQPType) -> Mismatch {
     match amqp_type {
-        AMQPType::Float
-        | AMQPType::Double
-        | AMQPType::DecimalValue
-        | AMQPType::LongString
-        | AMQPType::ByteArray => Mismatch::NotAString,
+        AMQPType::DecimalValue | AMQPType::LongString | AMQPType::ByteArray => Mismatch::NotAString,
         _ => Mismatch::NotANumber,
     }
 }
@@ -154,9 +152,68 @@ fn put_integer(out: &mut Vec<u8>, amqp_type: AMQPType, text: &str) -> Option<Res
         ),
         AMQPType::LongLongInt => put(out, b'l', &signed(text)?.to_be_bytes()),
         AMQPType::Timestamp => put(out, b'T', &unsigned(text)?.to_be_bytes()),
+        AMQPType::Float => put(out, b'f', &float_bits(text.as_bytes())?.to_be_bytes()),
+        AMQPType::Double => put(out, b'd', &double_bits(text.as_bytes())?.to_be_bytes()),
         _ => return None,
     };
     Some(done)
+}
+
+/// The bits of the nearest Float, if that is finite.
+pub(crate) fn float_bits(text: &[u8]) -> Option<u32>
+    ensures { result ≡ float_of binary32 text.now }
+{
+    let x: f32 = fast_float::parse(text).ok()?;
+    if x.is_finite() {
+        Some(x.to_bits())
+    } else {
+        None
+    }
+}
+
+/// The bits of the nearest Double, if that is finite.
+pub(crate) fn double_bits(text: &[u8]) -> Option<u64>
+    ensures { result ≡ float_of binary64 text.now }
+{
+    let x: f64 = fast_float::parse(text).ok()?;
+    if x.is_finite() {
+        Some(x.to_bits())
+    } else {
+        None
+    }
+}
+
+/// A number without a type's name: a Double if it has a point or an exponent, otherwise a LongLongInt.
+pub(crate) fn put_plain_number(out: &mut Vec<u8>, text: &str, at: usize) -> Result<(), JsonError>
+    ensures ok { OnOk result (PutsEncodingOf (λ v. number_as (number_type text.now) text.now ≡ Some v)
+        out.old.items out.new.items) }
+    ensures refused { IfErr result (λ e. OnMismatch e (number_as (number_type text.now) text.now ≡ None)) }
+    ensures size { IfErr result (λ e. e ≢ TooLarge) }
+{
+    put_number(out, type_of_number(text), text, at)
+}
+
+fn type_of_number(text: &str) -> AMQPType
+    ensures { result ≡ number_type text.now }
+{
+    if has_mark(text.as_bytes()) {
+        AMQPType::Double
+    } else {
+        AMQPType::LongLongInt
+    }
+}
+
+// Whether there is a point or the letter of an exponent.
+fn has_mark(text: &[u8]) -> bool
+    ensures { result ≡ list_any is_mark text.now }
+{
+    text.iter().any(|c| is_mark(*c))
+}
+
+fn is_mark(c: u8) -> bool
+    ensures { result ≡ is_mark c }
+{
+    c == b'.' || c == b'e' || c == b'E'
 }
 
 // A decimal.

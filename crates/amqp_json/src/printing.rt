@@ -1,6 +1,7 @@
 //! From a `ValueRef` to its JSON text in a buffer, without allocating. Text that doesn't fit is
 //! counted.
 
+mod decimals;
 mod leaves;
 mod put;
 mod tokens;

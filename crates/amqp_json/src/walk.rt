@@ -13,7 +13,7 @@ ghost use Rattle.amqp_json.specs.Puts.{PutsEncodingOf, PutsValues, PutsPairs, Is
 
 use crate::error::{JsonError, Mismatch, SyntaxError};
 use crate::keys::{Key, key_of, type_of_name};
-use crate::named::{other_kind, put_number, put_string};
+use crate::named::{other_kind, put_number, put_plain_number, put_string};
 use crate::put::{fill_length, put, put_counted, put_head, put_key};
 use amqp_value_core::types::AMQPType;
 use json::{Reader, Token};
@@ -60,7 +60,7 @@ fn put_value(
     match token {
         Token::Null => put(out, b'V', &[]),
         Token::Bool(b) => put(out, b't', &[u8::from(b)]),
-        Token::Number(text) => put_number(out, AMQPType::LongLongInt, text, at),
+        Token::Number(text) => put_plain_number(out, text, at),
         Token::String(text) => put_counted(out, b'S', text.as_bytes()),
         Token::BeginArray => {
             if depth == 0 {

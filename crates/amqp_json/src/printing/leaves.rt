@@ -2,7 +2,7 @@
 
 // The tactic at the function names the lemmas on bytes that are UTF-8, and on others.
 
-ghost use Rattle.std.specs.Prelude.{◌≡◌, ◌∷◌, [], codes, decimal};
+ghost use Rattle.std.specs.Prelude.{◌≡◌, ◌≤◌, ◌∷◌, [], codes, decimal};
 ghost use Rattle.std.specs.Int.{w32, w64, to_be_bytes};
 ghost use Rattle.std.specs.Fmt.{signed_decimal};
 ghost use Rattle.hex.specs.Hex.{encode_lower};
@@ -11,11 +11,14 @@ ghost use Rattle.json.specs.Token.{begin_object, end_object, key, number, string
 ghost use Rattle.amqp_value_core.specs.Values.{Tree};
 ghost use Rattle.amqp_in_place.specs.Heads.{IsPlainRef};
 ghost use Rattle.amqp_in_place.specs.Refs.{Denotes};
-ghost use Rattle.amqp_json.specs.Written.{decimal_text, long_written, written};
-ghost use Rattle.amqp_json.specs.Printing.{PutsTokens, PutsJson};
+ghost use Rattle.amqp_json.specs.Written.{decimal_text, double_written, float_written, long_written, written};
+ghost use Rattle.amqp_json.specs.Decimals.{float_text, places_of};
+ghost use Rattle.std.specs.Float.{binary32, binary64};
+ghost use Rattle.amqp_json.specs.Printing.{PutsTokens, PutsJson, format_of, bits_of};
 
 use super::Place;
-use super::tokens::{put_decimal, put_digits, put_token};
+use super::decimals::{FloatBits, places_of};
+use super::tokens::{put_decimal, put_digits, put_float_token, put_token};
 use amqp_in_place::ValueRef;
 use amqp_value_core::types::DecimalValue;
 use itoa::Buffer;
@@ -100,20 +103,40 @@ fn digits(buffer: &mut [u8], place: Place, name: &str, bytes: &[u8]) -> Place
     put_token(buffer, place, Token::EndObject)
 }
 
+// Its decimal text, if it has one, otherwise its bits.
 #[inline(never)]
 fn float(buffer: &mut [u8], place: Place, bits: u32) -> Place
-    ensures { PutsTokens buffer.old place buffer.new result
-        (begin_object ∷ key (codes "$Float") ∷ string (encode_lower (to_be_bytes w32 bits)) ∷ end_object ∷ []) }
+    ensures { PutsJson buffer.old place buffer.new result (float_written (places_of binary32 bits) bits) }
 {
-    digits(buffer, place, "$Float", &bits.to_be_bytes())
+    let float = FloatBits::Float(bits);
+    match places_of(float) {
+        Some(places) => named_float(buffer, place, float, places),
+        None => digits(buffer, place, "$Float", &bits.to_be_bytes()),
+    }
 }
 
 #[inline(never)]
-fn double(buffer: &mut [u8], place: Place, bits: u64) -> Place
+fn named_float(buffer: &mut [u8], place: Place, float: FloatBits, places: u32) -> Place
+    requires { places ≤ 18 }
     ensures { PutsTokens buffer.old place buffer.new result
-        (begin_object ∷ key (codes "$Double") ∷ string (encode_lower (to_be_bytes w64 bits)) ∷ end_object ∷ []) }
+        (begin_object ∷ key (codes "$Float") ∷ number (float_text (format_of float) (bits_of float) places) ∷ end_object ∷ []) }
 {
-    digits(buffer, place, "$Double", &bits.to_be_bytes())
+    let place = put_token(buffer, place, Token::BeginObject);
+    let place = put_token(buffer, place, Token::Key("$Float"));
+    let place = put_float_token(buffer, place, float, places);
+    put_token(buffer, place, Token::EndObject)
+}
+
+// Its decimal text, if it has one, otherwise its bits.
+#[inline(never)]
+fn double(buffer: &mut [u8], place: Place, bits: u64) -> Place
+    ensures { PutsJson buffer.old place buffer.new result (double_written (places_of binary64 bits) bits) }
+{
+    let double = FloatBits::Double(bits);
+    match places_of(double) {
+        Some(places) => put_float_token(buffer, place, double, places),
+        None => digits(buffer, place, "$Double", &bits.to_be_bytes()),
+    }
 }
 
 #[inline(never)]

@@ -1,15 +1,17 @@
 //! `put_token`: puts one JSON token into a buffer, with a comma before it if one is needed; and the
 //! tokens of keys, of hexadecimal digits and of decimals.
 
-ghost use Rattle.std.specs.Prelude.{◌≡◌, ◌∷◌, [], ◌++◌, ◌&&◌, cond, true, decimal};
+ghost use Rattle.std.specs.Prelude.{◌≡◌, ◌≤◌, ◌∷◌, [], ◌++◌, ◌&&◌, cond, true, decimal};
 ghost use Rattle.hex.specs.Hex.{encode_lower};
-ghost use Rattle.json.specs.Token.{key, string};
+ghost use Rattle.json.specs.Token.{key, number, string};
 ghost use Rattle.json.specs.Reads.{token_of};
 ghost use Rattle.json.specs.Print.{begins, ends, escape, token_text};
-ghost use Rattle.amqp_json.specs.Printing.{PutsBytes, PutsTokens};
+ghost use Rattle.amqp_json.specs.Printing.{PutsBytes, PutsTokens, format_of, bits_of};
 ghost use Rattle.amqp_json.specs.Written.{is_marked, written_key, decimal_text};
+ghost use Rattle.amqp_json.specs.Decimals.{float_text};
 
 use super::Place;
+use super::decimals::{FloatBits, put_float};
 use super::put::{put, put_escaped, put_hexadecimal};
 use amqp_value_core::types::DecimalValue;
 use itoa::Buffer;
@@ -62,6 +64,24 @@ pub(crate) fn put_digits(buffer: &mut [u8], place: Place, bytes: &[u8]) -> Place
     let at = put_hexadecimal(buffer, at, bytes);
     Place {
         count: put(buffer, at, b"\""),
+        after_value: true,
+    }
+}
+
+/// A float's text with so many digits after the point.
+pub(crate) fn put_float_token(
+    buffer: &mut [u8],
+    place: Place,
+    float: FloatBits,
+    places: u32,
+) -> Place
+    requires { places ≤ 18 }
+    ensures { PutsTokens buffer.old place buffer.new result
+        (number (float_text (format_of float) (bits_of float) places) ∷ []) }
+{
+    let at = put_separator(buffer, place, true);
+    Place {
+        count: put_float(buffer, at, float, places),
         after_value: true,
     }
 }

@@ -6,11 +6,10 @@ use Rattle.json.specs.Token.{Token}
 use Rattle.json.specs.Json.{value, parse_map, after_end_array, read_key}
 use Rattle.json.specs.Reads.{token_of}
 use Rattle.json.proofs.Grammar.{value_is, read_key-shorter}
-use Rattle.amqp_value_core.specs.declared.types.amqp_type.AMQPType.TheVariants as amqp
 use Rattle.amqp_value_core.specs.Values.{array, scalar, void, boolean}
 use Rattle.amqp_value_core.specs.Grammar.{long_field}
 use Rattle.amqp_value_core.specs.Texts.{text}
-use Rattle.amqp_json.specs.Meaning.{meaning, meanings, pairs_of, number_as, table_of, is_type_key}
+use Rattle.amqp_json.specs.Meaning.{meaning, meanings, pairs_of, number_as, number_type, table_of, is_type_key}
 use Rattle.amqp_json.specs.Puts.{OnMismatch, PutsEncodingOf, IsNamed, IsRead, IsRefusal, items_at, members_at, array_of, object_meant, next_token, converted}
 use Rattle.amqp_json.proofs.ObjectKeys.{entry_fits, closer}
 use Rattle.amqp_json.proofs.MeantContainers.{converted-items, token_means, no_level, array_meant, object_is, table_is}
@@ -143,18 +142,18 @@ put_value-returns-in-Number-clause-ok t c =
     let s = c.next.new.self in
     let x = c.in-Number.text.now in
     let is : c.args.reader.now ≡ Token.number x ∷ s = search rules in
-    on_ok_weaker c.put_number.result (puts_weaker (λ v. number_as amqp.LongLongInt x ≡ Some v) (λ v. IsRead c.args.depth meaning (λ d. value d c.args.reader.now) v s) _ _
-    (λ v h d le. token_means d _ s (Token.number x) _ _ is (value_is d (Token.number x ∷ s)) h)) c.put_number.ensures.ok
+    on_ok_weaker c.put_plain_number.result (puts_weaker (λ v. number_as (number_type x) x ≡ Some v) (λ v. IsRead c.args.depth meaning (λ d. value d c.args.reader.now) v s) _ _
+    (λ v h d le. token_means d _ s (Token.number x) _ _ is (value_is d (Token.number x ∷ s)) h)) c.put_plain_number.ensures.ok
 
 pub put_value-returns-in-Number-clause-refused : goal.put_value-returns-in-Number-clause-refused
 put_value-returns-in-Number-clause-refused t c =
     let s = c.next.new.self in
     let x = c.in-Number.text.now in
     let is : c.args.reader.now ≡ Token.number x ∷ s = search rules in
-    IfErr-weaker c.put_number.result (λ e. OnMismatch e (number_as amqp.LongLongInt x ≡ None)) (λ e. IsRefusal c.args.depth e meaning value c.args.reader.now)
-    (λ e. refusal_by c.args.depth meaning value c.args.reader.now e (number_as amqp.LongLongInt x ≡ None)
+    IfErr-weaker c.put_plain_number.result (λ e. OnMismatch e (number_as (number_type x) x ≡ None)) (λ e. IsRefusal c.args.depth e meaning value c.args.reader.now)
+    (λ e. refusal_by c.args.depth meaning value c.args.reader.now e (number_as (number_type x) x ≡ None)
     (λ h d le. token_means d _ s (Token.number x) _ _ is (value_is d (Token.number x ∷ s)) h)
-    (λ h. wrong_first c.args.depth meaning value c.args.reader.now (Token.number x) s is (λ d us le. token_means d (Token.number x ∷ us) us (Token.number x) _ _ refl (value_is d (Token.number x ∷ us)) h))) c.put_number.ensures.refused
+    (λ h. wrong_first c.args.depth meaning value c.args.reader.now (Token.number x) s is (λ d us le. token_means d (Token.number x ∷ us) us (Token.number x) _ _ refl (value_is d (Token.number x ∷ us)) h))) c.put_plain_number.ensures.refused
 
 pub put_value-returns-in-String-clause-ok : goal.put_value-returns-in-String-clause-ok
 put_value-returns-in-String-clause-ok t c =

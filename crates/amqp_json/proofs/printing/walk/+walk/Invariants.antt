@@ -1,5 +1,5 @@
 -- Of the loops in `put_array` and `put_table`: what is put, with the tokens of what is left, is the
--- container's, and the keys so far ascend. A call has a shorter body than its caller.
+-- container's. A call has a shorter body than its caller.
 use Rattle.std.proofs.Common.{◌≡◌, ◌+◌, ◌*◌, ◌≤◌, ◌++◌, List, length}
 use Rattle.json.specs.Token.{Token}
 use Rattle.json.specs.Tree.{json_tokens, items_tokens, members_tokens}
