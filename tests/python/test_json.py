@@ -105,7 +105,7 @@ def test_messages() -> None:
     rows = {
         "[1, 2": "not JSON at 5: expected more text, since the JSON isn't complete",
         "['é']": "not JSON at 1: expected a character with which the JSON can go on",
-        '["é", 1.5]': "not a value at 6: expected JSON of a value: known names after $, integers in range, keys of 255 bytes",
+        '["é", -0]': "not a value at 6: expected JSON of a value: known names after $, numbers in range, keys of 255 bytes",
         '["\ud800"]': "lone surrogate at 2: expected text without surrogates, which have no UTF-8",
         "[[[]]]": "too deep at 2: expected brackets nested at most 2 deep",
     }

@@ -116,7 +116,7 @@ static void raise_wrong_text(const State *state, const Options *how, amqpv_resul
         break;
     case AMQPV_NOT_A_VALUE:
         raise_error(state, "not a value", offset, 0,
-                    "JSON of a value: known names after $, integers in range, keys of 255 bytes");
+                    "JSON of a value: known names after $, numbers in range, keys of 255 bytes");
         break;
     case AMQPV_NOT_UTF8: raise_error(state, "text not UTF-8", offset, 0, "bytes in UTF-8"); break;
     case AMQPV_TOO_DEEP:

@@ -4,7 +4,7 @@ use amqp_values::{from_json, table_from_json, table_to_json, to_json, Error, Lim
 
 const LIMITS: Limits = Limits::DEFAULT;
 /// Each type, as `docs/JSON.md` has it, and its encoding.
-const ROWS: [(&str, &[u8]); 20] = [
+const ROWS: [(&str, &[u8]); 21] = [
     ("null", b"V"),
     ("true", b"t\x01"),
     (r#"{"$ShortShortInt":-2}"#, b"b\xfe"),
@@ -14,8 +14,9 @@ const ROWS: [(&str, &[u8]); 20] = [
     (r#"{"$LongInt":5}"#, b"I\0\0\0\x05"),
     (r#"{"$LongUInt":4294967295}"#, b"i\xff\xff\xff\xff"),
     ("-5", b"l\xff\xff\xff\xff\xff\xff\xff\xfb"),
-    (r#"{"$Float":"3fc00000"}"#, b"f\x3f\xc0\0\0"),
-    (r#"{"$Double":"3ff0000000000000"}"#, b"d\x3f\xf0\0\0\0\0\0\0"),
+    (r#"{"$Float":1.5}"#, b"f\x3f\xc0\0\0"),
+    ("-0.25", b"d\xbf\xd0\0\0\0\0\0\0"),
+    (r#"{"$Double":"7ff8000000000000"}"#, b"d\x7f\xf8\0\0\0\0\0\0"),
     (r#"{"$DecimalValue":"314e-2"}"#, b"D\x02\0\0\x01\x3a"),
     (r#"{"$Timestamp":1800000000}"#, b"T\0\0\0\0\x6b\x49\xd2\0"),
     ("\"h\u{e9}\"", b"S\0\0\0\x03h\xc3\xa9"),
@@ -100,7 +101,7 @@ fn a_text_has_the_offset_of_what_is_wrong() {
         ("[1,]", ProblemKind::NotJson, 3),
         ("\"\u{e9}\" x", ProblemKind::NotJson, 5),
         (r#"{"$ShortInt":32768}"#, ProblemKind::NotAValue, 13),
-        (r#"{"a":[1.5]}"#, ProblemKind::NotAValue, 6),
+        (r#"{"a":[-0]}"#, ProblemKind::NotAValue, 6),
         (r#"{"$Boolean":true}"#, ProblemKind::NotAValue, 1),
     ] {
         assert_eq!(problem(from_json(text, LIMITS)), Some((kind, offset)), "{text}");
