@@ -143,7 +143,8 @@ def test_it_is_json_of_others() -> None:
 
 def test_equal_keys_and_their_order() -> None:
     data = field(b"F", b"\1bV" + b"\1at\1" + b"\1b" + field(b"A", b""))
-    assert own.to_json(data) == '{"a":true,"b":[]}'
+    assert own.to_json(data) == own.to_json(data[1:], table=True) == '{"b":null,"a":true,"b":[]}'
+    assert own.to_json(data, canonical=True) == own.to_json(data[1:], canonical=True, table=True) == '{"a":true,"b":[]}'
     assert own.from_json('{"b":null,"a":true,"b":[]}') == field(b"F", b"\1at\1" + b"\1b" + field(b"A", b""))
 
 
