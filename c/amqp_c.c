@@ -5,13 +5,13 @@
  *
  * generated/ has these functions compiled together with the proved ones, which are local symbols there.
  */
-#include "terminated.h"
+#include "amqp_values.h"
 
 amqpv_result amqpv_proved_read(const amqpv_input *in, amqpv_entry *entry, amqpv_problem *problem);
 amqpv_result amqpv_proved_measure(const amqpv_input *in, amqpv_size *size, amqpv_problem *problem);
 amqpv_result amqpv_proved_find(const amqpv_input *in, const amqpv_entry *from, const amqpv_step *path, size_t steps,
                                amqpv_entry *entry);
-amqpv_result amqpv_proved_write_json(const amqpv_input *in, char *buffer, size_t capacity, size_t *length);
+amqpv_result amqpv_proved_to_json(const amqpv_input *in, char *buffer, size_t capacity, size_t *length);
 
 amqpv_result amqpv_read(const amqpv_input *in, amqpv_entry *entry, amqpv_problem *problem) {
     amqpv_problem unused;
@@ -38,6 +38,13 @@ amqpv_result amqpv_find(const amqpv_input *in, const amqpv_entry *from, const am
     return amqpv_proved_find(in, from, path, steps, entry);
 }
 
-amqpv_result amqpv_write_json(const amqpv_input *in, char *buffer, size_t capacity, size_t *length) {
-    return terminated(amqpv_proved_write_json(in, buffer, capacity > 0 ? capacity - 1 : 0, length), buffer, length);
+amqpv_result amqpv_to_json(const amqpv_input *in, char *buffer, size_t capacity, size_t *length) {
+    /* (the last byte is for the NUL) */
+    amqpv_result result = amqpv_proved_to_json(in, buffer, capacity > 0 ? capacity - 1 : 0, length);
+    if (result == AMQPV_OK) {
+        buffer[*length] = 0;
+    } else if (result == AMQPV_NO_ROOM && *length < SIZE_MAX) {
+        ++*length;
+    }
+    return result;
 }

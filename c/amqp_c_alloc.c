@@ -1,16 +1,8 @@
-/*
- * Two calls of the C API that accept more than a function of Rattle can, as c/amqp_c.c has others: NULL for `problem`, and a text
- * that ends with a NUL.
- */
-#include "terminated.h"
+/* A call of the C API that accepts more than a function of Rattle can, as c/amqp_c.c has others: NULL for `problem`. */
+#include "amqp_values.h"
 
-amqpv_result amqpv_proved_to_json(const amqpv_input *in, char *buffer, size_t capacity, size_t *length);
 amqpv_result amqpv_proved_from_json(const char *text, size_t text_length, uint32_t nesting, uint8_t *buffer,
                                     size_t capacity, size_t *length, amqpv_problem *problem);
-
-amqpv_result amqpv_to_json(const amqpv_input *in, char *buffer, size_t capacity, size_t *length) {
-    return terminated(amqpv_proved_to_json(in, buffer, capacity > 0 ? capacity - 1 : 0, length), buffer, length);
-}
 
 amqpv_result amqpv_from_json(const char *text, size_t text_length, uint32_t nesting, uint8_t *buffer, size_t capacity,
                              size_t *length, amqpv_problem *problem) {

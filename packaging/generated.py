@@ -33,7 +33,6 @@ def stand_in(folder: Path, name: str) -> Path:
     own, sources = kit() / "toolchain", TOP / "c"
     shutil.copytree(TOP / "include", folder / "c")
     shutil.copytree(sources / "freestanding", folder / "c/freestanding")
-    shutil.copy(sources / "terminated.h", folder / "c")
     shutil.copy(sources / f"{name}.c", folder / "c/calls.c")
     if name == ALLOCATING:
         shutil.copy(MALLOC, folder / "c")

@@ -7,7 +7,7 @@ trusted as for other targets. `wasm-opt --memory64-lowering` makes the second of
 the other. The second isn't proved, but tested. A policy in the page allows these scripts and this style, by their SHA-256, and no
 request.
 
-The page draws what amqpv_proved_read, amqpv_next, amqpv_peek, amqpv_is_canonical and amqpv_proved_write_json return. They are
+The page draws what amqpv_proved_read, amqpv_next, amqpv_peek, amqpv_is_canonical and amqpv_proved_to_json return. They are
 proved, and the scripts aren't. The scripts read only hexadecimal, set a cursor of amqpv_next to what a cut container has, and have
 amqpv_peek read a lone number. The module allocates nothing. If it ends, for example since a stack is too small, the page
 makes it anew and says so. tests/web drives the page in Chromium, with both modules.

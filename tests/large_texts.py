@@ -15,6 +15,6 @@ def wrong_texts() -> Iterator[Wrong]:
         yield b'["' + letters + b'\n"]', NOT_JSON, count + 2
         yield b"[" + space + b"[]]", TOO_DEEP, count + 1
         yield b'{"a":"' + letters + b'","b":{}}', TOO_DEEP, count + 12
-        yield b"[" + space + b"1.5]", NOT_A_VALUE, count + 1
+        yield b"[" + space + b"-0]", NOT_A_VALUE, count + 1
         yield b"{" + space + b'"$Int":5}', NOT_A_VALUE, count + 1
         yield b"[" + space + b"\xff]", NOT_UTF8, count + 1

@@ -75,7 +75,7 @@ export class Module {
 
     // The JSON of the value, or null. It is written after the bytes.
     json(frame, depth) {
-        const from = PAGE + this.length, write = (capacity) => this.calls.amqpv_proved_write_json(
+        const from = PAGE + this.length, write = (capacity) => this.calls.amqpv_proved_to_json(
             this.input(frame, depth), this.address(from), BigInt(capacity), this.address(LENGTH));
         if (write(0) !== AMQPV.NO_ROOM) {
             return null;

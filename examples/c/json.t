@@ -80,7 +80,7 @@ every_type
   > 00 46 00000000                           # the empty key: an empty table
   > ff                                       # no part of the value
   > END
-  {"":{},"dec":{"$DecimalValue":"12345e-2"},"f32":{"$Float":"3fc00000"},"f64":{"$Double":"c004000000000000"},"flag":true,"i16":{"$ShortInt":-32768},"i32":{"$LongInt":-1},"i64":-9223372036854775808,"i8":{"$ShortShortInt":-2},"list":[{"$LongInt":7},[false,null]],"raw":{"$ByteArray":"00ff"},"sub":{"x":{"$ShortShortInt":5}},"text":{"$LongString":"6122ff"},"time":{"$Timestamp":1600000000},"u16":{"$ShortUInt":65535},"u32":{"$LongUInt":4294967295},"u8":{"$ShortShortUInt":254},"void":null}
+  {"flag":true,"i8":{"$ShortShortInt":-2},"u8":{"$ShortShortUInt":254},"i16":{"$ShortInt":-32768},"u16":{"$ShortUInt":65535},"i32":{"$LongInt":-1},"u32":{"$LongUInt":4294967295},"i64":-9223372036854775808,"f32":{"$Float":1.5},"f64":-2.5,"dec":{"$DecimalValue":"12345e-2"},"text":{"$LongString":"6122ff"},"raw":{"$ByteArray":"00ff"},"time":{"$Timestamp":1600000000},"void":null,"list":[{"$LongInt":7},[false,null]],"sub":{"x":null,"x":{"$ShortShortInt":5}},"":{}}
 
 unknown_tag_inside
   $ echo '41 00000001 7a   # in the body is 7a, which is no type tag' | json

@@ -251,10 +251,6 @@ def to_json(data: bytes, *limits: int) -> tuple[int, bytes | int]:
     return written("to_json", byref(given(data, *limits)), end=b"\0")
 
 
-def write_json(data: bytes, *limits: int) -> tuple[int, bytes | int]:
-    return written("write_json", byref(given(data, *limits)), end=b"\0")
-
-
 def from_json(text: bytes, nesting: int = NESTING) -> tuple[int, bytes | int, Found]:
     """The result, the encoding or the length that is set, and the problem."""
     problem = Problem.fresh()

@@ -94,7 +94,7 @@ static void try_levels(void) {
     calls++;
 }
 
-/* {"b": "aa..", "a": null}, whose keys descend, so that each of the four calls allocates. */
+/* {"b": "aa..", "a": null}, whose keys descend, so that each of the three calls that may allocate does. */
 static void try_calls_that_allocate(void) {
     static uint8_t bytes[LONG + 10], back[LONG + 15];
     static char json[LONG + 20];

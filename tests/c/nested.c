@@ -36,8 +36,6 @@ static void *make_call(void *unused) {
         result = amqpv_canonical(&in, buffer, sizeof buffer, &length);
     } else if (is_call("amqpv_to_json")) {
         result = amqpv_to_json(&in, (char *)buffer, sizeof buffer, &length);
-    } else if (is_call("amqpv_write_json")) {
-        result = amqpv_write_json(&in, (char *)buffer, sizeof buffer, &length);
     } else if (is_call("amqpv_from_json")) {
         result =
             amqpv_from_json((const char *)given, in.length, in.max_depth, buffer, sizeof buffer, &length, &problem);

@@ -78,8 +78,6 @@ int main(void) {
     TRY(AMQPV_NO_ROOM, amqpv_canonical(&full, at, 0, &all->length));
     TRY(AMQPV_MORE, amqpv_to_json(&in, (char *)all->buffer, 32, &all->length));
     TRY(AMQPV_NO_ROOM, amqpv_to_json(&full, (char *)at, 0, &all->length));
-    TRY(AMQPV_MORE, amqpv_write_json(&in, (char *)all->buffer, 32, &all->length));
-    TRY(AMQPV_NO_ROOM, amqpv_write_json(&full, (char *)at, 0, &all->length));
     TRY(AMQPV_NOT_JSON, amqpv_from_json(text, 0, 9, all->buffer, 32, &all->length, &all->problem));
     TRY(AMQPV_NO_ROOM, amqpv_from_json("[]", 2, 9, at, 0, &all->length, &all->problem));
     TRY(AMQPV_OK, amqpv_warn(&in, 0, 9, &all->warnings));

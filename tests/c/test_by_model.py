@@ -15,7 +15,7 @@ from tests import large_texts
 from tests.c import c_api
 from tests.c.c_api import ANY_KEYS, FIRST_KEY, INVALID, NONE, NOWHERE, OK, RABBITMQ, STREAMS, UNTAGGED
 from tests.model.json_format import LEVELS, Rejected, json_of, some_value, text_for, texts, value_of_json
-from tests.model.encoding import COUNTED, SIGNED, TYPES, extent, field, is_utf8, lack, read, write
+from tests.model.encoding import COUNTED, SIGNED, TYPES, extent, field, is_utf8, json_of_encoding, lack, read, write
 from tests.model.inputs import inputs, nested, untagged, value_of
 from tests.model.nesting import HEADER
 from tests.model.rules import doubtful, exceeds, unfit_for_streams
@@ -160,7 +160,7 @@ def test_flags(data: bytes) -> None:
         assert c_api.measure(data, flags) == (INVALID, None, None)
         assert c_api.is_canonical(data, flags) == INVALID
         assert c_api.warn(data, flags, 9, 0, 9) == (INVALID, None)
-        for call in (c_api.canonical, c_api.to_json, c_api.write_json):
+        for call in (c_api.canonical, c_api.to_json):
             assert call(data, flags) == (INVALID, 0)
         cursor = c_api.Cursor((0, 0), ord("A"))
         assert c_api.step(data, cursor, flags)[0] == NONE
@@ -472,27 +472,17 @@ def assert_written(data: bytes, left_out: int, others: int = 0) -> None:
     flags, limits = left_out, (left_out | others, c_api.MAX_BYTES, c_api.MAX_DEPTH)
     result, _ = wanted_problem(data, left_out, *limits[1:])
     if result != OK:
-        for call in (c_api.canonical, c_api.to_json, c_api.write_json):
+        for call in (c_api.canonical, c_api.to_json):
             assert call(data, *limits) == (result, 0), data.hex()
         return
-    value = read(b"F" * flags + data)[0]
-    wanted, text = write(value), json_of(value).encode()
+    value, text = read(b"F" * flags + data)[0], json_of_encoding(b"F" * flags + data).encode()
+    wanted = write(value)
     assert c_api.canonical(data, *limits) == (OK, wanted[flags:]), data.hex()
     assert c_api.to_json(data, *limits) == (OK, text)
     assert len(text) + 1 <= JSON_FOR_A_BYTE * (extent(b"F" * flags + data) - flags)
-    assert c_api.write_json(wanted[flags:], *limits) == (OK, text)
-    assert c_api.write_json(data, *limits) == ((OK, text) if ascends(b"F" * flags + data) else (c_api.UNORDERED, 0))
+    assert c_api.to_json(wanted[flags:], *limits) == (OK, json_of(value).encode())
     if text.count(b"[") + text.count(b"{") <= LEVELS:
         assert c_api.from_json(text) == (OK, wanted, None)
-
-
-def ascends(data: bytes) -> bool:
-    """Whether the keys of every table in a value ascend, each once."""
-    if data[:1] not in (b"A", b"F"):
-        return True
-    found = [*parts(data[: extent(data)])]
-    keys = [key[1:] for key, _ in found]
-    return (data[:1] == b"A" or all(a < b for a, b in zip(keys, keys[1:]))) and all(ascends(it) for _, it in found)
 
 
 # How keys begin: also with four and with eight bytes that are the same, as which they are compared.
@@ -500,7 +490,7 @@ FRONTS = [b"", b"x-", b"x-fi", b"x-first-", b"x-first-death-"]
 
 
 def test_tables_of_few_and_of_many_keys(seed: int) -> None:
-    """Up to 16 keys are sorted as they are found, more together: in both ways of equal keys the last counts."""
+    """Of equal keys the last counts, however many there are."""
     make = Random(seed)
     for count in [*range(2, 40)] * 50:
         keys = [make.choice(FRONTS) + bytes(make.choices(b"abc", k=make.randrange(4))) for _ in range(count)]
@@ -596,11 +586,10 @@ def test_much_memory() -> None:
     keys = [f"{it:07}" for it in range(40_000, 0, -1)]
     data = field(b"F", b"".join(b"\7" + it.encode() + b"V" for it in keys) + b"\1s" + field(b"S", b"a" * 2**20))
     text = "{" + "".join(f'"{it}":null,' for it in keys) + '"s":"' + "a" * 2**20 + '"}'
-    wanted, in_order = write(read(data)[0]), json_of(read(data)[0]).encode()
+    wanted = write(read(data)[0])
     limits = 0, 2**32 - 1, 1
     assert c_api.canonical(data, *limits) == (OK, wanted)
     assert c_api.to_json(data, *limits) == (OK, text.encode())
-    assert c_api.write_json(wanted, *limits) == (OK, in_order)
     assert c_api.from_json(text.encode()) == (OK, wanted, None)
     result, found = c_api.warn(data, 0, 1, 0, 1)
     assert result == OK and found and found["count"] == 0

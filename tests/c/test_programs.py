@@ -20,7 +20,7 @@ from building import AARCH64, COMPILERS
 from tests.c.compiling import FLAGS, HERE, OF_AARCH64, SANITIZERS, WRAPPED, C, Words, compiled, printed
 from tests.model import nesting
 from tests.model.json_format import json_of, text_for
-from tests.model.encoding import field, read, write
+from tests.model.encoding import field, json_of_encoding, read, write
 from tests.model.inputs import value_of
 from tests.model.tables import random_table, raw
 
@@ -62,12 +62,11 @@ def of_memory(make: Random) -> Iterator[tuple[str, int, bytes, bytes]]:
     strings = [field(b"S", b"a" * it) for it in (4093, 4094, 4095)]
     for data in [*given, *strings, large]:
         value = read(data)[0]
-        encoding, text = write(value), json_of(value).encode()
+        encoding, text = write(value), json_of_encoding(data).encode()
         for left_out in (0, 1) if data[:1] == b"F" else (0,):
             yield "canonical", left_out, data[left_out:], encoding[left_out:]
             yield "canonical", left_out, encoding[left_out:], encoding[left_out:]
             yield "to_json", left_out, data[left_out:], text
-            yield "write_json", left_out, encoding[left_out:], text
             yield "warn", left_out, data[left_out:], b""
         yield "from_json", 0, text, encoding
         yield "from_json", 0, text_for(make, value).encode(), encoding
@@ -78,7 +77,7 @@ def wrong_for_memory(make: Random) -> Iterator[tuple[str, int, bytes, int]]:
     for _ in range(10):
         table = raw(random_table(make, 2))
         text = json_of(read(table)[0]).encode()
-        yield "from_json", 0, b'{"b":%b,"a":1.5}' % text, NOT_A_VALUE
+        yield "from_json", 0, b'{"b":%b,"a":-0}' % text, NOT_A_VALUE
         yield "from_json", 0, b'{"b":%b,"a":{"$ByteArray":"0g"}}' % text, NOT_A_VALUE
         yield "from_json", 0, b"[%b,]" % text, NOT_JSON
         yield "from_json", 0, b'[%b,"\\x"]' % text, NOT_JSON

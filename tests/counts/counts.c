@@ -66,7 +66,7 @@ static amqpv_size measured;
 /* The path to the last entry, and to its last value if it is an array. */
 static amqpv_step path[2];
 /* What an input is: the calls are made if it is what they are for. */
-static int is_table, ends_in_array, is_canonical, is_not_canonical, is_ascending, is_not_ascending, has_text;
+static int is_table, ends_in_array, is_canonical, is_not_canonical, has_text;
 
 static amqpv_entry entry;
 static amqpv_size size;
@@ -88,7 +88,6 @@ static amqpv_result canonical(void) { return amqpv_canonical(&encoding, buffer, 
 static amqpv_result canonical_table(void) { return amqpv_canonical(&untagged, buffer, MOST, &count); }
 static amqpv_result to_json(void) { return amqpv_to_json(&encoding, json, MOST, &count); }
 static amqpv_result to_json_of_table(void) { return amqpv_to_json(&untagged, json, MOST, &count); }
-static amqpv_result write_json(void) { return amqpv_write_json(&encoding, json, MOST, &count); }
 static amqpv_result from_json(void) {
     return amqpv_from_json(text, text_length, NESTING, buffer, MOST, &count, &problem);
 }
@@ -216,10 +215,8 @@ static const call calls[] = {
     {"amqpv_canonical", canonical, &length, &is_not_canonical},
     {"amqpv_canonical of a table", canonical_table, &table_length, &is_not_canonical},
     {"amqpv_canonical of canonical bytes", canonical, &length, &is_canonical},
-    {"amqpv_to_json", to_json, &length, &is_not_ascending},
-    {"amqpv_to_json of a table", to_json_of_table, &table_length, &is_not_ascending},
-    {"amqpv_to_json of ascending keys", to_json, &length, &is_ascending},
-    {"amqpv_write_json", write_json, &length, &is_ascending},
+    {"amqpv_to_json", to_json, &length, &is_table},
+    {"amqpv_to_json of a table", to_json_of_table, &table_length, &is_table},
     {"amqpv_from_json", from_json, &text_length, &has_text},
     {"parse_value", parse, &length, &is_table},
     {"parse_value_within", parse_within, &length, &is_table},
@@ -307,10 +304,12 @@ static void prepare(const char *input) {
     }
     ends_in_array = path[1].index != SIZE_MAX;
     is_canonical = tell_canonical() == AMQPV_OK, is_not_canonical = !is_canonical;
-    is_ascending = write_json() == AMQPV_OK, is_not_ascending = !is_ascending;
-    amqpv_input for_text = encoding;
+    /* (a text whose keys ascend) */
+    size_t canonical_length;
+    has_text = amqpv_canonical(&encoding, buffer, MOST, &canonical_length) == AMQPV_OK;
+    amqpv_input for_text = input_of(buffer, canonical_length, 0);
     for_text.max_depth = NESTING - 2;
-    has_text = amqpv_to_json(&for_text, text, MOST, &text_length) == AMQPV_OK;
+    has_text = has_text && amqpv_to_json(&for_text, text, MOST, &text_length) == AMQPV_OK;
 }
 
 static void try_input(const char *name) {
@@ -318,7 +317,7 @@ static void try_input(const char *name) {
     FILE *file = fopen(name, "rb");
     length = fread(bytes, 1, MOST, file);
     fclose(file);
-    is_table = ends_in_array = is_canonical = is_not_canonical = is_ascending = is_not_ascending = has_text = 0;
+    is_table = ends_in_array = is_canonical = is_not_canonical = has_text = 0;
     measured = (amqpv_size){0, 0, 0};
     if (bytes[0] == AMQPV_TABLE) {
         prepare(input);

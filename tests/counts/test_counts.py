@@ -5,8 +5,7 @@ more, which another kit may need; a change of a loop makes more. Allocations and
 machine. The C library's own stack may vary by 256 bytes.
 
 If the input doubles, instructions may grow by 2.5 at most. They double if nothing is sorted, and to sort n keys takes n log n
-comparisons, which grow by 2.2. JSON of up to 1 KiB is written in one pass, and longer JSON in two, which grows by 2.4. Those of
-a call that is quadratic grow by 4.
+comparisons, which grow by 2.2. Those of a call that is quadratic grow by 4.
 
 A call that has no allocation in its row may not allocate. `--write` leaves such a row, so that it has to be changed by hand.
 """
@@ -167,10 +166,6 @@ STATED: dict[str, tuple[str, Callable[[Taken], float]]] = {
         "145 per byte, or 4 per byte and 860 per value",
         lambda it: min(145 * it.given, 4 * it.given + 860 * it.values),
     ),
-    "amqpv_to_json": (
-        "157 per byte, or 15 per byte and 860 per value",
-        lambda it: min(157 * it.given, 15 * it.given + 860 * it.values),
-    ),
     "amqpv_from_json": ("180 per byte of the text", lambda it: 180 * it.given),
     "amqpv_warn": (
         "50 per byte, or 39 per value and 248 per level",
@@ -196,7 +191,7 @@ def test_held_is_stated(call: str, found: dict[str, OfCall]) -> None:
 
 
 def test_held_of_keys_that_ascend(found: dict[str, OfCall]) -> None:
-    """amqpv_from_json takes what the header states if the keys of every object ascend, as in every text of amqpv_to_json."""
+    """amqpv_from_json takes what the header states if the keys of every object ascend, as in the text of a canonical encoding."""
     (stated,) = re.findall(r"per byte of the text; (\d+) if the keys of every object ascend", HEADER.read_text())
     of_call = {name: it for name, it in found["amqpv_from_json"].items() if not name.endswith("before a lower key")}
     large = {name: it for name, it in of_call.items() if it.given >= LARGE}

@@ -24,9 +24,8 @@ LISTED = {
     ("amqp_json/src/printing.rt", "Err(_) => Err(EncodeError::OutOfMemory),"),
     # the bytes are the encoding of a value, so reading them fails only for want of memory
     ("amqp_json/src/reading.rt", "Err(_) => Err(JsonError::OutOfMemory),"),
-    # these calls fail only for want of memory: their error is an AllocError
+    # this call fails only for want of memory: its error is an AllocError
     ("amqp_c_alloc/src/canonical.rt", "return Err(Fault::NoMemory);"),
-    ("amqp_c_alloc/src/json.rt", "return Err(Fault::NoMemory);"),
 }
 # The lines that ask for memory by a number, and what bounds that.
 BY_NUMBER = {
@@ -40,7 +39,6 @@ BY_NUMBER = {
     "self.resize(at + n, 0)?;": "the same",
     "let mut bytes = Vec::with_capacity(alloc, chunk.len())?;": "bytes that are there",
     "let mut out = Vec::with_capacity(alloc, text.len())?;": "a text that is there",
-    "let mut first = vec![in alloc; 0u8; len_inside(value).saturating_mul(4)]?;": "four bytes for each of a value that was read",
     "let mut text = vec![in alloc; 0u8; end.count]?;": "a text that was measured",
     "bytes.reserve(input.input_len())?;": "bytes that are there",
     "let mut bytes = vec![in alloc; 0; capacity]?;": "the bytes that a value was read from",

@@ -105,10 +105,9 @@ ARRAYS = [
 IN_ORDER = [f"[{it}]".encode() for it in ARRAYS]
 # The same before a lower key, as texts and as encodings in that order.
 FALLING = [f'{{"b":[{it}],"a":0}}'.encode() for it in ARRAYS]
-ENCODED = [field(b"F", b"\1b" + write(value_of_json(it)) + b"\1at\0") for it in IN_ORDER]
+ENCODED = [field(b"F", b"\1b" + write(value_of_json(it)) + b"\1al" + bytes(8)) for it in IN_ORDER]
 # A call, its inputs, and how docs/JSON.md says what it requests of them.
 REQUESTED = [
-    ("json_of_encoding", ENCODED, "those of the text, if the keys of each table ascend; otherwise {} for each byte"),
     ("to_json", [write(value_of_json(it)) for it in IN_ORDER], "`to_json` | {} for each byte"),
     ("encoding_of_json", IN_ORDER, "`encoding_of_json` | {} for each byte"),
     ("encoding_of_json", FALLING, "if the keys of each object ascend; otherwise {}"),
@@ -127,11 +126,12 @@ def test_memory_of_json(call: str, inputs: list[bytes], words: str, preloaded: P
     assert asked <= int(said[0]) < 2 * asked
 
 
-def test_memory_of_json_in_order(preloaded: Preloaded) -> None:
-    """`json_of_encoding` requests as many bytes as the text has, if the keys of each table ascend."""
-    inputs = [write(value_of_json(it)).hex() for it in IN_ORDER]
-    lines = preloaded.lines([program(CALLS)], [f"nest json_of_encoding 200 {it}" for it in inputs])
-    assert [(it.said, it.asked) for it in lines] == [("done", len(it)) for it in IN_ORDER]
+def test_memory_of_a_text(preloaded: Preloaded) -> None:
+    """`json_of_encoding` requests as many bytes as the text has."""
+    assert "`json_of_encoding` | those of the text |" in (TOP / "docs/JSON.md").read_text()
+    inputs = [*(write(value_of_json(it)) for it in IN_ORDER), *ENCODED]
+    lines = preloaded.lines([program(CALLS)], [f"nest json_of_encoding 200 {it.hex()}" for it in inputs])
+    assert [(it.said, it.asked) for it in lines] == [("done", len(it)) for it in [*IN_ORDER, *FALLING]]
 
 
 # Address space

@@ -116,9 +116,9 @@ def status_on(stack: int, words: str, given: bytes) -> int:
 @pytest.mark.parametrize("form", nesting.FORMS.values(), ids=nesting.FORMS)
 @pytest.mark.parametrize("words", ("", "--bytes", "--json"), ids=("tree", "bytes", "JSON"))
 def test_shown_deep(form: str, words: str) -> None:
-    given = nesting.unordered(form, 1000) if words == "--json" else nesting.encoding(form, 1000)
+    given = nesting.encoding(form, 1000)
     assert status_on(stack_of_show(), words, given) == 0
 
 
 def test_half_of_the_stack() -> None:
-    assert status_on(stack_of_show() // 2, "--json", nesting.unordered("F", 1000)) < 0, "it is enough"
+    assert status_on(stack_of_show() // 2, "--json", nesting.encoding("F", 1000)) < 0, "it is enough"

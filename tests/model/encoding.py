@@ -47,8 +47,8 @@ class Unread(Exception):
     """Why there is no value, as amqp_wire prints it, or nothing."""
 
 
-def read(data: bytes) -> tuple[Value, bytes]:
-    """Returns the value at the start of some bytes, and what is left after it."""
+def read(data: bytes, table: type = dict) -> tuple[Value, bytes]:
+    """Returns the value at the start of some bytes, and what is left after it. A table may be a list of its pairs instead."""
     if needs := lack(data):
         raise Unread(f"more {needs}")
     tag, end = chr(data[0]), extent(data)
@@ -58,29 +58,36 @@ def read(data: bytes) -> tuple[Value, bytes]:
     if tag == "t":
         content = bytes([content != b"\0"])
     try:
-        content = items(content) if tag == "A" else entries(content) if tag == "F" else content
+        content = items(content, table) if tag == "A" else entries(content, table) if tag == "F" else content
     except (Unread, UnicodeDecodeError):
         raise Unread("refused Eof") from None
     return (ALTERNATE.get(tag, tag), content), data[end:]
 
 
-def items(body: bytes) -> list[Value]:
+def items(body: bytes, table: type) -> list[Value]:
     found = []
     while body:
-        value, body = read(body)
+        value, body = read(body, table)
         found.append(value)
     return found
 
 
-def entries(body: bytes) -> dict[bytes, Value]:
-    found = {}
+def entries(body: bytes, table: type) -> Any:
+    found = []
     while body:
         key, body = body[: 1 + body[0]], body[1 + body[0] :]
         if len(key) <= key[0]:
             raise Unread("cut")
         key[1:].decode("utf-8")
-        found[key[1:]], body = read(body)
-    return found
+        value, body = read(body, table)
+        found.append((key[1:], value))
+    # (of equal keys a dict keeps the last value)
+    return table(found)
+
+
+def json_of_encoding(data: bytes) -> str:
+    """The JSON text of the encoding at the start of some bytes."""
+    return json_format.json_of(read(data, list)[0])
 
 
 def write(value: Value) -> bytes:

@@ -4,13 +4,17 @@ They share nothing with the crates. Below them is what makes values and texts to
 """
 
 import json
+import math
 import re
+import struct
 from collections.abc import Iterable, Iterator
 from contextlib import suppress
+from decimal import Decimal
+from fractions import Fraction
 from random import Random
 from typing import Any
 
-# The type tag that a value is written with, and its content: of a table a dict, of an array a list, else bytes.
+# The type tag that a value is written with, and its content: of a table a dict, or a list of pairs, of an array a list, else bytes.
 Value = tuple[str, Any]
 
 # How many arrays and objects may be open in a text.
@@ -21,7 +25,8 @@ INTEGERS = {
     "ShortUInt": ("u", 2, False), "LongInt": ("I", 4, True), "LongUInt": ("i", 4, False),
     "LongLongInt": ("l", 8, True), "Timestamp": ("T", 8, False),
 }  # fmt: skip
-# The types under whose name are hexadecimal digits: the type tag, and how many bytes, or None for any number.
+# The types under whose name are hexadecimal digits, of a float also a number: the type tag, and how many bytes, or None for any
+# number.
 DIGITS = {"Float": ("f", 4), "Double": ("d", 8), "LongString": ("S", None), "ByteArray": ("x", None)}
 NAMES = {tag: name for name, (tag, *_) in [*INTEGERS.items(), *DIGITS.items()]}
 # How many bytes a value has of each type without a length before it.
@@ -166,7 +171,7 @@ class Text:
         if name not in [*INTEGERS, *DIGITS, "DecimalValue"]:
             raise Rejected(at, "UnknownType")
         if self.peek() in (b"[", b"{"):
-            raise Rejected(self.at, "NotANumber" if name in INTEGERS else "NotAString")
+            raise Rejected(self.at, "NotANumber" if takes_numbers(name) else "NotAString")
         found = of_type(name, *self.scalar())
         if self.goes_on(b"}"):
             raise Rejected(self.key()[0], "NotAlone")
@@ -180,7 +185,7 @@ def is_name(key: str) -> bool:
 def plain(at: int, content: Any) -> Value:
     """The value of null, a boolean, a number or a string that is under no name."""
     if isinstance(content, Number):
-        return of_type("LongLongInt", at, content)
+        return of_type("Double" if re.search("[.eE]", content) else "LongLongInt", at, content)
     if isinstance(content, str):
         return "S", content.encode()
     return ("V", b"") if content is None else ("t", bytes([content]))
@@ -189,14 +194,14 @@ def plain(at: int, content: Any) -> Value:
 def of_type(name: str, at: int, content: Any) -> Value:
     """The value of what is under a type's name."""
     is_number = isinstance(content, Number)
-    if name in INTEGERS:
-        tag, width, is_signed = INTEGERS[name]
-        number = integer(content, width, is_signed) if is_number else None
+    if is_number and takes_numbers(name):
+        tag = (INTEGERS.get(name) or DIGITS[name])[0]
+        number = integer(content, *INTEGERS[name][1:]) if name in INTEGERS else float_of(content, tag)
         if number is None:
-            raise Rejected(at, "OutOfRange" if is_number else "NotANumber")
+            raise Rejected(at, "OutOfRange")
         return tag, number
-    if is_number or not isinstance(content, str):
-        raise Rejected(at, "NotAString")
+    if is_number or name in INTEGERS or not isinstance(content, str):
+        raise Rejected(at, "NotANumber" if takes_numbers(name) else "NotAString")
     if name == "DecimalValue":
         value, _, scale = content.partition("e-")
         number, exponent = integer(value, 4, False), integer(scale, 1, False)
@@ -212,6 +217,23 @@ def of_type(name: str, at: int, content: Any) -> Value:
     if not re.fullmatch("[0-9a-fA-F]*", content):
         raise Rejected(at, "NotHexadecimal")
     return tag, bytes.fromhex(content)
+
+
+def takes_numbers(name: str) -> bool:
+    return name in INTEGERS or name in ("Float", "Double")
+
+
+def float_of(text: str, tag: str) -> bytes | None:
+    """The float of a type that is nearest to a number, or nothing if it is too large."""
+    number = float(text)
+    if tag == "f" and 2.0**-160 < abs(number) < 2.0**130 and struct.pack(">d", number)[-1] % 2 == 0:
+        # (a Double that may be in the middle of two Floats goes to the side of it on which the number is)
+        off = Fraction(Decimal(text)) - Fraction(number)
+        number = math.nextafter(number, math.copysign(math.inf, (off > 0) - (off < 0))) if off else number
+    try:
+        return struct.pack(f">{tag}", number) if math.isfinite(number) else None
+    except OverflowError:
+        return None
 
 
 def integer(text: str, width: int, is_signed: bool) -> bytes | None:
@@ -279,7 +301,7 @@ def is_json(text: str) -> bool:
 
 
 def json_of(value: Value) -> str:
-    """The text that is written for a value."""
+    """The text that is written for a value, with a table's pairs as they are listed, or else by their keys."""
     tag, content = value
     match tag:
         case "V":
@@ -289,17 +311,34 @@ def json_of(value: Value) -> str:
         case "A":
             return f"[{','.join(map(json_of, content))}]"
         case "F":
-            return "{" + ",".join(f"{json_of_key(key)}:{json_of(it)}" for key, it in sorted(content.items())) + "}"
+            pairs = content if isinstance(content, list) else sorted(content.items())
+            return "{" + ",".join(f"{json_of_key(key)}:{json_of(it)}" for key, it in pairs) + "}"
         case "D":
             return f'{{"$DecimalValue":"{int.from_bytes(content[1:], "big")}e-{content[0]}"}}'
         case "S":
             with suppress(UnicodeDecodeError):
                 return quoted(content.decode())
     name = NAMES[tag]
+    if tag in "fd" and (text := decimal_of(tag, content)):
+        return text if tag == "d" else f'{{"${name}":{text}}}'
     if name in DIGITS:
         return f'{{"${name}":"{content.hex()}"}}'
     number = int.from_bytes(content, "big", signed=INTEGERS[name][2])
     return str(number) if tag == "l" else f'{{"${name}":{number}}}'
+
+
+def decimal_of(tag: str, content: bytes) -> str:
+    """The number with the fewest digits after the point that is read as a float, or nothing."""
+    (number,) = struct.unpack(f">{tag}", content)
+    if not math.isfinite(number) or abs(number) >= 2**64:
+        return ""
+    sign = "-" if content[0] & 128 else ""
+    for places in range(1, 19):
+        whole, fraction = divmod(math.floor(abs(Fraction(number)) * 10**places + Fraction(1, 2)), 10**places)
+        text = f"{sign}{whole}.{fraction:0{places}}"
+        if float_of(text, tag) == content:
+            return text
+    return ""
 
 
 def json_of_key(key: bytes) -> str:
@@ -329,6 +368,8 @@ def some_value(make: Random, levels: int) -> Value:
     if tag in "Sx":
         return tag, make.choice([make.randbytes(make.randrange(6)), make.choice(WORDS).encode()])
     width = WIDTHS[tag]
+    if tag in "fd" and make.random() < 0.5:
+        return tag, struct.pack(f">{tag}", round(make.uniform(-1, 1) * 10 ** make.randrange(19), make.randrange(20)))
     # (of any number of digits)
     number = make.getrandbits(8 * width) >> make.randrange(8 * width + 1)
     others = [bytes(width), b"\xff" * width, (b"\x80" + bytes(width))[:width]]
@@ -366,7 +407,7 @@ TOKEN = re.compile(r'("(?:[^"\\]|\\.)*")|([][{}:,])')
 VALUES = [
     "null", "true", "0", "-1", "9223372036854775807", "-9223372036854775808", '""', '"a"', "[]", "{}", '{"$LongLongInt":5}',
     '{"$LongString":"6f"}', '{"$ByteArray":"fF"}', '{"$$ShortInt":5}', '{"ShortInt":5}', '{"$DecimalValue":"1e-255"}',
-    '{"$Timestamp":18446744073709551615}', '{"$Float":"7FC00000"}',
+    '{"$Timestamp":18446744073709551615}', '{"$Float":"7FC00000"}', "2.5", "-0.0", "1E-7", '{"$Float":1}', '{"$Double":-1e-400}',
 ]  # fmt: skip
 # What is put in the place of something in a text.
 ODD = [
@@ -397,6 +438,8 @@ def respelled(make: Random, value: Value) -> str:
         return "{" + ",".join([*again, *members]) + "}"
     if tag == "l" and make.random() < 0.2:
         return f'{{"$LongLongInt":{json_of(value)}}}'
+    if tag in "fd" and make.random() < 0.2 and math.isfinite(number := struct.unpack(f">{tag}", content)[0]):
+        return f'{{"${NAMES[tag]}":{make.choice([repr(number), f"{number:.60e}"])}}}'
     if tag in "Sxfd" and make.random() < 0.2:
         return f'{{"${NAMES[tag]}":"{make.choice([content.hex(), content.hex().upper()])}"}}'
     return json_of(value)

@@ -40,17 +40,6 @@ def encoding(form: str, depth: int, innermost: bytes = b"V") -> bytes:
     return nested(form, depth, innermost, KEY)
 
 
-def unordered(form: str, depth: int) -> bytes:
-    """An encoding that nests that deep, in each of its tables a second key below the first."""
-    tags, below = (form * depth)[:depth], b"\x01AV"
-    parts, length = [b"V" + below * tags.count("F")], 1
-    for tag in reversed(tags):
-        key, size = (KEY, len(KEY) + length + len(below)) if tag == "F" else (b"", length)
-        parts.append(struct.pack(">cI", tag.encode(), size) + key)
-        length = 5 + size
-    return b"".join(reversed(parts))
-
-
 def payload(form: str, depth: int) -> bytes:
     """What follows the type tag of a table that has a pair, and nests that deep."""
     inner = KEY + encoding(form, depth - 1)
@@ -133,8 +122,7 @@ FOR_C = calls(
     ("amqpv_measure", READ, DEEPER),
     ("amqpv_is_canonical", NOT_CANONICAL, DEEPER),
     ("amqpv_canonical", NOT_CANONICAL, DEEP),
-    ("amqpv_to_json", {"": flagged(0, unordered), **UNTAGGED, **WRONG}, DEEP),
-    ("amqpv_write_json", READ, DEEP),
+    ("amqpv_to_json", READ, DEEP),
     ("amqpv_from_json", {how: flagged(0, it) for how, it in TEXTS.items()}, OF_JSON),
     ("amqpv_warn", {"": flagged(0, encoding), **UNTAGGED}, DEEPER),
 )
@@ -143,9 +131,8 @@ WARNS = "warnings"
 # The calls that test_calls makes: without a limit, within one, and on JSON.
 CALLS = calls(
     ("parse_value read_in_place_unlimited skip_value gen_value clone == to_json", {"": encoding}, UNLIMITED),
-    ("parse_value_within SplitInput ValueReader::next read_in_place to_owned", {"": encoding}, DEEPER),
+    ("parse_value_within SplitInput ValueReader::next read_in_place to_owned json_of_encoding", {"": encoding}, DEEPER),
     ("is_canonical canonical_len measure_value warnings", {"": encoding}, DEEPER),
-    ("json_of_encoding", {"": unordered}, DEEPER),
     ("from_json encoding_of_json encoding_of_json_within", TEXTS, OF_JSON),
 )
 

@@ -5,8 +5,8 @@ import re
 import pytest
 
 from tests.rows import bytes_of, stored
-from tests.model.json_format import Rejected, json_of, value_of_json
-from tests.model.encoding import Unread, read, write
+from tests.model.json_format import Rejected, value_of_json
+from tests.model.encoding import Unread, json_of_encoding, read, write
 
 ROWS = [it for it in stored("rust.calls") if it[0].startswith(("wire ", "parse_value "))]
 JSON_ROWS = [it for it in stored("json.calls") if it[0].startswith(("json ", "json_bytes ", "json_of_encoding "))]
@@ -54,10 +54,10 @@ def is_read(text: bytes, answer: str) -> bool:
 def is_written(data: bytes, answer: str) -> bool:
     """Whether an encoding has this answer by the model: its JSON text, and what is left."""
     try:
-        value, rest = read(data)
+        _, rest = read(data)
     except Unread as why:
         return answer.startswith(str(why).replace("refused", "error"))
-    text, found = json_of(value).encode(), JSON_OF_ENCODING.fullmatch(answer)
+    text, found = json_of_encoding(data).encode(), JSON_OF_ENCODING.fullmatch(answer)
     if not found:
         return False
     return (bytes_of(found[1]) if len(text) > LONG else found[1].encode(), bytes_of(found[2] or "-")) == (text, rest)

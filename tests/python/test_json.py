@@ -16,7 +16,7 @@ import pytest
 from tests import large_texts
 from tests.model.json_format import LEVELS, SPACE, Rejected, json_of, large_values, some_value, text_for, texts
 from tests.model.json_format import value_of_json
-from tests.model.encoding import field, read, write
+from tests.model.encoding import field, json_of_encoding, read, write
 from tests.model.inputs import FRAME, damaged, nested, value_of
 from tests.model.tables import first_problem, odd_table, random_table, raw
 from tests.python.test_package import predicted_error
@@ -32,11 +32,12 @@ def test_values_of_every_size(seed: int) -> None:
     make = Random(seed)
     for value in large_values(make, 2_000):
         data, text, wanted = raw(value), json_of(value), write(value)
-        assert own.to_json(data, **MOST) == text
+        assert own.to_json(data, **MOST) == json_of_encoding(data)
+        assert own.to_json(data, canonical=True, **MOST) == own.to_json(wanted, **MOST) == text
         assert own.from_json(text, **MOST) == own.from_json(text.encode(), **MOST) == wanted
         assert own.from_json(text_for(make, value), **MOST) == wanted
         if value[0] == "F":
-            assert own.to_json(data[1:], table=True, **MOST) == text
+            assert own.to_json(data[1:], table=True, canonical=True, **MOST) == text
             assert own.from_json(text, table=True, **MOST) == wanted[1:]
 
 
@@ -50,9 +51,13 @@ def test_bytes_that_may_be_no_value(seed: int) -> None:
                 wanted, given = predicted_error(data[is_table:], is_table), data[is_table:]
                 tried, read_ones = tried + 1, read_ones + (wanted is None)
                 if wanted:
-                    assert own_error(lambda: own.to_json(given, table=is_table)) == wanted, given.hex()
+                    for how in (False, True):
+                        found = own_error(lambda: own.to_json(given, table=is_table, canonical=how))
+                        assert found == wanted, given.hex()
                 else:
-                    assert own.to_json(given, table=is_table) == json_of(read(data)[0]), given.hex()
+                    assert own.to_json(given, table=is_table) == json_of_encoding(data), given.hex()
+                    text = own.to_json(given, table=is_table, canonical=True)
+                    assert text == json_of(read(data)[0]), given.hex()
     assert tried / 5 < read_ones < tried * 4 / 5
 
 
@@ -100,7 +105,7 @@ def test_messages() -> None:
     rows = {
         "[1, 2": "not JSON at 5: expected more text, since the JSON isn't complete",
         "['é']": "not JSON at 1: expected a character with which the JSON can go on",
-        '["é", 1.5]': "not a value at 6: expected JSON of a value: known names after $, integers in range, keys of 255 bytes",
+        '["é", -0]': "not a value at 6: expected JSON of a value: known names after $, numbers in range, keys of 255 bytes",
         '["\ud800"]': "lone surrogate at 2: expected text without surrogates, which have no UTF-8",
         "[[[]]]": "too deep at 2: expected brackets nested at most 2 deep",
     }
@@ -138,7 +143,8 @@ def test_it_is_json_of_others() -> None:
 
 def test_equal_keys_and_their_order() -> None:
     data = field(b"F", b"\1bV" + b"\1at\1" + b"\1b" + field(b"A", b""))
-    assert own.to_json(data) == '{"a":true,"b":[]}'
+    assert own.to_json(data) == own.to_json(data[1:], table=True) == '{"b":null,"a":true,"b":[]}'
+    assert own.to_json(data, canonical=True) == own.to_json(data[1:], canonical=True, table=True) == '{"a":true,"b":[]}'
     assert own.from_json('{"b":null,"a":true,"b":[]}') == field(b"F", b"\1at\1" + b"\1b" + field(b"A", b""))
 
 
@@ -235,7 +241,8 @@ keys = [f"{it:07}" for it in range(300_000, 0, -1)]
 text = "{" + ",".join(f'"{it}":null' for it in keys) + "}"
 data = av.dumps_table(dict.fromkeys(keys))
 most = 2**32 - 1
-calls = [lambda: av.to_json(data, table=True, max_bytes=most), lambda: av.from_json(text, table=True, max_bytes=most)]
+how = {"table": True, "max_bytes": most}
+calls = [lambda: av.to_json(data, canonical=True, **how), lambda: av.from_json(text, **how)]
 size = int(open("/proc/self/statm").read().split()[0]) * resource.getpagesize()
 for call in calls:
     resource.setrlimit(resource.RLIMIT_AS, (size + (16 << 20), resource.RLIM_INFINITY))

@@ -21,8 +21,10 @@ fn main() -> Result<()> {
         let given = bytes_of(digits);
         let text = || std::str::from_utf8(&given).expect("UTF-8");
         let made = match call {
-            "to_json" => to_json(&given, limits).map(String::into_bytes),
-            "table_to_json" => table_to_json(&given, limits).map(String::into_bytes),
+            "to_json" => to_json(&given, limits, false).map(String::into_bytes),
+            "table_to_json" => table_to_json(&given, limits, false).map(String::into_bytes),
+            "canonical_to_json" => to_json(&given, limits, true).map(String::into_bytes),
+            "canonical_table_to_json" => table_to_json(&given, limits, true).map(String::into_bytes),
             "from_json" => from_json(text(), limits),
             _ => table_from_json(text(), limits),
         };

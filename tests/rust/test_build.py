@@ -205,7 +205,7 @@ def clone(tmp_path_factory: pytest.TempPathFactory) -> Path:
 # A program that decodes a table with one key, by the calls that allocate too.
 MAIN = r"""
 fn main() {
-    println!("{}", amqp_values::table_to_json(b"\0\0\0\x04\x01at\x01", amqp_values::Limits::DEFAULT).unwrap());
+    println!("{}", amqp_values::table_to_json(b"\0\0\0\x04\x01at\x01", amqp_values::Limits::DEFAULT, false).unwrap());
 }
 """
 

@@ -9,7 +9,7 @@ import pytest
 
 from tests import large_texts
 from tests.model.json_format import LEVELS, SPACE, Rejected, json_of, large_values, texts, value_of_json
-from tests.model.encoding import TYPES, extent, lack, read, write
+from tests.model.encoding import TYPES, extent, json_of_encoding, lack, read, write
 from tests.model.inputs import damaged, nested, value_of
 from tests.model.tables import first_problem, odd_table, random_table, raw
 from tests.rust.cargo import CRATES, TARGET, assert_well, cargo, package, run
@@ -28,12 +28,13 @@ def problem(kind: str, offset: int) -> str:
     return f"Problem(Problem {{ offset: {offset}, kind: {kind} }})"
 
 
-def of_bytes(data: bytes, depth: int, left_out: int) -> Row:
+def of_bytes(data: bytes, depth: int, left_out: int, is_canonical: bool = False) -> Row:
     """A row for bytes, from which a table's type tag may be left out."""
-    given = f"{'table_' * left_out}to_json {depth} {data[left_out:].hex()}"
+    given = f"{'canonical_' * is_canonical}{'table_' * left_out}to_json {depth} {data[left_out:].hex()}"
     found = first_problem(data, "read", min(depth, MOST_DEPTH))
     if found is None:
-        return given, json_of(read(data)[0]).encode().hex()
+        text = json_of(read(data)[0]) if is_canonical else json_of_encoding(data)
+        return given, text.encode().hex()
     at, kind, tag = found
     if at == 0 and kind == 3 and (not data or chr(data[0]) in TYPES):
         return given, f"Incomplete {{ missing: {lack(data)} }}"
@@ -57,13 +58,15 @@ def rows(make: Random) -> Iterator[Row]:
             data = damaged(make, data) if make.random() < 0.3 else data
             # (the limit on bytes is another test's)
             if extent(data) < 2**32:
-                yield of_bytes(data, make.choice([0, 1, 2, 32]), number % 2 if data[:1] == b"F" else 0)
+                left_out, is_canonical = number % 2 if data[:1] == b"F" else 0, number % 3 == 0
+                yield of_bytes(data, make.choice([0, 1, 2, 32]), left_out, is_canonical)
         for text in texts(make, [value]):
             yield of_text(text, make.choice([1, 3, 32, LEVELS, 2**32 - 1]), number % 3 == 0)
     for form in ("A", "F", "AF"):
         for levels in (1, LEVELS - 1, LEVELS, LEVELS + 1, MOST_DEPTH, MOST_DEPTH + 1):
             data = nested(form, levels, b"V")
             yield of_bytes(data, 2**32 - 1, 0)
+            yield of_bytes(data, 2**32 - 1, 0, is_canonical=True)
             yield of_text(json_of(read(data)[0]).encode(), 2**32 - 1, False)
 
 

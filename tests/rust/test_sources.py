@@ -63,9 +63,9 @@ def test_stack(module: str) -> None:
 
 # The pages and modules that state the memory for each byte, and the calls of the C API that take it, in their order.
 MEMORY = {
-    "bindings/rust/amqp-values/src/json.rs": ("to_json", "from_json"),
+    "bindings/rust/amqp-values/src/json.rs": ("canonical", "from_json"),
     "bindings/rust/amqp-values/src/rabbitmq.rs": ("warn",),
-    "docs/PYTHON.md": ("to_json", "from_json"),
+    "docs/PYTHON.md": ("canonical", "from_json"),
 }
 
 

@@ -36,12 +36,11 @@ encode_not_utf8
 
 encode_number
   $ echo '{"a":[1,null,{"$Double":"3ff0000000000000"},{"b c":1.5}],"z":2.5}' | amqp_show --encode
-  2> amqp_show: "-": expected a LongLongInt (an integer from -9223372036854775808 to 9223372036854775807) at byte 51; 1.5 is {"$Double":"3ff8000000000000"}: 1.5}],"z":2.5}
-  [1]
+  4600000037016141000000256c000000000000000156643ff0000000000000460000000d03622063643ff8000000000000017a644004000000000000
 
 encode_exponent_in_upper_case
   $ echo '1E400' | amqp_show --encode
-  2> amqp_show: "-": expected a LongLongInt (an integer from -9223372036854775808 to 9223372036854775807) at byte 0: 1E400
+  2> amqp_show: "-": expected a Double (a number up to 1.7e308, or its bits as 16 hexadecimal digits in quotes) at byte 0: 1E400
   [1]
 
 encode_out_of_range
@@ -108,17 +107,15 @@ encode_not_hexadecimal
 
 encode_number_of_a_double
   $ echo '{"$Double":-1.5}' | amqp_show --encode
-  2> amqp_show: "-": expected a Double (its bits, as 16 hexadecimal digits in quotes) at byte 11; -1.5 is {"$Double":"bff8000000000000"}: -1.5}
-  [1]
+  64bff8000000000000
 
 encode_number_of_a_float
   $ echo '{"$Float": 1.5}' | amqp_show --encode
-  2> amqp_show: "-": expected a Float (its bits, as 8 hexadecimal digits in quotes) at byte 11; 1.5 is {"$Float":"3fc00000"}: 1.5}
-  [1]
+  663fc00000
 
 encode_digits_of_a_float
   $ echo '{"$Float":"3f80"}' | amqp_show --encode
-  2> amqp_show: "-": expected a Float (its bits, as 8 hexadecimal digits in quotes) at byte 10: "3f80"}
+  2> amqp_show: "-": expected a Float (a number up to 3.4e38, or its bits as 8 hexadecimal digits in quotes) at byte 10: "3f80"}
   [1]
 
 encode_not_a_decimal
@@ -211,14 +208,13 @@ encode_end_after_several_lines
   [1]
 
 encode_value_of_several_lines
-  $ printf '[\n1.5]' | amqp_show --encode
-  2> amqp_show: "-": expected a LongLongInt (an integer from -9223372036854775808 to 9223372036854775807) at byte 2 (line 2, column 1); 1.5 is {"$Double":"3ff8000000000000"}: 1.5]
+  $ printf '[\n-0]' | amqp_show --encode
+  2> amqp_show: "-": expected a LongLongInt (an integer from -9223372036854775808 to 9223372036854775807) at byte 2 (line 2, column 1): -0]
   [1]
 
 encode_long_number
   $ echo '3.141592653589793238462643383279502884' | amqp_show --encode
-  2> amqp_show: "-": expected a LongLongInt (an integer from -9223372036854775808 to 9223372036854775807) at byte 0; 3.1415926535897932384626433832.. is {"$Double":"400921fb54442d18"}: 3.1415926535897932384626433832
-  [1]
+  64400921fb54442d18
 
 encode_repeated_key_in_an_array
   $ echo '[0,{"a":[{"b":1,"b":2}]}]' | amqp_show --encode

@@ -5,9 +5,9 @@ json
   {"capabilities":{"basic.nack":true,"publisher_confirms":true},"platform":"Rust","product":"lapin","version":"2.3.1"}
   [{"count":2,"queue":"orders","reason":"expired","routing-keys":["new"],"time":{"$Timestamp":1700000000}}]
   {"x-max-length":{"$LongInt":10000},"x-message-ttl":{"$LongUInt":60000},"x-queue-type":"quorum"}
-  [false,{"$ShortShortInt":-1},{"$ShortShortUInt":255},{"$ShortInt":-2},{"$ShortUInt":65534},{"$LongInt":-3},{"$LongUInt":4294967293},-4,{"$Float":"3fc00000"},{"$Double":"bfd0000000000000"},{"$DecimalValue":"31415e-2"},"say \"hi\"\n",{"$ByteArray":"009bff"},[],{},{"$Timestamp":1},null]
-  {"":null,"a":1,"b":true}
-  2> amqp_show: "not_canonical.hex": offset 14: the key "a" comes again; only its last value is shown
+  [false,{"$ShortShortInt":-1},{"$ShortShortUInt":255},{"$ShortInt":-2},{"$ShortUInt":65534},{"$LongInt":-3},{"$LongUInt":4294967293},-4,{"$Float":1.5},-0.25,{"$DecimalValue":"31415e-2"},"say \"hi\"\n",{"$ByteArray":"009bff"},[],{},{"$Timestamp":1},null]
+  {"b":true,"a":{"$ShortInt":1},"a":1,"":null}
+  2> amqp_show: "not_canonical.hex": offset 14: the key "a" comes again; JSON parsers differ in which value they take
 
 json_follow
   $ echo 56 7401 | xxd -r -p | amqp_show --json
@@ -34,5 +34,5 @@ json_without_encode
 json_stream_repeated
   $ echo 56 4600000006 016156 016156 | xxd -r -p | amqp_show --stream --json
   null
-  {"a":null}
-  2> amqp_show: "-": offset 9: the key "a" comes again; only its last value is shown
+  {"a":null,"a":null}
+  2> amqp_show: "-": offset 9: the key "a" comes again; JSON parsers differ in which value they take

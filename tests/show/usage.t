@@ -36,11 +36,12 @@ help
     JSON to bytes for a test:
       echo '{"a":true,"b":{"$LongInt":5}}' | amqp_show --encode
 
-  JSON: an integer is a LongLongInt, a string a LongString, null a Void. Other types are named:
+  JSON: an integer is a LongLongInt, another number a Double, a string a LongString, null a Void.
+  Other types are named:
     {"$LongInt":5}, also ShortShortInt, ShortShortUInt, ShortInt, ShortUInt, LongUInt, Timestamp
-    {"$Double":"3ff8000000000000"}, the bits of 1.5, also Float
+    {"$Float":2.5}; NaN and others by their bits, {"$Double":"7ff8000000000000"}
     {"$ByteArray":"00ff"}, its digits, also LongString; {"$DecimalValue":"314e-2"}, 3.14
-  Keys are sorted. One that begins with $ is written with one more.
+  A table's pairs keep their order. A key that begins with $ is written with one more.
 
   --check rabbitmq is rabbitmq-4.0, the newest version that this program's tests run. 4.3 was
   tested by hand, and does the same; 3.11 to 3.13, 4.1 and 4.2 weren't tested.

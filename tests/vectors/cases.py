@@ -1,11 +1,14 @@
 """`CASES`: each `Case` of vectors/, and what this library and RabbitMQ must make of it, for this suite and others."""
 
 import json
+import re
 from pathlib import Path
 from typing import Any, NamedTuple
 
 from dependencies import TOP
 from comparing import bytes_of
+
+from tests.model.json_format import json_of
 
 VECTORS = TOP / "vectors"
 SCHEMA, IMPLEMENTATIONS = VECTORS / "schema.json", VECTORS / "implementations.json"
@@ -16,6 +19,8 @@ OF_GO = GO / "src/github.com/rabbitmq/amqp091-go"
 # How each error of the vectors is called: as a problem of tests/model/tables.py, and by the Python package.
 PROBLEMS = {"unknown tag": 1, "value cut": 3, "key cut": 4, "key not UTF-8": 7}
 NAMES = {it: it.removeprefix("value ") for it in PROBLEMS}
+# A float as its bits.
+FLOAT = re.compile(r'\{"\$(Float|Double)":"([0-9a-f]+)"\}')
 
 
 class Case(NamedTuple):
@@ -75,10 +80,10 @@ class Case(NamedTuple):
 
     @property
     def json(self) -> str | None:
-        """The text that is written for the value, or None if there is none."""
+        """The text that is written for the value, or None if there is none. (The cases have floats as bits.)"""
         if "text" in self.result:
             return "".join(it * times for it, times in self.result["text"])
-        return written(self.result["value"]) if "value" in self.result else None
+        return FLOAT.sub(float_written, written(self.result["value"])) if "value" in self.result else None
 
     def headers_from(self, version: str) -> bytes | None:
         """The headers that a version of RabbitMQ delivers, with their type tag; None if it closes the connection."""
@@ -87,6 +92,10 @@ class Case(NamedTuple):
             return self.headers if stated else None
         body = b"\1k" + bytes.fromhex(stated)
         return b"F" + (bytes.fromhex(stated) if self.is_table else len(body).to_bytes(4, "big") + body)
+
+
+def float_written(found: re.Match[str]) -> str:
+    return json_of(("f" if found[1] == "Float" else "d", bytes.fromhex(found[2])))
 
 
 def written(value: Any) -> str:

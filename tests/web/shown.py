@@ -96,6 +96,5 @@ def wanted(program: Path, given: Sequence[bytes], is_table: bool = False) -> Ite
             "outcome": said["="],
             "rabbitmq": "" if "truncated" in said["="] else rabbitmq(check),
             "canonical": None if text is None else not notes,
-            # (the page has none if the keys of a table don't ascend)
-            "json": None if text is None else "" if any("key" in it for it in notes) else text,
+            "json": text,
         }

@@ -372,19 +372,33 @@ def dumps_table(
     b'\x00\x00\x00\x04\x01at\x01'
     """
 
-def to_json(data: _Data, /, *, table: bool = False, depth: int = 32, max_bytes: int = 1048576) -> str:
+def to_json(
+    data: _Data,
+    /,
+    *,
+    canonical: bool = False,
+    table: bool = False,
+    depth: int = 32,
+    max_bytes: int = 1048576,
+) -> str:
     r"""Returns the JSON of the value that the bytes encode, or with table=True of the table without its type tag. A
-    type that plain JSON doesn't have is an object with one key; keys ascend, and of equal keys the last counts. Errors
-    are those of loads.
+    type that plain JSON doesn't have is an object with one key. Errors are those of loads.
+
+    Every pair of a table is written, in the order in which it is encoded. A key that comes again is written again: its
+    last value counts, but some JSON parsers take the first, and strict ones reject the text.
 
     Options, by name:
 
         table=False            True for a table without its type tag
+        canonical=False        True for keys that ascend, each once with its last value: equal values have equal texts
         depth=32               how deep containers nest at most, up to MOST_DEPTH; in a text brackets count, up to 127
         max_bytes=1048576      how many bytes the value has at most, the type tag of a table counted; a text has at most
                                12 times as many
 
-    >>> to_json(dumps_table({'b': b'\1', 'a': [ShortInt(5), 5]}), table=True)
+    >>> data = dumps_table({'b': b'\1', 'a': [ShortInt(5), 5]})
+    >>> to_json(data, table=True)
+    '{"b":{"$ByteArray":"01"},"a":[{"$ShortInt":5},5]}'
+    >>> to_json(data, table=True, canonical=True)
     '{"a":[{"$ShortInt":5},5],"b":{"$ByteArray":"01"}}'
     """
 
@@ -398,7 +412,7 @@ def from_json(
 ) -> bytes:
     r"""Returns the encoding of the value that a JSON text means, with its type tag, or with table=True of a table
     without it. It is the canonical one, in which keys ascend. The bracket of a named value counts for the depth. The
-    options are those of to_json.
+    options are those of to_json without canonical.
 
     Raises an Error if the text isn't the JSON of a value or a table, or if that is beyond the limits. Its offset counts
     the characters of a str, or the bytes of any other text.

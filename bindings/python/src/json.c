@@ -21,19 +21,38 @@ static int grow(Buffer *buffer, size_t capacity) {
     return grown != NULL;
 }
 
-PyObject *json_of(const Reader *reader, const amqpv_entry *entry) {
-    Buffer buffer = {NULL, 0, 0};
-    /* (most values have no longer text) */
-    buffer.length = 3 * entry->value.length + 64;
+/* Puts the JSON of what was read into a buffer. */
+static amqpv_result put_json(const amqpv_input *in, Buffer *text) {
     amqpv_result result = AMQPV_NO_ROOM;
-    for (int tries = 0; tries < 2 && result == AMQPV_NO_ROOM && grow(&buffer, buffer.length + 1); tries++) {
-        result = amqpv_to_json(&reader->in, buffer.bytes, buffer.capacity, &buffer.length);
+    /* (most values have no longer text) */
+    text->length = 3 * in->length + 64;
+    for (int tries = 0; tries < 2 && result == AMQPV_NO_ROOM && grow(text, text->length + 1); tries++) {
+        result = amqpv_to_json(in, text->bytes, text->capacity, &text->length);
     }
+    return result;
+}
+
+PyObject *json_of(const Reader *reader, const amqpv_entry *entry, int is_canonical) {
+    Buffer encoding = {NULL, 0, 0}, text = {NULL, 0, 0};
+    amqpv_input in = reader->in;
+    amqpv_result result = AMQPV_OK;
+    if (is_canonical) {
+        /* (no canonical encoding is longer than another of the value) */
+        result = AMQPV_NO_MEMORY;
+        if (grow(&encoding, entry->value.length)) {
+            result = amqpv_canonical(&in, (uint8_t *)encoding.bytes, encoding.capacity, &encoding.length);
+        }
+        in.bytes = (const uint8_t *)encoding.bytes, in.length = encoding.length;
+    }
+    if (result == AMQPV_OK) {
+        result = put_json(&in, &text);
+    }
+    PyMem_Free(encoding.bytes);
     /* (the value was read, so that only memory may be missing) */
-    PyObject *text =
-        result == AMQPV_OK ? PyUnicode_DecodeUTF8(buffer.bytes, (Py_ssize_t)buffer.length, "strict") : PyErr_NoMemory();
-    PyMem_Free(buffer.bytes);
-    return text;
+    PyObject *made =
+        result == AMQPV_OK ? PyUnicode_DecodeUTF8(text.bytes, (Py_ssize_t)text.length, "strict") : PyErr_NoMemory();
+    PyMem_Free(text.bytes);
+    return made;
 }
 
 /* Raises that a str has a surrogate, which has no UTF-8, instead of the UnicodeEncodeError. */
@@ -97,7 +116,7 @@ static void raise_wrong_text(const State *state, const Options *how, amqpv_resul
         break;
     case AMQPV_NOT_A_VALUE:
         raise_error(state, "not a value", offset, 0,
-                    "JSON of a value: known names after $, integers in range, keys of 255 bytes");
+                    "JSON of a value: known names after $, numbers in range, keys of 255 bytes");
         break;
     case AMQPV_NOT_UTF8: raise_error(state, "text not UTF-8", offset, 0, "bytes in UTF-8"); break;
     case AMQPV_TOO_DEEP:

@@ -35,6 +35,7 @@ static const struct {
     {"milliseconds", CLIENT, offsetof(Options, has_milliseconds), NULL, 0, 0},
     {"others", CLIENT, offsetof(Options, others), NULL, 0, 1},
     {"table", FIND | JSON, offsetof(Options, is_table), NULL, 0, 0},
+    {"canonical", TO_JSON, offsetof(Options, is_canonical), NULL, 0, 0},
     {"default", FIND, offsetof(Options, otherwise), NULL, 0, 1},
     {"offset", DECODE, offsetof(Options, offset), NULL, 0, 1},
 };
@@ -334,11 +335,11 @@ static PyObject *to_json(PyObject *module, PyObject *const *arguments, Py_ssize_
     Reader reader;
     PyObject *content = NULL, *made = NULL;
     amqpv_entry entry;
-    if (take(state, "to_json", 1, JSON, arguments, count, names, &how)) {
+    if (take(state, "to_json", 1, JSON | TO_JSON, arguments, count, names, &how)) {
         content = begin_reading(&reader, state, &how, arguments[0]);
     }
     if (content != NULL && read_whole(&reader, &entry)) {
-        made = json_of(&reader, &entry);
+        made = json_of(&reader, &entry, how.is_canonical);
     }
     Py_XDECREF(content);
     return documented(state, made);
@@ -385,6 +386,7 @@ static PyObject *from_json(PyObject *module, PyObject *const *arguments, Py_ssiz
 #define HELP_JSON \
     "\nOptions, by name:\n\n" \
     "    table=False            True for a table without its type tag\n" \
+    "    canonical=False        True for keys that ascend, each once with its last value: equal values have equal texts\n" \
     "    depth=32               how deep containers nest at most, up to MOST_DEPTH; in a text brackets count, up to 127\n" \
     "    max_bytes=1048576      how many bytes the value has at most, the type tag of a table counted; a text has at most\n" \
     "                           12 times as many\n\n"
@@ -443,16 +445,21 @@ static PyMethodDef FUNCTIONS[] = {
         ">>> dumps_table({'a': True})\n"
         "b'\\x00\\x00\\x00\\x04\\x01at\\x01'\n"),
     CALL(
-        to_json, "($module, data, /, *, " JSON_OPTIONS ")",
+        to_json, "($module, data, /, *, canonical=False, " JSON_OPTIONS ")",
         "Returns the JSON of the value that the bytes encode, or with table=True of the table without its type tag. A\n"
-        "type that plain JSON doesn't have is an object with one key; keys ascend, and of equal keys the last counts. Errors\n"
-        "are those of loads.\n" HELP_JSON ">>> to_json(dumps_table({'b': b'\\1', 'a': [ShortInt(5), 5]}), table=True)\n"
+        "type that plain JSON doesn't have is an object with one key. Errors are those of loads.\n\n"
+        "Every pair of a table is written, in the order in which it is encoded. A key that comes again is written again: its\n"
+        "last value counts, but some JSON parsers take the first, and strict ones reject the text.\n" HELP_JSON
+        ">>> data = dumps_table({'b': b'\\1', 'a': [ShortInt(5), 5]})\n"
+        ">>> to_json(data, table=True)\n"
+        "'{\"b\":{\"$ByteArray\":\"01\"},\"a\":[{\"$ShortInt\":5},5]}'\n"
+        ">>> to_json(data, table=True, canonical=True)\n"
         "'{\"a\":[{\"$ShortInt\":5},5],\"b\":{\"$ByteArray\":\"01\"}}'\n"),
     CALL(
         from_json, "($module, text, /, *, " JSON_OPTIONS ")",
         "Returns the encoding of the value that a JSON text means, with its type tag, or with table=True of a table\n"
         "without it. It is the canonical one, in which keys ascend. The bracket of a named value counts for the depth. The\n"
-        "options are those of to_json.\n\n"
+        "options are those of to_json without canonical.\n\n"
         "Raises an Error if the text isn't the JSON of a value or a table, or if that is beyond the limits. Its offset counts\n"
         "the characters of a str, or the bytes of any other text.\n\n"
         ">>> loads_table(from_json('{\"a\": {\"$ShortInt\": 5}}', table=True))\n"

@@ -43,15 +43,15 @@ enum { ALWAYS_L = 0, AS_PIKA = 1, AS_PIKA_1_3 = 2, AS_PY_AMQP = 3, SMALLEST = 4 
 /* The options of a call, as OPTIONS of module.c has them. The objects are borrowed, and may be NULL. */
 typedef struct {
     uint32_t keys, text, equal_keys, depth, max_bytes;
-    uint32_t is_plain, is_table, is_encoded, is_finite, has_naive_datetimes, has_signed_decimals;
+    uint32_t is_plain, is_table, is_encoded, is_canonical, is_finite, has_naive_datetimes, has_signed_decimals;
     /* how a client has it: as a Client of the adapters says */
     uint32_t is_of_client, integers, is_ascending, has_text_of_bytes, has_bytearrays, has_short_decimals;
     uint32_t has_aware_datetimes, has_milliseconds;
     PyObject *otherwise, *offset, *others;
 } Options;
 
-/* The options as bits, TABLE of reading a table alone, and those of reading, of writing, and of a client. */
-enum { FOR_BOTH = 1, READ = 2, WRITE = 4, FIND = 8, DECODE = 16, CLIENT = 32, JSON = 64, TABLE = 128 };
+/* The options as bits, TABLE of reading a table alone, JSON of both ways, and those of reading, of writing, and of a client. */
+enum { FOR_BOTH = 1, READ = 2, WRITE = 4, FIND = 8, DECODE = 16, CLIENT = 32, JSON = 64, TABLE = 128, TO_JSON = 256 };
 enum { READING = FOR_BOTH | READ, WRITING = FOR_BOTH | WRITE, ALL_OF_CLIENT = READING | WRITE | CLIENT };
 
 /* The options that a call has if none is given. */
@@ -114,8 +114,8 @@ PyObject *with_end(PyObject *made, size_t end);
 /* The bytes of a value, or of a table without its type tag. */
 PyObject *written(const State *state, const Options *how, PyObject *value);
 
-/* The JSON of a value that was read. */
-PyObject *json_of(const Reader *reader, const amqpv_entry *entry);
+/* The JSON of a value that was read, or of its canonical encoding. */
+PyObject *json_of(const Reader *reader, const amqpv_entry *entry, int is_canonical);
 
 /* The encoding of the value that a JSON text means, which is a str or bytes; or of a table, without its type tag. */
 PyObject *encoding_of_json(const State *state, const Options *how, PyObject *text);

@@ -1,5 +1,5 @@
 //! The calls of the C API that don't allocate: reading in place, building arrays and tables in a
-//! buffer, and writing JSON of tables whose keys ascend.
+//! buffer, and writing JSON.
 //!
 //! No call allocates, keeps state, prints or ends the process. Each checks what it is passed: whatever is in a cursor,
 //! an entry or a container, no byte outside the input is read, none outside the buffer is written, and each offset
@@ -269,18 +269,17 @@ pub extern "C" fn amqpv_close(buffer: &mut [u8], into: &mut Container, body: &Co
     store_closed(close(buffer, *into, *body), into)
 }
 
-/// Writes the JSON text of the value at the start of the input to the start of `buffer`. If the keys of a table don't
-/// ascend, it returns the code of `Unordered`, since it would have to allocate to sort them. After an error the buffer
-/// may have some of the text.
+/// Writes the JSON text of the value at the start of the input to the start of `buffer`, with every pair of a table in
+/// the order in which it is encoded. After an error the buffer may have some of the text.
 ///
 /// `length` becomes how many bytes were written, or the capacity that is needed, otherwise 0.
 #[unsafe(no_mangle)]
-pub extern "C" fn amqpv_proved_write_json(
+pub extern "C" fn amqpv_proved_to_json(
     input: &Input<'_>,
     buffer: &mut [u8],
     length: &mut usize,
 ) -> i32
-    ensures { WritesOrderedJson input.now buffer.old result buffer.new length.new }
+    ensures { WritesJson input.now buffer.old result buffer.new length.new }
 {
     return_length(put_json(input, buffer), length)
 }

@@ -1,29 +1,19 @@
--- Lemmas on `IsJsonPut` and `IsPutOrRejected`: the JSON text, or the encoding of one, that is put
--- into the buffer, and why nothing is.
-use Rattle.std.proofs.Common.{◌≡◌, ◌≤◌, ◌<◌, ◌^◌, ℕ, inr, None, List, length, Result, Ok, Err, MatchResult, sym, ap, ◌∙◌, subst, arith}
+-- Lemmas on `IsPutOrRejected`: the encoding of a JSON text that is put into the buffer, and why
+-- nothing is.
+use Rattle.std.proofs.Common.{◌≡◌, ◌≤◌, ℕ, None, List, length, Result, Ok, Err, MatchResult, sym, ap, ◌∙◌, subst, arith}
 use Rattle.std.specs.Prelude.{IfSome}
 use Rattle.std.specs.Str.{IsUtf8}
 use Rattle.amqp_value_core.specs.Values.{Tree}
 use Rattle.amqp_value_core.specs.Grammar.{Wire}
-use Rattle.amqp_value_core.specs.Outcomes.{found}
 use Rattle.amqp_value_core.specs.Texts.{text}
-use Rattle.amqp_value_core.proofs.GrammarLaws.{wire_found, one_outcome_within}
+use Rattle.amqp_value_core.proofs.GrammarLaws.{wire_found}
 use Rattle.amqp_json.specs.declared.error.JsonError.{JsonError}
 use Rattle.amqp_json.specs.declared.error.JsonError.TheVariants as json
-use Rattle.amqp_json.specs.Ascending.{OutOfOrder}
-use Rattle.amqp_json.specs.Conversions.{IsJsonOf, IsRefusedWithin, IsWithin}
+use Rattle.amqp_json.specs.Conversions.{IsRefusedWithin, IsWithin}
 use Rattle.amqp_json.specs.declared.error.SyntaxError.TheVariants.{UnexpectedEnd, UnfinishedString}
-use Rattle.amqp_json.specs.Views.{WritesText}
-use Rattle.amqp_json.specs.Written.{json_text, counted}
-use Rattle.amqp_json.proofs.InOrder.{not_both}
 use Rattle.amqp_c.specs.declared.fault.Fault.{Fault}
-use Rattle.amqp_c.specs.declared.fault.Fault.TheVariants.{NoRoom}
-use Rattle.amqp_c.specs.declared.input.Input.{Input}
 use Rattle.amqp_c.specs.CallResults.{IsPutAtStart, LacksRoom}
-use Rattle.amqp_c.specs.Inputs.{limits, encoding}
-use Rattle.amqp_c_alloc.specs.JsonCalls.{IsTextOf, IsReadAs, IsEncodingFault, IsPutOrRejected, IsJsonPut, IsJsonFault, json_fault, json_offset}
-
--- ---- from JSON text to the encoding
+use Rattle.amqp_c_alloc.specs.JsonCalls.{IsTextOf, IsReadAs, IsEncodingFault, IsPutOrRejected, json_fault, json_offset}
 
 -- what is put is the canonical encoding of the value that was meant
 pub put_meant : (most : ℕ) (t bytes old new made : List ℕ) (v : Tree) (r : Result ℕ Fault) → IsTextOf most t v → bytes ≡ made → made ≡ text v → Wire made v
@@ -54,13 +44,3 @@ inside_of_text (json.TooDeep at) n within = omega (arith, within)
 inside_of_text (json.NotAValue at mismatch) n within = within
 inside_of_text json.OutOfMemory n within = tt
 inside_of_text json.TooLarge n within = tt
-
--- ---- from an encoding to JSON text
-
--- a text that was measured fits the buffer
-pub measured_put : (input : Input) (nothing after rest old new : List ℕ) (n m : ℕ) → WritesText (limits input) (encoding input) rest nothing after n → n ≤ length old
-    → WritesText (limits input) (encoding input) rest old new m → IsJsonPut input old new m
-measured_put input nothing after rest old new n m (t, first, measured, _) fits (u, second, count, put) =
-    let same : n ≡ m = measured ∙ ap counted (one_text (limits input) (encoding input) t u rest rest first second) ∙ sym count in
-    let is = put (omega (arith, same, fits)) in
-    (u, rest, second, (is.0, omega (arith, same, fits), is.1))

@@ -1,47 +1,18 @@
--- `WritesJson` and `WritesEncoding`: what `amqpv_proved_to_json` and `amqpv_proved_from_json` return and write.
-use Rattle.std.specs.Prelude.{ℕ, min, ◌+◌, ◌≡◌, ◌<◌, ◌≤◌, ℤ, false, List, ◌++◌, length, take, Option, Some, None, IfSome, Result, Ok, Err, IfErr, MatchResult, ◌⊎◌}
+-- `WritesEncoding`: what `amqpv_proved_from_json` returns and writes.
+use Rattle.std.specs.Prelude.{ℕ, min, ◌+◌, ◌≡◌, ◌<◌, ◌≤◌, ℤ, List, ◌++◌, length, take, Option, Some, None, IfSome, Result, Ok, Err, IfErr}
 use Rattle.std.specs.Str.{IsUtf8, IsValidUpTo}
 use Rattle.amqp_value_core.specs.Values.{Tree}
 use Rattle.amqp_value_core.specs.Outcomes.{Outcome, found}
 use Rattle.amqp_value_core.specs.Texts.{text}
 use Rattle.amqp_json.specs.declared.error.JsonError.{JsonError}
 use Rattle.amqp_json.specs.declared.error.JsonError.TheVariants as json
-use Rattle.amqp_json.specs.Conversions.{IsJsonOf, BeginsNoJson}
+use Rattle.amqp_json.specs.Conversions.{BeginsNoJson}
 use Rattle.amqp_json.specs.Meaning.{most_levels, json_within, meant_within}
 use Rattle.amqp_json.specs.Nesting.{IsTooDeepAt}
-use Rattle.amqp_json.specs.Written.{counted}
 use Rattle.amqp_c.specs.declared.fault.Fault.{Fault}
-use Rattle.amqp_c.specs.declared.fault.Fault.TheVariants.{TooDeep, NotUtf8, NotJson, NotAValue, NoEncoding, Invalid, NoRoom, NoMemory}
-use Rattle.amqp_c.specs.declared.input.Input.{Input}
+use Rattle.amqp_c.specs.declared.fault.Fault.TheVariants.{TooDeep, NotUtf8, NotJson, NotAValue, NoEncoding, NoRoom, NoMemory}
 use Rattle.amqp_c.specs.declared.problem.Problem.{Problem}
-use Rattle.amqp_c.specs.CallResults.{IsPutAtStart, LacksRoom, return_code_of, length_of}
-use Rattle.amqp_c.specs.JsonTexts.{HasUnorderedKeys}
-use Rattle.amqp_c.specs.Inputs.{limits, has_known_flags, encoding, IsInputFault}
-
--- ---- from an encoding to JSON text
-
--- the JSON text of the value that is read is put into the buffer
-abbrev pub IsJsonPut : Input → List ℕ → List ℕ → ℕ → Type 0
-IsJsonPut input old new n = (t : List ℕ) × (rest : List ℕ) × IsJsonOf (limits input) (encoding input) t rest × IsPutAtStart t old new n
-
--- a fault is right, for a buffer of that many bytes: the value isn't read; or memory ran out, for a value in which keys
--- don't ascend; or the text has more bytes, as many as the fault reports
-abbrev pub IsJsonFault : Input → ℕ → Fault → Type 0
-IsJsonFault input buffer f =
-    IsInputFault input f
-    ⊎ ((f ≡ NoMemory) × HasUnorderedKeys input)
-    ⊎ ((t : List ℕ) × (rest : List ℕ) × IsJsonOf (limits input) (encoding input) t rest × LacksRoom (counted t) buffer f)
-
--- the JSON text of the value is put into the buffer; or the fault is right, and the buffer as it was
-pub record WritesJson (input : Input) (old : List ℕ) (code : ℤ) (new : List ℕ) (n : ℕ) : Type 0 where
-  pub done : Result ℕ Fault
-  pub returned : code ≡ return_code_of done
-  pub counted : n ≡ length_of done
-  pub written : MatchResult done (IsJsonPut input old new) (IsJsonFault input (length old))
-  pub flags : has_known_flags input ≡ false → done ≡ Err Invalid
-  pub kept : IfErr done (λ _. new ≡ old)
-
--- ---- from JSON text to the encoding
+use Rattle.amqp_c.specs.CallResults.{IsPutAtStart, return_code_of, length_of}
 
 -- the text is UTF-8, and means the value, with at most so many arrays and objects open at once
 abbrev pub IsTextOf : ℕ → List ℕ → Tree → Type 0

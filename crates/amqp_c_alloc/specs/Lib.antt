@@ -2,7 +2,7 @@
 
 -- writing the canonical encoding
 pub mod CanonicalCalls
--- from an encoding to JSON, and back
+-- from JSON to an encoding
 pub mod JsonCalls
 -- what a client or a stream queue may not accept
 pub mod WarningCalls

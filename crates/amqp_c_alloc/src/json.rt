@@ -1,34 +1,13 @@
-//! `put_json`, for `amqpv_proved_to_json`, writes the JSON text of an encoded value, and `put_encoding`,
-//! for `amqpv_proved_from_json`, the canonical encoding of a JSON text's value.
+//! `put_encoding`, for `amqpv_proved_from_json`: writes the canonical encoding of a JSON text's value.
 
-ghost use Rattle.std.specs.Prelude.{◌≡◌, ◌≤◌, false, min, length, Some, None, Err, IfErr, IfSome, OnErr, MatchResult};
+ghost use Rattle.std.specs.Prelude.{◌≡◌, ◌≤◌, min, length, Err, IfErr, IfSome};
 ghost use Rattle.amqp_json.specs.Meaning.{most_levels};
-ghost use Rattle.amqp_c.specs.declared.fault.Fault.TheVariants.{Invalid};
-ghost use Rattle.amqp_c.specs.Inputs.{has_known_flags};
-ghost use Rattle.amqp_c.specs.JsonTexts.{IsJsonPut, IsJsonFault};
 ghost use Rattle.amqp_c_alloc.specs.JsonCalls.{IsPutOrRejected, offset_or_old, json_fault, json_offset};
 
-use amqp_c::{Fault, Input, Problem, put_at_start};
-use amqp_json::{JsonError, encoding_of_json_within, write_json_of_view};
+use amqp_c::{Fault, Problem, put_at_start};
+use amqp_json::{JsonError, encoding_of_json_within};
 use std::alloc::Global;
 use std::str;
-
-/// Writes the JSON text of the value at the start of the input to the start of `buffer`, and
-/// returns how many bytes the text has. Nothing is allocated.
-pub fn put_json(input: &Input<'_>, buffer: &mut [u8]) -> Result<usize, Fault>
-    ensures written { MatchResult result
-        (IsJsonPut input.now buffer.old buffer.new)
-        (IsJsonFault input.now (length buffer.old)) }
-    ensures flags { has_known_flags input.now ≡ false → result ≡ Err Invalid }
-    ensures kept { OnErr result (buffer.new ≡ buffer.old) }
-{
-    let value = input.view()?;
-    let count = write_json_of_view(value, &mut []);
-    if count > buffer.len() {
-        return Err(Fault::NoRoom(count));
-    }
-    Ok(write_json_of_view(value, buffer))
-}
 
 /// The result of converting a JSON text to an encoding in a buffer.
 #[derive(Clone, Copy)]

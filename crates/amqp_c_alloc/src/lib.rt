@@ -1,8 +1,8 @@
-//! The calls of the C API that allocate: the canonical encoding of a value, between encodings and
-//! JSON texts, and what a client or a stream queue may not accept in a value that RabbitMQ accepts.
+//! The calls of the C API that allocate: the canonical encoding of a value, that of what a JSON text means, and what a
+//! client or a stream queue may not accept in a value that RabbitMQ accepts.
 //!
 //! They allocate by C's `malloc`, `realloc` and `free` (the canonical encoding only if the value isn't encoded so
-//! already, a JSON text never), and free all of it. They keep no state, print nothing and never end the process.
+//! already), and free all of it. They keep no state, print nothing and never end the process.
 //! `include/amqp_values.h` declares them, and says how much stack they use.
 //!
 //! Tests are in `tests/c`: `tests/c/test_by_model.py` compares each call with the reference
@@ -10,7 +10,7 @@
 #![tactic(auto)]
 
 ghost use Rattle.amqp_c_alloc.specs.CanonicalCalls.{WritesCanonical};
-ghost use Rattle.amqp_c_alloc.specs.JsonCalls.{WritesJsonWhole, WritesEncoding};
+ghost use Rattle.amqp_c_alloc.specs.JsonCalls.{WritesEncoding};
 ghost use Rattle.amqp_c_alloc.specs.WarningCalls.{GivesWarnings};
 
 mod canonical;
@@ -19,7 +19,7 @@ mod warnings;
 
 use amqp_c::{Input, Problem, return_length};
 use canonical::canonical;
-use json::{put_encoding, put_json, store_offset};
+use json::{put_encoding, store_offset};
 use std::alloc::Global;
 use warnings::{Warnings, find_warnings, store_warnings};
 
@@ -36,20 +36,6 @@ pub extern "C" fn amqpv_canonical(
     ensures { WritesCanonical input.now buffer.old result buffer.new length.new }
 {
     return_length(canonical(alloc, input, buffer), length)
-}
-
-/// Writes the JSON text of the value at the start of the input to the start of `buffer`. `length` is as for
-/// `amqpv_canonical`.
-#[unsafe(no_mangle)]
-pub extern "C" fn amqpv_proved_to_json(
-    alloc: Global,
-    input: &Input<'_>,
-    buffer: &mut [u8],
-    length: &mut usize,
-) -> i32
-    ensures { WritesJsonWhole input.now buffer.old result buffer.new length.new }
-{
-    return_length(put_json(input, buffer), length)
 }
 
 /// Writes the canonical encoding of the value that a JSON text means to the start of `buffer`, or stores where the

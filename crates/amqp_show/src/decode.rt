@@ -66,7 +66,7 @@ fn repeated_text(
     let Some(pair) = warned.repeated_key else {
         return Ok(None);
     };
-    let what = "comes again; only its last value is shown";
+    let what = "comes again; JSON parsers differ in which value they take";
     Ok(Some(key_text(alloc, bytes, pair, what, settings)?))
 }
 

@@ -14,7 +14,6 @@ use amqp_json::{JsonError, Mismatch, SyntaxError, encoding_of_json_within};
 use json::{Reader, Scratch, Token};
 use std::alloc::{AllocError, Global};
 use std::collections::BTreeSet;
-use std::num::{f32_to_bits_with_nan, f64_to_bits_with_nan};
 use std::str;
 
 // How many characters of a text are shown.
@@ -36,14 +35,15 @@ const TYPES: &[(&str, &str)] = &[
     ("LongUInt", "an integer from 0 to 4294967295"),
     ("LongLongInt", INTEGER),
     ("Timestamp", "an integer from 0 to 18446744073709551615"),
-    ("Float", "its bits, as 8 hexadecimal digits in quotes"),
-    ("Double", "its bits, as 16 hexadecimal digits in quotes"),
+    ("Float", "a number up to 3.4e38, or its bits as 8 hexadecimal digits in quotes"),
+    ("Double", DOUBLE),
     ("DecimalValue", "a number and a scale, as \"314e-2\""),
     ("LongString", "two hexadecimal digits a byte, in quotes"),
     ("ByteArray", "two hexadecimal digits a byte, in quotes"),
 ];
 
 const INTEGER: &str = "an integer from -9223372036854775808 to 9223372036854775807";
+const DOUBLE: &str = "a number up to 1.7e308, or its bits as 16 hexadecimal digits in quotes";
 
 /// Writes the encoding of the value that a file's JSON denotes, or of the table without its type
 /// tag, raw or in hexadecimal. Reports a key that comes again.
@@ -314,12 +314,22 @@ fn expects(alloc: Global, json: &str, at: usize, mismatch: Mismatch) -> Result<S
     match (mismatch, type_before(json, at)) {
         (Mismatch::UnknownType, _) => format!(in alloc; "{mismatch} (--help lists them)"),
         (_, Some((name, form))) => format!(in alloc; "expected a {name} ({form})"),
+        (Mismatch::OutOfRange, None) if has_point_or_exponent(json.get(at..).unwrap_or("")) => {
+            format!(in alloc; "expected a Double ({DOUBLE})")
+        }
         (Mismatch::OutOfRange, None) => format!(in alloc; "expected a LongLongInt ({INTEGER})"),
         (_, None) => format!(in alloc; "{mismatch}"),
     }
 }
 
-// What is wrong with the digits at this byte, or the bits of a number there.
+// Whether the number that a text begins with is one of a Double.
+fn has_point_or_exponent(text: &str) -> bool {
+    let is_other = |c: char| !matches!(c, '0'..='9' | '-' | '+' | '.' | 'e' | 'E');
+    let number = text.split(is_other).next().unwrap_or("");
+    number.contains(['.', 'e', 'E'])
+}
+
+// What is wrong with the digits at this byte.
 fn detail(alloc: Global, json: &str, at: usize, mismatch: Mismatch) -> Result<String, AllocError> {
     let there = json.get(at..).unwrap_or("");
     match mismatch {
@@ -331,36 +341,8 @@ fn detail(alloc: Global, json: &str, at: usize, mismatch: Mismatch) -> Result<St
                 None => format!(in alloc; "; the number of digits is odd"),
             }
         }
-        Mismatch::OutOfRange | Mismatch::NotAString => {
-            let name = type_before(json, at).map_or("", |(name, _)| name);
-            bits_text(alloc, name, there)
-        }
         _ => Ok(String::new(alloc)),
     }
-}
-
-// How the number at the beginning of a text is written as a Float or a Double, if it may be meant as one.
-fn bits_text(alloc: Global, name: &str, text: &str) -> Result<String, AllocError> {
-    let is_other = |c: char| !matches!(c, '0'..='9' | '-' | '+' | '.' | 'e' | 'E');
-    let number = text.split(is_other).next().unwrap_or("");
-    let start: String = number.chars().take(EXCERPT).collect(alloc)?;
-    let dots = if start.len() < number.len() { ".." } else { "" };
-    let may_be_double = name == "Double" || number.contains(['.', 'e', 'E']);
-    if name == "Float"
-        && let Ok(x) = number.parse::<f32>()
-        && x.is_finite()
-    {
-        let bits = f32_to_bits_with_nan(x);
-        return format!(in alloc; "; {start}{dots} is {{\"$Float\":\"{bits:08x}\"}}");
-    }
-    if may_be_double
-        && let Ok(x) = number.parse::<f64>()
-        && x.is_finite()
-    {
-        let bits = f64_to_bits_with_nan(x);
-        return format!(in alloc; "; {start}{dots} is {{\"$Double\":\"{bits:016x}\"}}");
-    }
-    Ok(String::new(alloc))
 }
 
 // The type that an object names whose value is at this byte.

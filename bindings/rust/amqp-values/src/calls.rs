@@ -140,20 +140,33 @@ fn written(
     Err(AMQPV_NO_ROOM)
 }
 
-/// The JSON of the value at the start of the bytes.
+/// The JSON of the value at the start of the bytes, or of its canonical encoding.
 #[cfg(feature = "std")]
-pub(crate) fn to_json(bytes: &[u8], flags: u32, limits: Limits) -> Result<String, Error> {
+pub(crate) fn to_json(bytes: &[u8], flags: u32, limits: Limits, canonical: bool) -> Result<String, Error> {
     let limits = Limits { depth: limits.depth.min(ALLOCATING_DEPTH), ..limits };
     let read = read(bytes, flags, limits)?;
-    let input = input(bytes, flags, limits);
+    let encoding = if canonical { Some(canonical_encoding(bytes, flags, limits, read.value.length)?) } else { None };
+    let input = input(encoding.as_deref().unwrap_or(bytes), flags, limits);
     let text = written(read.value.length.saturating_mul(3), |buffer, capacity, length| {
-        // SAFETY: `bytes` can be read, and the buffer written; `length` is borrowed alone, and the stack suffices for the depth
+        // SAFETY: the input can be read, and the buffer written; `length` is borrowed alone, and the stack suffices for the depth
         unsafe { amqpv_to_json(&input, buffer, capacity, length) }
     });
     // AMQPV_NO_MEMORY: the value was read
     let text = text.map_err(|_| Error::OutOfMemory)?;
     // SAFETY: JSON is UTF-8
     Ok(unsafe { String::from_utf8_unchecked(text) })
+}
+
+/// The canonical encoding of a value of these many bytes, which was read.
+#[cfg(feature = "std")]
+fn canonical_encoding(bytes: &[u8], flags: u32, limits: Limits, count: usize) -> Result<Vec<u8>, Error> {
+    let input = input(bytes, flags, limits);
+    let encoding = written(count, |buffer, capacity, length| {
+        // SAFETY: `bytes` can be read, and the buffer written; `length` is borrowed alone, and the stack suffices for the depth
+        unsafe { amqpv_canonical(&input, buffer, capacity, length) }
+    });
+    // AMQPV_NO_MEMORY: the value was read
+    encoding.map_err(|_| Error::OutOfMemory)
 }
 
 /// The canonical encoding of the value that a JSON text means.

@@ -11,11 +11,15 @@ const SPACE: [char; 4] = [' ', '\t', '\n', '\r'];
 /// Returns the JSON of the value at the start of the bytes, its type tag included. Headers and arguments have no type tag: use
 /// [`table_to_json`] for them.
 ///
-/// A type that plain JSON doesn't have is an object with one key, as in `{"$LongInt":5}`. A table's keys ascend, and of equal
-/// keys the last counts. Different values have different JSON, and [`from_json`] gives the value back.
+/// A type that plain JSON doesn't have is an object with one key, as in `{"$LongInt":5}`. Different values have different JSON,
+/// and [`from_json`] gives the value back.
+///
+/// Every pair of a table is written, in the order in which it is encoded. A key that comes again is written again: its last value
+/// counts, but some JSON parsers take the first, and strict ones reject the text. [`warnings`](crate::rabbitmq::warnings) finds such
+/// keys. If `canonical` is true, each key is written once with its last value, and keys ascend: equal values have equal texts.
 ///
 /// Values may nest [`Limits::depth`] deep, up to 1024. JSON takes more stack than reading: 28 KiB, and for each level 736 bytes
-/// on x86-64, 832 on aarch64. A byte of the value takes at most 157 bytes of memory.
+/// on x86-64, 832 on aarch64. If `canonical` is true, a byte of the value takes at most 145 bytes of memory besides the text.
 ///
 /// # Errors
 ///
@@ -26,15 +30,19 @@ const SPACE: [char; 4] = [' ', '\t', '\n', '\r'];
 /// ```
 /// use amqp_values::{to_json, Error, Limits};
 ///
-/// assert_eq!(to_json(b"S\0\0\0\x06quorum", Limits::DEFAULT)?, r#""quorum""#);
-/// assert_eq!(to_json(b"I\0\0\0\x05", Limits::DEFAULT)?, r#"{"$LongInt":5}"#);
+/// assert_eq!(to_json(b"S\0\0\0\x06quorum", Limits::DEFAULT, false)?, r#""quorum""#);
+/// assert_eq!(to_json(b"I\0\0\0\x05", Limits::DEFAULT, false)?, r#"{"$LongInt":5}"#);
+/// let table = b"F\0\0\0\x09\x01bV\x01aV\x01bV";
+/// assert_eq!(to_json(table, Limits::DEFAULT, false)?, r#"{"b":null,"a":null,"b":null}"#);
+/// assert_eq!(to_json(table, Limits::DEFAULT, true)?, r#"{"a":null,"b":null}"#);
 /// # Ok::<(), Error>(())
 /// ```
-pub fn to_json(bytes: &[u8], limits: Limits) -> Result<String, Error> {
-    calls::to_json(bytes, 0, limits)
+pub fn to_json(bytes: &[u8], limits: Limits, canonical: bool) -> Result<String, Error> {
+    calls::to_json(bytes, 0, limits, canonical)
 }
 
-/// Returns the JSON of the table without its type tag at the start of the bytes, as methods and content headers have it.
+/// Returns the JSON of the table without its type tag at the start of the bytes, as methods and content headers have it, and as
+/// [`to_json`] says.
 ///
 /// # Examples
 ///
@@ -44,7 +52,7 @@ pub fn to_json(bytes: &[u8], limits: Limits) -> Result<String, Error> {
 /// let text = r#"{"x-max-length": {"$LongInt": 10000}, "x-queue-type": "quorum"}"#;
 /// let arguments = table_from_json(text, Limits::DEFAULT)?;
 /// assert_eq!(arguments[..23], *b"\0\0\0\x2a\x0cx-max-lengthI\0\0\x27\x10\x0c");
-/// let json = table_to_json(&arguments, Limits::DEFAULT)?;
+/// let json = table_to_json(&arguments, Limits::DEFAULT, false)?;
 /// assert_eq!(json, r#"{"x-max-length":{"$LongInt":10000},"x-queue-type":"quorum"}"#);
 /// # Ok::<(), amqp_values::Error>(())
 /// ```
@@ -52,8 +60,8 @@ pub fn to_json(bytes: &[u8], limits: Limits) -> Result<String, Error> {
 /// # Errors
 ///
 /// Those of [`read_table`](crate::read_table), and [`Error::OutOfMemory`].
-pub fn table_to_json(bytes: &[u8], limits: Limits) -> Result<String, Error> {
-    calls::to_json(bytes, AMQPV_UNTAGGED, limits)
+pub fn table_to_json(bytes: &[u8], limits: Limits, canonical: bool) -> Result<String, Error> {
+    calls::to_json(bytes, AMQPV_UNTAGGED, limits, canonical)
 }
 
 /// Returns the encoding of the value that a JSON text means, its type tag included. It is the canonical one: equal values have
