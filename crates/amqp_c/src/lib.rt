@@ -181,7 +181,8 @@ pub extern "C" fn amqpv_proved_measure(
     store_read(measure(input), size, problem)
 }
 
-/// Returns whether the value at the start of the input, which is read as by `amqpv_proved_read`, is encoded canonically.
+/// Returns whether the value at the start of the input, which is read as by `amqpv_proved_read`, is encoded
+/// canonically.
 #[unsafe(no_mangle)]
 pub extern "C" fn amqpv_is_canonical(input: &Input<'_>) -> i32
     ensures flags { has_known_flags input.now ≡ false → result ≡ code_of Invalid }
