@@ -384,6 +384,34 @@ static inline const char *amqpv_strerror(amqpv_result result) {
     return "unknown result";
 }
 
+static inline const char *amqpv_reason_text(uint8_t reason) {
+    switch (reason) {
+    case 0: return "no reason";
+    case AMQPV_JSON_UNEXPECTED_END: return "unexpected end";
+    case AMQPV_JSON_UNFINISHED_STRING: return "unfinished string";
+    case AMQPV_JSON_UNEXPECTED_CHARACTER: return "unexpected character";
+    case AMQPV_JSON_CONTROL_CHARACTER: return "control character in a string";
+    case AMQPV_JSON_UNKNOWN_ESCAPE: return "unknown escape";
+    case AMQPV_JSON_LONE_SURROGATE: return "lone surrogate";
+    case AMQPV_JSON_MISSING_COMMA: return "missing comma";
+    case AMQPV_JSON_MISSING_COLON: return "missing colon";
+    case AMQPV_JSON_TRAILING_COMMA: return "trailing comma";
+    case AMQPV_JSON_AFTER_THE_VALUE: return "more text after the value";
+    case AMQPV_JSON_BYTE_ORDER_MARK: return "byte order mark";
+    case AMQPV_JSON_UNKNOWN_TYPE: return "expected the name of a type after `$`";
+    case AMQPV_JSON_NOT_ALONE: return "expected no other key beside a type name";
+    case AMQPV_JSON_KEY_TOO_LONG: return "a key of more than 255 bytes";
+    case AMQPV_JSON_NOT_A_NUMBER: return "expected a number";
+    case AMQPV_JSON_NOT_A_STRING: return "expected a string";
+    case AMQPV_JSON_OUT_OF_RANGE: return "expected a number that the type holds";
+    case AMQPV_JSON_ODD_DIGITS: return "expected an even number of hexadecimal digits";
+    case AMQPV_JSON_NOT_HEXADECIMAL: return "expected only hexadecimal digits";
+    case AMQPV_JSON_DIGIT_COUNT: return "expected 8 hexadecimal digits of a Float, or 16 of a Double";
+    case AMQPV_JSON_NOT_A_DECIMAL: return "expected a number and a scale, as in 314e-2";
+    default: return "unknown reason";
+    }
+}
+
 static inline const char *amqpv_tag_name(uint8_t tag) {
     switch (tag) {
     case AMQPV_BOOLEAN: return "Boolean";

@@ -1,6 +1,6 @@
 """Parses the rows of crates/test_calls/data, `REQUEST => ANSWER` (`rows`), and words that are bytes (`bytes_of`).
 
-The suites model, oracle and wire use it. tests/memory/calls.py says what the same requests may answer if an allocation
+The suites c, model, oracle and wire use it. tests/memory/calls.py says what the same requests may answer if an allocation
 fails.
 """
 

@@ -90,7 +90,8 @@ def error_of(call: Callable[[], Any]) -> type[Exception] | None:
 
 def problem_of(error: own.Error) -> tuple[str, int, int]:
     """The kind, the offset and the missing bytes of an error, whose text has to have them."""
-    assert str(error).startswith(f"{error.kind} at {error.offset}: expected {error.expected}")
+    assert bool(error.reason) == (error.kind in ("not JSON", "not a value"))
+    assert str(error).startswith(f"{error.kind} at {error.offset}: {error.reason or f'expected {error.expected}'}")
     assert error.expected and error.args == (error.kind, error.offset, error.expected, error.missing)
     return error.kind, error.offset, error.missing
 

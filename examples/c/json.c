@@ -9,7 +9,7 @@
 
 static uint8_t given[AMQPV_MAX_BYTES];
 static size_t given_length;
-static amqpv_problem problem = {SIZE_MAX, 0, 0}; /* set if the JSON is wrong */
+static amqpv_problem problem = {SIZE_MAX, 0, 0, 0}; /* set if the JSON is wrong */
 
 static amqpv_result write_json(uint8_t *buffer, size_t capacity, size_t *length) {
     amqpv_input in = amqpv_value(given, given_length);
@@ -36,6 +36,9 @@ int main(int count, char **words) {
         printf("%s", amqpv_strerror(result));
         if (problem.offset != SIZE_MAX) {
             printf(", at %zu", problem.offset);
+        }
+        if (problem.reason != 0) {
+            printf(": %s", amqpv_reason_text(problem.reason));
         }
         putchar('\n');
         return 1;

@@ -25,7 +25,7 @@ back_escapes
 
 back_no_json
   $ echo '{"a":1' | json back
-  not JSON, at 7
+  not JSON, at 7: unexpected end
   [1]
 
 back_no_utf8
@@ -35,12 +35,12 @@ back_no_utf8
 
 back_of_no_value
   $ echo '{"$ShortInt":32768}' | json back
-  not the JSON of a value, at 13
+  not the JSON of a value, at 13: expected a number that the type holds
   [1]
 
 back_short_string
   $ echo '[{"$ShortString":"key"}]' | json back
-  not the JSON of a value, at 2
+  not the JSON of a value, at 2: expected the name of a type after `$`
   [1]
 
 back_too_deep

@@ -21,6 +21,15 @@ OK, NONE = 0, 1
 UNTAGGED, ANY_KEYS, RABBITMQ, FIRST_KEY, STREAMS = 1, 2, 4, 8, 16
 MAX_BYTES, MAX_DEPTH, NESTING = FRAME, DEPTH, LEVELS
 NOWHERE = 2**64 - 1
+# The numbers of reasons, by the names that amqp_json has for them: why a text isn't JSON, and why it means no value.
+SYNTAX_ERRORS = {
+    "UnexpectedEnd": 1, "UnfinishedString": 2, "UnexpectedCharacter": 3, "ControlCharacter": 4, "UnknownEscape": 5,
+    "LoneSurrogate": 6, "MissingComma": 7, "MissingColon": 8, "TrailingComma": 9, "AfterTheValue": 10, "ByteOrderMark": 11,
+}  # fmt: skip
+MISMATCHES = {
+    "UnknownType": 101, "NotAlone": 102, "KeyTooLong": 103, "NotANumber": 104, "NotAString": 105, "OutOfRange": 106,
+    "OddDigits": 107, "NotHexadecimal": 108, "DigitCount": 109, "NotADecimal": 110,
+}  # fmt: skip
 # The kind of a problem in tests/model/tables.py, by the result.
 KINDS = {UNKNOWN_TAG: 1, NOT_FINITE: 2, CUT: 3, MORE: 3, KEY_CUT: 4, TOO_DEEP: 5, TOO_LARGE: 6, KEY_NOT_UTF8: 7}
 Found = tuple[Any, ...] | None
@@ -53,7 +62,7 @@ Span = _struct("Span", *_sizes("offset", "length"))
 SPANS = [(it, Span) for it in ("key", "value", "content")]
 Entry = _struct("Entry", *SPANS, ("bits", c_uint64), ("tag", c_uint8), ("scale", c_uint8))
 Cursor = _struct("Cursor", ("left", Span), ("tag", c_uint8))
-Problem = _struct("Problem", *_sizes("offset", "missing"), ("tag", c_uint8))
+Problem = _struct("Problem", *_sizes("offset", "missing"), ("tag", c_uint8), ("reason", c_uint8))
 Size = _struct("Size", *_sizes("bytes", "values", "levels"))
 Step = _struct("Step", ("key", ctypes.c_void_p), *_sizes("key_length", "index"), ("into", c_uint8))
 LIMITS = [("max_bytes", c_uint32), ("max_depth", c_uint32), ("flags", c_uint32)]

@@ -65,8 +65,12 @@ const char *use(const char *given, size_t length, uint8_t *buffer, amqpv_entry *
     amqpv_input in = amqpv_value(given, length), other = amqpv_table(buffer, length);
     amqpv_result result = write(buffer, length, &in, entry, &length);
     in.flags |= AMQPV_ANY_KEYS | AMQPV_FIRST_KEY;
+    amqpv_problem problem;
     if (amqpv_from_json(AMQPV_STR("{}"), 1, buffer, length, &length, NULL) == AMQPV_OK) {
         return amqpv_strerror(amqpv_to_json(&in, NULL, 0, &length));
+    }
+    if (amqpv_from_json(AMQPV_STR("{"), 1, buffer, length, &length, &problem) == AMQPV_NOT_JSON) {
+        return amqpv_reason_text(problem.reason);
     }
     if (result != AMQPV_OK || look_up(&other, length, entry) != AMQPV_OK) {
         return amqpv_strerror(result);

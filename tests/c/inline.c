@@ -199,7 +199,8 @@ int main(void) {
             list();
         } else if (strcmp(what, "words") == 0) {
             int n = (int)(int64_t)number();
-            printf("%s; %s\n", amqpv_strerror((amqpv_result)n), amqpv_tag_name((uint8_t)n));
+            printf("%s; %s; %s\n", amqpv_strerror((amqpv_result)n), amqpv_tag_name((uint8_t)n),
+                   amqpv_reason_text((uint8_t)n));
         } else {
             add(&w, what);
         }

@@ -56,7 +56,7 @@ static size_t after(void) { return is_call("to_json"); }
 /* Makes the call with a buffer of n bytes; nothing after or before what it writes may change, and no block may be left. */
 static amqpv_result make_call(size_t n, size_t *length) {
     amqpv_input in = amqpv_value(given_end - given_length, given_length);
-    amqpv_problem problem = {77, 77, 77};
+    amqpv_problem problem = {77, 77, 77, 77};
     amqpv_warnings warnings;
     uint8_t *buffer = buffer_end - n;
     amqpv_result result;
@@ -71,7 +71,7 @@ static amqpv_result make_call(size_t n, size_t *length) {
         result = amqpv_from_json((const char *)in.bytes, in.length, AMQPV_MAX_DEPTH, buffer, n, length, &problem);
         int is_set = result <= AMQPV_NOT_UTF8 && result >= AMQPV_NOT_A_VALUE;
         CHECK(is_set || result == AMQPV_TOO_DEEP
-              || (problem.offset == 77 && problem.missing == 77 && problem.tag == 77));
+              || (problem.offset == 77 && problem.missing == 77 && problem.tag == 77 && problem.reason == 77));
     } else {
         result = amqpv_warn(&in, 64, 2, &warnings);
         *length = 0;

@@ -20,6 +20,7 @@ from tests.model.inputs import inputs, nested, untagged, value_of
 from tests.model.nesting import HEADER
 from tests.model.rules import doubtful, exceeds, unfit_for_streams
 from tests.model.tables import first_problem, odd_table, parts, random_table, raw
+from tests.rows import bytes_of, stored
 
 pytestmark = pytest.mark.usefixtures("library")
 # The result of a problem, by its kind in the model; what is cut at the start is AMQPV_MORE.
@@ -58,14 +59,14 @@ def wanted_problem(data: bytes, flags: int, max_bytes: int, max_depth: int) -> t
     whole = b"F" * left_out + data
     if chr(whole[0]) in TYPES if whole else False:
         if extent(whole) > max_bytes:
-            return c_api.TOO_LARGE, (0, 0, 0)
+            return c_api.TOO_LARGE, (0, 0, 0, 0)
     problem = first_problem(whole, rules_of(flags), max_depth)
     if problem is None:
         return OK, None
     at, kind, tag = problem
     if at == 0 and kind == 3:
-        return c_api.MORE, (0, lack(whole), 0)
-    return RESULTS[kind], (max(0, at - left_out), 0, tag)
+        return c_api.MORE, (0, lack(whole), 0, 0)
+    return RESULTS[kind], (max(0, at - left_out), 0, tag, 0)
 
 
 def sizes(data: bytes) -> tuple[int, int]:
@@ -141,6 +142,28 @@ def test_limits(data: bytes) -> None:
         for max_bytes in (0, 1, 2, 4, 5, 6, 7, 8, 2**31, 2**32 - 1):
             for max_depth in (0, 1, 2, 2**32 - 1):
                 assert_read(data, flags, max_bytes, max_depth)
+
+
+NAN, DEEP = b"f\x7f\xc0\0\0", b"A\0\0\0\5A\0\0\0\0"
+REJECTED = [
+    (b"U\0\1", (RABBITMQ,), c_api.UNKNOWN_TAG),
+    (b"U\0\1", (RABBITMQ, 2), c_api.TOO_LARGE),
+    (b"z", (RABBITMQ, 0), c_api.UNKNOWN_TAG),
+    (field(b"A", b"U\0\1"), (RABBITMQ,), c_api.UNKNOWN_TAG),
+    (NAN, (RABBITMQ,), c_api.NOT_FINITE),
+    (field(b"F", b"\1\xffV"), (0,), c_api.KEY_NOT_UTF8),
+    (field(b"F", b"\1k"), (0,), c_api.CUT),
+    (DEEP, (0, 10, 1), c_api.TOO_DEEP),
+]
+
+
+@pytest.mark.parametrize(("data", "limits", "result"), REJECTED)
+def test_a_stream_goes_on_after_a_rejected_value(data: bytes, limits: tuple[int, ...], result: int) -> None:
+    """Where the value ends that is rejected, unless its first byte is no type tag."""
+    assert c_api.read(data + b"V", *limits)[0] == result
+    found, entry = c_api.peek(data + b"V", *limits)
+    wanted = (c_api.UNKNOWN_TAG, None) if data == b"z" else (OK, (0, len(data)))
+    assert (found, entry and entry[1]) == wanted
 
 
 # Every bit of the flags that has no meaning.
@@ -500,15 +523,30 @@ def test_tables_of_few_and_of_many_keys(seed: int) -> None:
 
 
 def meant(text: bytes, nesting: int) -> tuple[int, bytes | int, Any]:
-    """What reading a text returns by the model: the canonical encoding, or what is wrong at which byte."""
+    """What reading a text returns by the model: the canonical encoding, or what is wrong at which byte and why.
+
+    (Why it isn't JSON, the model doesn't say.)
+    """
     try:
         text.decode()
         return OK, write(value_of_json(text, min(nesting, LEVELS))), None
     except UnicodeDecodeError as why:
-        return c_api.NOT_UTF8, 0, (why.start, 0, 0)
+        return c_api.NOT_UTF8, 0, (why.start, 0, 0, 0)
     except Rejected as why:
-        wrong = {"": c_api.NOT_JSON, "TooDeep": c_api.TOO_DEEP}.get(why.mismatch, c_api.NOT_A_VALUE)
-        return wrong, 0, (why.at, 0, 0)
+        if not why.mismatch:
+            return c_api.NOT_JSON, 0, (why.at, 0, 0)
+        wrong = c_api.TOO_DEEP if why.mismatch == "TooDeep" else c_api.NOT_A_VALUE
+        return wrong, 0, (why.at, 0, 0, c_api.MISMATCHES.get(why.mismatch, 0))
+
+
+def assert_meant(text: bytes, nesting: int) -> int:
+    """Reading a text returns what it means by the model."""
+    result, made, problem = c_api.from_json(text, nesting)
+    if result == c_api.NOT_JSON and problem:
+        assert problem[3] in c_api.SYNTAX_ERRORS.values()
+        problem = problem[:3]
+    assert (result, made, problem) == meant(text, nesting), (text, nesting)
+    return result
 
 
 def test_texts_that_may_mean_none(seed: int) -> None:
@@ -518,9 +556,7 @@ def test_texts_that_may_mean_none(seed: int) -> None:
             at = make.randrange(len(text) + 1)
             text = text[:at] + make.choice([b"\x80", b"\xff", b"\xc3", b"\xed\xa0\x80"]) + text[at + 1 :]
         nesting = make.choice([*range(8), LEVELS, LEVELS + 1, 2**32 - 1])
-        found = c_api.from_json(text, nesting)
-        assert found == meant(text, nesting), (text, nesting)
-        results[found[0]] += 1
+        results[assert_meant(text, nesting)] += 1
     assert len(results) == 5 and min(results.values()) > 25, results
 
 
@@ -531,8 +567,27 @@ def test_large_texts_that_mean_none() -> None:
         large_texts.NOT_A_VALUE: c_api.NOT_A_VALUE,
         large_texts.NOT_UTF8: c_api.NOT_UTF8,
     }
-    for text, wrong, at in large_texts.wrong_texts():
-        assert c_api.from_json(text, 1) == (results[wrong], 0, (at, 0, 0)), (text[:9], len(text))
+    numbers = c_api.SYNTAX_ERRORS | c_api.MISMATCHES | {"": 0}
+    for text, wrong, at, reason in large_texts.wrong_texts():
+        assert c_api.from_json(text, 1) == (results[wrong], 0, (at, 0, 0, numbers[reason])), (text[:9], len(text))
+
+
+# The rows of the crate: a text, the byte where it is wrong, and why.
+ROW = re.compile(r"(?:Syntax|NotAValue)\((\d+), (\w+)\)")
+ROWS = [it for it in stored("json.calls") if it[0].startswith(("json ", "json_bytes ")) and ROW.fullmatch(it[1])]
+
+
+def test_reasons() -> None:
+    """A text is wrong for the reason that a row of the crate has for it."""
+    numbers, seen = c_api.SYNTAX_ERRORS | c_api.MISMATCHES, set[str]()
+    for request, answer in ROWS:
+        call, _, word = request.partition(" ")
+        at, reason = ROW.fullmatch(answer).groups()  # type: ignore[union-attr]
+        text = word.encode() if call == "json" else bytes_of(word)
+        result = c_api.NOT_JSON if reason in c_api.SYNTAX_ERRORS else c_api.NOT_A_VALUE
+        assert c_api.from_json(text) == (result, 0, (int(at), 0, 0, numbers[reason])), request
+        seen.add(reason)
+    assert seen == numbers.keys()
 
 
 @pytest.mark.parametrize("depth", (1, 2, LEVELS - 1, LEVELS, LEVELS + 1, LEVELS + 2))
@@ -542,8 +597,9 @@ def test_deep_texts(depth: int, nesting: int) -> None:
     for form in ("A", "F", "AF"):
         data = nested(form, depth, b"V")
         result, text = c_api.to_json(data, 0, c_api.MAX_BYTES, depth)
-        assert result == OK and isinstance(text, bytes) and c_api.from_json(text, nesting) == meant(text, nesting)
-        assert c_api.from_json(text[:-1], nesting) == meant(text[:-1], nesting)
+        assert result == OK and isinstance(text, bytes)
+        assert_meant(text, nesting)
+        assert_meant(text[:-1], nesting)
 
 
 def test_texts_with_other_spellings(seed: int) -> None:

@@ -9,6 +9,7 @@ from tests.c import c_api
 from tests.c.compiling import HERE, SANITIZERS, Words, compiled, printed
 from tests.c.test_by_model import KEYS, NUMBERS, VALUES, encoding, is_inside, looked_up, stepped, wanted_problem
 from tests.c.c_api import INVALID, MAX_BYTES, MAX_DEPTH, OK
+from tests.json_reasons import TEXTS
 from tests.model.encoding import TYPES, extent, field, is_utf8, lack
 from tests.model.inputs import value_of
 from tests.model.tables import odd_table
@@ -274,5 +275,12 @@ def test_lists(inline: Program, seed: int) -> None:
 def test_words(inline: Program) -> None:
     numbers = [*range(-300, 300)]
     results = {1 - n if n > 1 else n: it for n, it in enumerate(WORDS)}
-    wanted = [f"{results.get(n, 'unknown result')}; {TYPES.get(chr(n % 256), ('unknown',))[0]}" for n in numbers]
+    reasons = {number: TEXTS[name] for name, number in [*c_api.SYNTAX_ERRORS.items(), *c_api.MISMATCHES.items()]}
+    reasons |= {0: "no reason"}
+    assert len(reasons) == 1 + len(TEXTS)
+    wanted = [
+        f"{results.get(n, 'unknown result')}; {TYPES.get(chr(n % 256), ('unknown',))[0]}; "
+        f"{reasons.get(n % 256, 'unknown reason')}"
+        for n in numbers
+    ]
     assert lines_of(inline, [f"words {n}" for n in numbers]) == wanted

@@ -26,13 +26,13 @@ def wanted(it: Case) -> Any:
         texts = [(c_api.OK, text.encode()) for text in (json_of_encoding(it.tagged), it.json)]
         return c_api.OK, None, (c_api.OK, it.canonical), *texts
     if it.is_beyond_limits:
-        result, problem = c_api.TOO_LARGE, (0, 0, 0)
+        result, problem = c_api.TOO_LARGE, (0, 0, 0, 0)
     elif "missing" in it.result:
-        result, problem = c_api.MORE, (0, it.result["missing"], 0)
+        result, problem = c_api.MORE, (0, it.result["missing"], 0, 0)
     else:
         kind, at = PROBLEMS[it.result["error"]], it.result["offset"]
         result = next(each for each, of in c_api.KINDS.items() if of == kind and each != c_api.MORE)
-        problem = at, 0, it.data[at] if kind == 1 else 0
+        problem = at, 0, it.data[at] if kind == 1 else 0, 0
     return result, problem, (result, 0), (result, 0), None
 
 

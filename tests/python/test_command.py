@@ -91,7 +91,7 @@ REFUSED = [
     ("--table", "F" + NEXT, f"too large at 0: {LONG} 1174405120: is this a table with its type tag? leave out --table"),
     ("--table", NEXT[:7], "cut at 0: expected 1 more byte"),
     ("", "A\0\0\0\2sz", "cut at 5: expected a whole value inside its container"),
-    ("--encode", '{"a":', "not JSON at 5: expected more text, since the JSON isn't complete"),
+    ("--encode", '{"a":', "not JSON at 5: unexpected end"),
     ("--encode --table", "[]", "not a table at 0: expected an object that is a table"),
 ]
 

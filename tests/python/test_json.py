@@ -6,6 +6,7 @@ import sys
 import threading
 from collections import Counter
 from collections.abc import Callable
+from copy import copy
 from pathlib import Path
 from random import Random
 from typing import Any
@@ -94,7 +95,7 @@ def test_texts_that_may_mean_none(seed: int) -> None:
 
 def test_large_texts_that_mean_none() -> None:
     kinds = {large_texts.NOT_UTF8: "text not UTF-8"}
-    for text, wrong, at in large_texts.wrong_texts():
+    for text, wrong, at, _ in large_texts.wrong_texts():
         assert own_error(lambda: own.from_json(text, depth=1)) == (kinds.get(wrong, wrong), at, 0), (
             text[:9],
             len(text),
@@ -103,16 +104,17 @@ def test_large_texts_that_mean_none() -> None:
 
 def test_messages() -> None:
     rows = {
-        "[1, 2": "not JSON at 5: expected more text, since the JSON isn't complete",
-        "['é']": "not JSON at 1: expected a character with which the JSON can go on",
-        '["é", -0]': "not a value at 6: expected JSON of a value: known names after $, numbers in range, keys of 255 bytes",
-        '["\ud800"]': "lone surrogate at 2: expected text without surrogates, which have no UTF-8",
-        "[[[]]]": "too deep at 2: expected brackets nested at most 2 deep",
+        "[1, 2": ("not JSON at 5: {}", "unexpected end"),
+        "['é']": ("not JSON at 1: {}", "unexpected character"),
+        '["é", -0]': ("not a value at 6: {}", "expected a number that the type holds"),
+        '["\ud800"]': ("lone surrogate at 2: expected text without surrogates, which have no UTF-8", ""),
+        "[[[]]]": ("too deep at 2: expected brackets nested at most 2 deep", ""),
     }
-    for text, message in rows.items():
+    for text, (message, reason) in rows.items():
         with pytest.raises(own.Error) as found:
             own.from_json(text, depth=2)
-        assert str(found.value) == message
+        for error in (found.value, copy(found.value)):
+            assert (str(error), error.reason) == (message.format(reason), reason)
     with pytest.raises(own.Error) as found:
         own.from_json(" [1]", table=True)
     assert str(found.value) == "not a table at 1: expected an object that is a table"

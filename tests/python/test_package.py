@@ -565,7 +565,7 @@ KIND = re.compile(r"(?ms)^_Kind: TypeAlias = Literal\[\n(.*?)^\]")
 def test_every_kind_is_raised_and_typed() -> None:
     """The kinds in the sources are those of the typed interface, and of the page."""
     text = "".join(it.read_text() for it in sorted((TOP / "bindings/python/src").glob("*.c")))
-    raised = {*re.findall(r'raise_(?:error|of)\([\w>, -]+, "([^"]+)"', text)}
+    raised = {*re.findall(r'raise_(?:error|of|reason)\([\w>, -]+, "([^"]+)"', text)}
     raised |= {*re.findall(r'\? "(out of range)" : "(too large)"', text)[0]}
     found = KIND.search((TOP / "bindings/python/amqp_values/__init__.pyi").read_text())
     assert found and raised == {*re.findall(r'"(.*?)"', found[1])}

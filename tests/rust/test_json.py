@@ -1,5 +1,6 @@
 """JSON by the crate amqp-values, which json.rs calls, against tests/model/json_format.py."""
 
+import re
 from collections import Counter
 from collections.abc import Iterator
 from pathlib import Path
@@ -8,11 +9,12 @@ from random import Random
 import pytest
 
 from tests import large_texts
+from tests.json_reasons import TEXTS
 from tests.model.json_format import LEVELS, SPACE, Rejected, json_of, large_values, texts, value_of_json
 from tests.model.encoding import TYPES, extent, json_of_encoding, lack, read, write
 from tests.model.inputs import damaged, nested, value_of
 from tests.model.tables import first_problem, odd_table, random_table, raw
-from tests.rust.cargo import CRATES, TARGET, assert_well, cargo, package, run
+from tests.rust.cargo import CRATES, RUST, TARGET, assert_well, cargo, package, run
 
 pytestmark = [pytest.mark.needs("cargo"), pytest.mark.usefixtures("deep")]
 # How the crate calls each problem of the model, and each error of a text.
@@ -46,7 +48,7 @@ def of_text(text: bytes, depth: int, is_table: bool) -> Row:
     try:
         value = value_of_json(text, min(depth, LEVELS))
     except Rejected as why:
-        return given, problem(WRONG.get(why.mismatch, "NotAValue"), why.at)
+        return given, problem(WRONG.get(why.mismatch, f"NotAValue({why.mismatch})"), why.at)
     if is_table and value[0] != "F":
         return given, problem("NotATable", len(text) - len(text.lstrip(SPACE)))
     return given, write(value)[is_table:].hex()
@@ -72,10 +74,19 @@ def rows(make: Random) -> Iterator[Row]:
 
 def large_rows() -> Iterator[Row]:
     """Texts that are wrong beyond byte 65,536, and beyond 1 MiB. (A str is UTF-8.)"""
-    kinds = {large_texts.NOT_JSON: "NotJson", large_texts.TOO_DEEP: "TooDeep", large_texts.NOT_A_VALUE: "NotAValue"}
-    for text, wrong, at in large_texts.wrong_texts():
+    kinds = {
+        large_texts.NOT_JSON: "NotJson({})",
+        large_texts.TOO_DEEP: "TooDeep",
+        large_texts.NOT_A_VALUE: "NotAValue({})",
+    }
+    for text, wrong, at, reason in large_texts.wrong_texts():
         if wrong in kinds:
-            yield f"from_json 1 {text.hex()}", problem(kinds[wrong], at)
+            yield f"from_json 1 {text.hex()}", problem(kinds[wrong].format(reason), at)
+
+
+def is_right(found: str, wanted: str) -> bool:
+    """Whether a line is the one that was wanted. (Why a text isn't JSON, the model doesn't say.)"""
+    return wanted in (found, re.sub(r"NotJson\(\w+\)", "NotJson", found))
 
 
 def test_json(copies: Path, seed: int) -> None:
@@ -84,7 +95,16 @@ def test_json(copies: Path, seed: int) -> None:
     asked = [*rows(Random(seed)), *large_rows()]
     given = "".join(f"{it}\n" for it, _ in asked)
     said = assert_well(run([TARGET / "release/json"], input=given, timeout=300)).splitlines()
-    wrong = [(it, wanted, found) for (it, wanted), found in zip(asked, said, strict=True) if found != wanted]
+    wrong = [
+        (it, wanted, found) for (it, wanted), found in zip(asked, said, strict=True) if not is_right(found, wanted)
+    ]
     assert not wrong, f"{len(wrong)}, as {str(wrong[0]):.2000}"
     counts = Counter(it.partition(" {")[0].partition("(")[0] if it[:1] in "IP" else "" for it in said)
     assert counts[""] > len(said) / 3 and counts["Problem"] > len(said) / 10, counts
+
+
+def test_texts_of_reasons() -> None:
+    """They are those of amqp_json."""
+    source = (RUST / "amqp-values/src/error.rs").read_text()
+    body = source.partition("impl fmt::Display for JsonReason {")[2].partition("\n}\n")[0]
+    assert dict(re.findall(r'Self::(\w+) => "(.*)",', body)) == TEXTS | {"Other": "unknown reason"}

@@ -74,6 +74,7 @@ class Error(ValueError):
     offset: int
     expected: str
     missing: int
+    reason: str
     path: tuple[Any, ...]
     def __init__(self, kind: _Kind, offset: int = 0, expected: str = "", missing: int = 0) -> None: ...
 

@@ -31,11 +31,13 @@ class Error(ValueError):
     `kind` is a few words that don't change, `offset` how many of the bytes are before the value with the problem, or, of
     what can't be written, how many would be before it. `expected` tells what it should have been. `missing` counts the
     bytes that the field needs which is cut where the bytes end. It is 0 if more bytes can't help, as for a value that is cut
-    by the end of its container. `path` leads to what can't be written; the message leaves out the middle of a long one. What
-    an object's own method raised is the `__cause__`.
+    by the end of its container. `reason` says why a text isn't JSON, or not that of a value, and is empty for all else. `path`
+    leads to what can't be written; the message leaves out the middle of a long one. What an object's own method raised is the
+    `__cause__`.
     """
 
     path: tuple[Any, ...] = ()
+    reason: str = ""
 
     def __init__(self, kind: str, offset: int = 0, expected: str = "", missing: int = 0) -> None:
         super().__init__(kind, offset, expected, missing)
@@ -43,7 +45,7 @@ class Error(ValueError):
 
     def __str__(self) -> str:
         place = f" (in {_shown_path(self.path)})" if self.path else ""
-        return f"{self.kind} at {self.offset}: expected {self.expected}{place}"
+        return f"{self.kind} at {self.offset}: {self.reason or f'expected {self.expected}'}{place}"
 
 
 class UnsupportedType(Error, TypeError):

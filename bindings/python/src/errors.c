@@ -3,9 +3,10 @@
 
 #include <string.h>
 
-/* Raises an Error of a class. It takes the reference to the text of what was expected, which may be NULL after an exception. */
+/* Raises an Error of a class, with a reason unless that is NULL. It takes the reference to the text of what was expected, which may
+   be NULL after an exception. */
 static void raise_of(const State *state, PyObject *class, const char *kind, size_t offset, size_t missing,
-                     PyObject *expected) {
+                     PyObject *expected, const char *reason) {
     if (expected == NULL) {
         return;
     }
@@ -17,6 +18,11 @@ static void raise_of(const State *state, PyObject *class, const char *kind, size
     for (Py_ssize_t at = 0; is_made && at < 4; at++) {
         is_made = PyObject_SetAttrString(error, NAMES[at], PyTuple_GetItem(parts, at)) == 0;
     }
+    if (is_made && reason != NULL) {
+        PyObject *text = PyUnicode_FromString(reason);
+        is_made = text != NULL && PyObject_SetAttrString(error, "reason", text) == 0;
+        Py_XDECREF(text);
+    }
     if (is_made) {
         PyErr_SetObject(class, error);
     }
@@ -27,8 +33,12 @@ static void raise_of(const State *state, PyObject *class, const char *kind, size
 void raise_error(const State *state, const char *kind, size_t offset, size_t missing, const char *format, ...) {
     va_list words;
     va_start(words, format);
-    raise_of(state, state->error, kind, offset, missing, PyUnicode_FromFormatV(format, words));
+    raise_of(state, state->error, kind, offset, missing, PyUnicode_FromFormatV(format, words), NULL);
     va_end(words);
+}
+
+void raise_reason(const State *state, const char *kind, size_t offset, const char *expected, const char *reason) {
+    raise_of(state, state->error, kind, offset, 0, PyUnicode_FromString(expected), reason);
 }
 
 /* "WHAT, not TYPE", by the type of an object, unless a metaclass hides its name. */
@@ -42,7 +52,7 @@ static PyObject *with_type(const State *state, const char *what, PyObject *objec
 }
 
 void raise_unsupported(const State *state, size_t offset, const char *what, PyObject *object) {
-    raise_of(state, state->unsupported, "unsupported type", offset, 0, with_type(state, what, object));
+    raise_of(state, state->unsupported, "unsupported type", offset, 0, with_type(state, what, object), NULL);
 }
 
 void raise_foreign(const State *state, size_t offset) {

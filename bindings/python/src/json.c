@@ -108,16 +108,12 @@ static size_t offset_in(PyObject *text, const char *bytes, size_t offset) {
     return count;
 }
 
-static void raise_wrong_text(const State *state, const Options *how, amqpv_result result, size_t offset, int is_end) {
+static void raise_wrong_text(const State *state, const Options *how, amqpv_result result, size_t offset,
+                             uint8_t reason) {
+    const char *why = amqpv_reason_text(reason);
     switch (result) {
-    case AMQPV_NOT_JSON:
-        raise_error(state, "not JSON", offset, 0, "%s",
-                    is_end ? "more text, since the JSON isn't complete" : "a character with which the JSON can go on");
-        break;
-    case AMQPV_NOT_A_VALUE:
-        raise_error(state, "not a value", offset, 0,
-                    "JSON of a value: known names after $, numbers in range, keys of 255 bytes");
-        break;
+    case AMQPV_NOT_JSON: raise_reason(state, "not JSON", offset, "a JSON text", why); break;
+    case AMQPV_NOT_A_VALUE: raise_reason(state, "not a value", offset, "the JSON of a value", why); break;
     case AMQPV_NOT_UTF8: raise_error(state, "text not UTF-8", offset, 0, "bytes in UTF-8"); break;
     case AMQPV_TOO_DEEP:
         raise_error(state, "too deep", offset, 0, "brackets nested at most %u deep",
@@ -145,7 +141,7 @@ PyObject *encoding_of_json(const State *state, const Options *how, PyObject *tex
     const char *bytes = NULL;
     size_t length = 0, blank = 0;
     Buffer buffer = {NULL, 0, 0};
-    amqpv_problem problem = {0, 0, 0};
+    amqpv_problem problem = {0, 0, 0, 0};
     PyObject *made = NULL, *kept = text_of(state, text, &bytes, &length);
     if (kept == NULL) {
         return NULL;
@@ -167,7 +163,7 @@ PyObject *encoding_of_json(const State *state, const Options *how, PyObject *tex
         }
         made = taken(state, how, &buffer, blank);
     } else {
-        raise_wrong_text(state, how, result, offset_in(text, bytes, problem.offset), problem.offset == length);
+        raise_wrong_text(state, how, result, offset_in(text, bytes, problem.offset), problem.reason);
     }
     PyMem_Free(buffer.bytes);
     Py_DECREF(kept);

@@ -66,6 +66,8 @@ PyObject *documented(const State *state, PyObject *made);
 
 /* Raises an Error: its kind, offset and missing bytes, and in the words of PyUnicode_FromFormat what was expected. */
 void raise_error(const State *state, const char *kind, size_t offset, size_t missing, const char *format, ...);
+/* The same of a text, with the reason why it is wrong. */
+void raise_reason(const State *state, const char *kind, size_t offset, const char *expected, const char *reason);
 
 /* Makes what a caller's own methods have raised an Error, except a TypeError, a MemoryError, an Error, and what is no
    Exception, as KeyboardInterrupt. */

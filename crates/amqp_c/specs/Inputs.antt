@@ -81,7 +81,7 @@ unknown_tag _ = 0
 
 -- what is reported of a first problem, if the field that is being read needs n more bytes
 abbrev pub error_of : in_place.Problem → ℕ → ReadError
-error_of p n = record { fault = fault_of p.offset p.kind n; problem = record { offset = p.offset; missing = missing_of p.offset p.kind n; tag = unknown_tag p.kind } }
+error_of p n = record { fault = fault_of p.offset p.kind n; problem = record { offset = p.offset; missing = missing_of p.offset p.kind n; tag = unknown_tag p.kind; reason = 0 } }
 
 -- what is reported of the value, if it isn't read by the rules
 abbrev pub read_error : Rules → Input → Option ReadError

@@ -18,6 +18,8 @@ pub struct Problem {
     pub missing: usize,
     /// After `Fault::UnknownTag`: the byte. Otherwise 0.
     pub tag: u8,
+    /// After `Fault::NotJson` and `Fault::NotAValue`: the number of the reason, one of `AMQPV_JSON_..`. Otherwise 0.
+    pub reason: u8,
 }
 
 /// Why and where reading failed.
@@ -38,6 +40,7 @@ impl ReadError {
                 offset: first.offset,
                 missing: missing_of(first, header),
                 tag: unknown_tag(first.kind),
+                reason: 0,
             },
         }
     }

@@ -15,11 +15,12 @@ ghost use Rattle.amqp_c_alloc.specs.WarningCalls.{GivesWarnings};
 
 mod canonical;
 mod json;
+mod reason;
 mod warnings;
 
 use amqp_c::{Input, Problem, return_length};
 use canonical::canonical;
-use json::{put_encoding, store_offset};
+use json::{put_encoding, store_problem};
 use std::alloc::Global;
 use warnings::{Warnings, find_warnings, store_warnings};
 
@@ -38,8 +39,8 @@ pub extern "C" fn amqpv_canonical(
     return_length(canonical(alloc, input, buffer), length)
 }
 
-/// Writes the canonical encoding of the value that a JSON text means to the start of `buffer`, or stores where the
-/// text isn't the JSON of a value. A `nesting` of more than 127 counts as that. `length` is as for
+/// Writes the canonical encoding of the value that a JSON text means to the start of `buffer`, or stores where and
+/// why the text isn't the JSON of a value. A `nesting` of more than 127 counts as that. `length` is as for
 /// `amqpv_canonical`.
 #[unsafe(no_mangle)]
 pub extern "C" fn amqpv_proved_from_json(
@@ -54,7 +55,7 @@ pub extern "C" fn amqpv_proved_from_json(
         buffer.old problem.old result buffer.new length.new problem.new }
 {
     let put = put_encoding(alloc, text, nesting, buffer);
-    store_offset(put.offset, problem);
+    store_problem(put.problem, problem);
     return_length(put.done, length)
 }
 

@@ -5,7 +5,7 @@
 #![allow(unsafe_code)]
 
 use crate::value::Payload;
-use crate::{EqualKeys, Error, Limits, Measure, PathStep, Problem, ProblemKind, ValueRef, WriteError};
+use crate::{EqualKeys, Error, JsonReason, Limits, Measure, PathStep, Problem, ProblemKind, ValueRef, WriteError};
 use amqp_values_sys::*;
 use core::str;
 #[cfg(feature = "std")]
@@ -42,22 +42,49 @@ fn checked<T: Default>(call: Check<T>, bytes: &[u8], flags: u32, limits: Limits)
     match unsafe { call(&input(bytes, flags, limits), &mut found, &mut problem) } {
         AMQPV_OK => Ok(found),
         AMQPV_MORE => Err(Error::Incomplete { missing: problem.missing }),
-        result => Err(Error::Problem(Problem { offset: problem.offset, kind: kind_of(result, problem.tag) })),
+        result => Err(Error::Problem(Problem { offset: problem.offset, kind: kind_of(result, problem) })),
     }
 }
 
-fn kind_of(result: amqpv_result, tag: u8) -> ProblemKind {
+fn kind_of(result: amqpv_result, problem: amqpv_problem) -> ProblemKind {
     match result {
-        AMQPV_UNKNOWN_TAG => ProblemKind::UnknownTag(tag),
+        AMQPV_UNKNOWN_TAG => ProblemKind::UnknownTag(problem.tag),
         AMQPV_KEY_CUT => ProblemKind::KeyCut,
         AMQPV_KEY_NOT_UTF8 => ProblemKind::KeyNotUtf8,
         AMQPV_NOT_FINITE => ProblemKind::NotFinite,
         AMQPV_TOO_DEEP => ProblemKind::TooDeep,
         AMQPV_TOO_LARGE => ProblemKind::TooLarge,
-        AMQPV_NOT_JSON => ProblemKind::NotJson,
-        AMQPV_NOT_A_VALUE => ProblemKind::NotAValue,
+        AMQPV_NOT_JSON => ProblemKind::NotJson(reason_of(problem.reason)),
+        AMQPV_NOT_A_VALUE => ProblemKind::NotAValue(reason_of(problem.reason)),
         // AMQPV_CUT: the flags are known, and a str is UTF-8
         _ => ProblemKind::Cut,
+    }
+}
+
+fn reason_of(reason: u8) -> JsonReason {
+    match reason {
+        AMQPV_JSON_UNEXPECTED_END => JsonReason::UnexpectedEnd,
+        AMQPV_JSON_UNFINISHED_STRING => JsonReason::UnfinishedString,
+        AMQPV_JSON_UNEXPECTED_CHARACTER => JsonReason::UnexpectedCharacter,
+        AMQPV_JSON_CONTROL_CHARACTER => JsonReason::ControlCharacter,
+        AMQPV_JSON_UNKNOWN_ESCAPE => JsonReason::UnknownEscape,
+        AMQPV_JSON_LONE_SURROGATE => JsonReason::LoneSurrogate,
+        AMQPV_JSON_MISSING_COMMA => JsonReason::MissingComma,
+        AMQPV_JSON_MISSING_COLON => JsonReason::MissingColon,
+        AMQPV_JSON_TRAILING_COMMA => JsonReason::TrailingComma,
+        AMQPV_JSON_AFTER_THE_VALUE => JsonReason::AfterTheValue,
+        AMQPV_JSON_BYTE_ORDER_MARK => JsonReason::ByteOrderMark,
+        AMQPV_JSON_UNKNOWN_TYPE => JsonReason::UnknownType,
+        AMQPV_JSON_NOT_ALONE => JsonReason::NotAlone,
+        AMQPV_JSON_KEY_TOO_LONG => JsonReason::KeyTooLong,
+        AMQPV_JSON_NOT_A_NUMBER => JsonReason::NotANumber,
+        AMQPV_JSON_NOT_A_STRING => JsonReason::NotAString,
+        AMQPV_JSON_OUT_OF_RANGE => JsonReason::OutOfRange,
+        AMQPV_JSON_ODD_DIGITS => JsonReason::OddDigits,
+        AMQPV_JSON_NOT_HEXADECIMAL => JsonReason::NotHexadecimal,
+        AMQPV_JSON_DIGIT_COUNT => JsonReason::DigitCount,
+        AMQPV_JSON_NOT_A_DECIMAL => JsonReason::NotADecimal,
+        _ => JsonReason::Other,
     }
 }
 
@@ -193,7 +220,7 @@ pub(crate) fn from_json(text: &str, limits: Limits) -> Result<Vec<u8>, Error> {
         }
         Err(AMQPV_NO_MEMORY) => Err(Error::OutOfMemory),
         Err(AMQPV_NO_ENCODING) => Err(too_large),
-        Err(result) => Err(Error::Problem(Problem { offset: problem.offset, kind: kind_of(result, 0) })),
+        Err(result) => Err(Error::Problem(Problem { offset: problem.offset, kind: kind_of(result, problem) })),
     }
 }
 
@@ -239,7 +266,6 @@ pub(crate) fn find(body: &[u8], tag: u8, step: PathStep<'_>, of_equal: EqualKeys
 }
 
 /// Where a table is built.
-#[derive(Debug)]
 pub(crate) enum Buffer<'b> {
     /// A slice, whose length is the limit.
     Slice(&'b mut [u8]),
@@ -293,7 +319,6 @@ impl<'b> Buffer<'b> {
 }
 
 /// A container that is being built in a buffer.
-#[derive(Debug)]
 pub(crate) struct Body<'b> {
     buffer: Buffer<'b>,
     built: Progress<'b>,
@@ -301,14 +326,13 @@ pub(crate) struct Body<'b> {
 
 /// How far a container is built, or, of one in another, where that stands: so it is known even if a function puts another builder in
 /// the place of the one that it fills.
-#[derive(Debug)]
 enum Progress<'b> {
     Own(Built),
     Lent(&'b mut Built),
 }
 
 /// How far a container is built.
-#[derive(Clone, Copy, Debug)]
+#[derive(Clone, Copy)]
 struct Built {
     /// What is written. Once the buffer is too small the container counts as empty, in a buffer of no bytes, so that each entry
     /// needs as many as it has.
@@ -343,6 +367,24 @@ impl<'b> Body<'b> {
     pub(crate) fn after(bytes: &'b mut Vec<u8>) -> Self {
         let start = bytes.len();
         Self { buffer: Buffer::Vector { bytes, start }, built: Progress::Own(Built::empty(AMQPV_TABLE, LENGTH, None)) }
+    }
+
+    /// What is written of the container, or, if the buffer is too small, how many bytes the outermost table needs up to here.
+    pub(crate) fn written(&self) -> Result<&[u8], usize> {
+        let built = match &self.built {
+            Progress::Own(built) => built,
+            Progress::Lent(built) => &**built,
+        };
+        let buffer = match &self.buffer {
+            Buffer::Slice(slice) => &slice[..],
+            #[cfg(feature = "std")]
+            Buffer::Vector { bytes, start } => &bytes[*start..],
+        };
+        match built.needed {
+            // (a vector that nothing was put into may not have room for the length of the table)
+            None => Ok(buffer.get(built.into.written.offset..built.end()).unwrap_or_default()),
+            Some(needed) => Err(needed),
+        }
     }
 
     fn built(&mut self) -> &mut Built {

@@ -1,4 +1,4 @@
-//! `Error`, its `Problem` and `ProblemKind`, and `WriteError`, with their texts.
+//! `Error`, its `Problem`, `ProblemKind` and `JsonReason`, and `WriteError`, with their texts.
 
 use core::fmt;
 
@@ -49,11 +49,61 @@ pub enum ProblemKind {
     TooManyValues,
     /// The text isn't JSON: what is before the offset can go on to a JSON text, but not with what is there. At the end of the text
     /// it is cut.
-    NotJson,
+    NotJson(JsonReason),
     /// The text is JSON up to the offset, where something begins that no value has.
-    NotAValue,
+    NotAValue(JsonReason),
     /// The text is the JSON of a value that isn't a table.
     NotATable,
+}
+
+/// Why a text isn't JSON, or not that of a value. `docs/JSON.md` has an example of each.
+#[derive(Clone, Copy, Debug, PartialEq, Eq)]
+#[non_exhaustive]
+pub enum JsonReason {
+    /// The text ends too early.
+    UnexpectedEnd,
+    /// The text ends in a string.
+    UnfinishedString,
+    /// A character that can't be there in any JSON text.
+    UnexpectedCharacter,
+    /// A control character in a string, such as a line feed, which has to be escaped.
+    ControlCharacter,
+    /// A character after a backslash that makes no escape, or no hexadecimal digit after `\u`.
+    UnknownEscape,
+    /// An escape of one half of a surrogate pair without the other.
+    LoneSurrogate,
+    /// A value or a key where a comma should be.
+    MissingComma,
+    /// Something other than a colon after a key.
+    MissingColon,
+    /// A closing bracket after a comma.
+    TrailingComma,
+    /// Something after the value of the text.
+    AfterTheValue,
+    /// A byte order mark at the beginning.
+    ByteOrderMark,
+    /// A key with one `$` and no name of a type that is written by its name.
+    UnknownType,
+    /// A key with one `$` beside another key, or another key beside it.
+    NotAlone,
+    /// A table's key of more than 255 bytes.
+    KeyTooLong,
+    /// Anything but a number for a type that is written as a number.
+    NotANumber,
+    /// Anything but a string for a type that is written as a string.
+    NotAString,
+    /// A number that isn't an integer, or that the type doesn't hold.
+    OutOfRange,
+    /// An odd number of hexadecimal digits.
+    OddDigits,
+    /// A character that isn't a hexadecimal digit.
+    NotHexadecimal,
+    /// A `Float` that doesn't have 8 digits, or a `Double` that doesn't have 16.
+    DigitCount,
+    /// A decimal that isn't a number, `e-` and a scale, as `314e-2`.
+    NotADecimal,
+    /// A reason that only a later version of the library has.
+    Other,
 }
 
 /// Why an entry isn't put into a table, which then stays as it was, or why the table isn't finished.
@@ -106,9 +156,38 @@ impl fmt::Display for ProblemKind {
             Self::TooDeep => "too deep",
             Self::TooLarge => "too large",
             Self::TooManyValues => "too many values",
-            Self::NotJson => "not JSON",
-            Self::NotAValue => "not the JSON of a value",
+            Self::NotJson(reason) => return write!(f, "not JSON: {reason}"),
+            Self::NotAValue(reason) => return write!(f, "not the JSON of a value: {reason}"),
             Self::NotATable => "not the JSON of a table",
+        })
+    }
+}
+
+impl fmt::Display for JsonReason {
+    fn fmt(&self, f: &mut fmt::Formatter<'_>) -> fmt::Result {
+        f.write_str(match self {
+            Self::UnexpectedEnd => "unexpected end",
+            Self::UnfinishedString => "unfinished string",
+            Self::UnexpectedCharacter => "unexpected character",
+            Self::ControlCharacter => "control character in a string",
+            Self::UnknownEscape => "unknown escape",
+            Self::LoneSurrogate => "lone surrogate",
+            Self::MissingComma => "missing comma",
+            Self::MissingColon => "missing colon",
+            Self::TrailingComma => "trailing comma",
+            Self::AfterTheValue => "more text after the value",
+            Self::ByteOrderMark => "byte order mark",
+            Self::UnknownType => "expected the name of a type after `$`",
+            Self::NotAlone => "expected no other key beside a type name",
+            Self::KeyTooLong => "a key of more than 255 bytes",
+            Self::NotANumber => "expected a number",
+            Self::NotAString => "expected a string",
+            Self::OutOfRange => "expected a number that the type holds",
+            Self::OddDigits => "expected an even number of hexadecimal digits",
+            Self::NotHexadecimal => "expected only hexadecimal digits",
+            Self::DigitCount => "expected 8 hexadecimal digits of a Float, or 16 of a Double",
+            Self::NotADecimal => "expected a number and a scale, as in 314e-2",
+            Self::Other => "unknown reason",
         })
     }
 }

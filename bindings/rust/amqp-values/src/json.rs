@@ -81,10 +81,10 @@ pub fn table_to_json(bytes: &[u8], limits: Limits, canonical: bool) -> Result<St
 /// # Examples
 ///
 /// ```
-/// use amqp_values::{from_json, Error, Limits, Problem, ProblemKind};
+/// use amqp_values::{from_json, Error, JsonReason, Limits, Problem, ProblemKind};
 ///
 /// assert_eq!(from_json(r#"[{"$LongInt":5},"a"]"#, Limits::DEFAULT)?, b"A\0\0\0\x0bI\0\0\0\x05S\0\0\0\x01a");
-/// let missing_comma = Problem { offset: 3, kind: ProblemKind::NotJson };
+/// let missing_comma = Problem { offset: 3, kind: ProblemKind::NotJson(JsonReason::MissingComma) };
 /// assert_eq!(from_json("[1 2]", Limits::DEFAULT), Err(Error::Problem(missing_comma)));
 /// # Ok::<(), Error>(())
 /// ```

@@ -43,7 +43,7 @@ mod read;
 mod value;
 
 pub use build::{ArrayBuilder, TableBuilder};
-pub use error::{Error, Problem, ProblemKind, WriteError};
+pub use error::{Error, JsonReason, Problem, ProblemKind, WriteError};
 pub use iter::{ArrayValues, TablePairs};
 #[cfg(feature = "std")]
 pub use json::{from_json, table_from_json, table_to_json, to_json};

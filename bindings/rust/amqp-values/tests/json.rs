@@ -1,6 +1,8 @@
 //! Tests of `to_json` and `from_json`. `tests/rust/json.rs` compares both with a model.
 
-use amqp_values::{from_json, table_from_json, table_to_json, to_json, Error, Limits, Problem, ProblemKind};
+use amqp_values::{
+    from_json, table_from_json, table_to_json, to_json, Error, JsonReason, Limits, Problem, ProblemKind,
+};
 
 const LIMITS: Limits = Limits::DEFAULT;
 /// Each type, as `docs/JSON.md` has it, and its encoding.
@@ -94,20 +96,44 @@ fn bytes_that_are_not_read_have_no_json() {
 }
 
 #[test]
-fn a_text_has_the_offset_of_what_is_wrong() {
-    for (text, kind, offset) in [
-        ("", ProblemKind::NotJson, 0),
-        ("[1", ProblemKind::NotJson, 2),
-        ("[1,]", ProblemKind::NotJson, 3),
-        ("\"\u{e9}\" x", ProblemKind::NotJson, 5),
-        (r#"{"$ShortInt":32768}"#, ProblemKind::NotAValue, 13),
-        (r#"{"a":[-0]}"#, ProblemKind::NotAValue, 6),
-        (r#"{"$Boolean":true}"#, ProblemKind::NotAValue, 1),
+fn a_text_has_the_reason_and_the_offset_of_what_is_wrong() {
+    let long = format!("{{\"{}\":1}}", "k".repeat(256));
+    for (text, reason, offset) in [
+        ("", JsonReason::UnexpectedEnd, 0),
+        ("[1", JsonReason::UnexpectedEnd, 2),
+        ("[\"a", JsonReason::UnfinishedString, 3),
+        ("{'a':1}", JsonReason::UnexpectedCharacter, 1),
+        ("\"\n\"", JsonReason::ControlCharacter, 1),
+        (r#"["\x"]"#, JsonReason::UnknownEscape, 3),
+        (r#""\udc00""#, JsonReason::LoneSurrogate, 4),
+        ("[1 2]", JsonReason::MissingComma, 3),
+        (r#"{"a" 1}"#, JsonReason::MissingColon, 5),
+        ("[1,]", JsonReason::TrailingComma, 3),
+        ("\"\u{e9}\" x", JsonReason::AfterTheValue, 5),
+        ("\u{feff}1", JsonReason::ByteOrderMark, 0),
     ] {
-        assert_eq!(problem(from_json(text, LIMITS)), Some((kind, offset)), "{text}");
-        assert_eq!(problem(table_from_json(text, LIMITS)), Some((kind, offset)), "{text}");
+        assert_eq!(problem(from_json(text, LIMITS)), Some((ProblemKind::NotJson(reason), offset)), "{text}");
+        assert_eq!(problem(table_from_json(text, LIMITS)), Some((ProblemKind::NotJson(reason), offset)), "{text}");
     }
-    assert_eq!(from_json("[1,]", LIMITS).unwrap_err().to_string(), "not JSON, at 3");
+    for (text, reason, offset) in [
+        (r#"{"$Boolean":true}"#, JsonReason::UnknownType, 1),
+        (r#"{"$ShortInt":5,"a":1}"#, JsonReason::NotAlone, 15),
+        (&long, JsonReason::KeyTooLong, 1),
+        (r#"{"$ShortInt":"5"}"#, JsonReason::NotANumber, 13),
+        (r#"{"$DecimalValue":1}"#, JsonReason::NotAString, 17),
+        (r#"{"$ShortInt":32768}"#, JsonReason::OutOfRange, 13),
+        (r#"{"a":[-0]}"#, JsonReason::OutOfRange, 6),
+        (r#"{"$ByteArray":"01a"}"#, JsonReason::OddDigits, 14),
+        (r#"{"$ByteArray":"0x"}"#, JsonReason::NotHexadecimal, 14),
+        (r#"{"$Float":"3f80"}"#, JsonReason::DigitCount, 10),
+        (r#"{"$DecimalValue":"3.14"}"#, JsonReason::NotADecimal, 17),
+    ] {
+        assert_eq!(problem(from_json(text, LIMITS)), Some((ProblemKind::NotAValue(reason), offset)), "{text}");
+        assert_eq!(problem(table_from_json(text, LIMITS)), Some((ProblemKind::NotAValue(reason), offset)), "{text}");
+    }
+    assert_eq!(from_json("[1,]", LIMITS).unwrap_err().to_string(), "not JSON: trailing comma, at 3");
+    let why = "not the JSON of a value: expected a number that the type holds, at 1";
+    assert_eq!(from_json("[-0]", LIMITS).unwrap_err().to_string(), why);
 }
 
 #[test]

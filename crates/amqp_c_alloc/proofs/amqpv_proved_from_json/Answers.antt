@@ -8,10 +8,10 @@ returns c =
     let put = c.put_encoding-put in
     record {
       done = put.result.done;
-      offset = put.result.offset;
+      found = put.result.problem;
       returned = search rules;
       counted = c.return_length.ensures.length;
-      stored = c.store_offset.ensures;
+      stored = c.store_problem.ensures;
       written = put.ensures.written;
       inside = put.ensures.inside;
       kept = put.ensures.kept;

@@ -20,10 +20,11 @@ returns-in-Err-encoding_of_json_within-clause-written c =
     let e = c.in-Err-encoding_of_json_within.error in
     let most = min c.args.nesting most_levels in
     let refused = subst (λ (s : List ℕ). IsRefusedWithin most e s) c.in-Ok.ensures.cases.0 c.in-Err-encoding_of_json_within.ensures.refused in
-    rw (c.failure_of.ensures.done, c.failure_of.ensures.offset) (rejected_text most t c.args.buffer.now c.args.buffer.now e c.in-Ok.ensures.cases.1 refused)
+    let within = subst (λ (s : List ℕ). IsWithin e (length s)) c.in-Ok.ensures.cases.0 c.in-Err-encoding_of_json_within.ensures.within in
+    rw (c.failure_of.ensures.done, c.failure_of.ensures.problem) (rejected_text most t c.args.buffer.now c.args.buffer.now e c.in-Ok.ensures.cases.1 refused within)
 
 pub returns-in-Err-encoding_of_json_within-clause-inside : goal.returns-in-Err-encoding_of_json_within-clause-inside
 returns-in-Err-encoding_of_json_within-clause-inside c =
     let e = c.in-Err-encoding_of_json_within.error in
     let within = subst (λ (s : List ℕ). IsWithin e (length s)) c.in-Ok.ensures.cases.0 c.in-Err-encoding_of_json_within.ensures.within in
-    rw c.failure_of.ensures.offset (inside_of_text e (length c.args.text.now) within)
+    rw c.failure_of.ensures.problem (inside_of_text e (length c.args.text.now) within)
