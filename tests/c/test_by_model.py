@@ -144,6 +144,28 @@ def test_limits(data: bytes) -> None:
 
 
 # Every bit of the flags that has no meaning.
+NAN, DEEP = b"f\x7f\xc0\0\0", b"A\0\0\0\5A\0\0\0\0"
+REJECTED = [
+    (b"U\0\1", (RABBITMQ,), c_api.UNKNOWN_TAG),
+    (b"U\0\1", (RABBITMQ, 2), c_api.TOO_LARGE),
+    (b"z", (RABBITMQ, 0), c_api.UNKNOWN_TAG),
+    (field(b"A", b"U\0\1"), (RABBITMQ,), c_api.UNKNOWN_TAG),
+    (NAN, (RABBITMQ,), c_api.NOT_FINITE),
+    (field(b"F", b"\1\xffV"), (0,), c_api.KEY_NOT_UTF8),
+    (field(b"F", b"\1k"), (0,), c_api.CUT),
+    (DEEP, (0, 10, 1), c_api.TOO_DEEP),
+]
+
+
+@pytest.mark.parametrize(("data", "limits", "result"), REJECTED)
+def test_a_stream_goes_on_after_a_rejected_value(data: bytes, limits: tuple[int, ...], result: int) -> None:
+    """Where the value ends that is rejected, unless its first byte is no type tag."""
+    assert c_api.read(data + b"V", *limits)[0] == result
+    found, entry = c_api.peek(data + b"V", *limits)
+    wanted = (c_api.UNKNOWN_TAG, None) if data == b"z" else (OK, (0, len(data)))
+    assert (found, entry and entry[1]) == wanted
+
+
 UNKNOWN = [1 << it for it in range(5, 32)]
 
 

@@ -34,6 +34,14 @@ put_next s xs ys bytes at k was same long fit =
     (take-put_mid at (at + k - at) xs ys (at + k) (omega arith) (omega arith) ∙ ap (λ l. take at xs ++ l) same)
     (drop-put_mid at (at + k - at) xs ys (at + k) (omega arith) (omega arith) (omega arith) ∙ sym tail))
 
+-- of two parts that don't overlap either may be written first
+pub either_first : (p k q l : ℕ) (xs ys zs : List ℕ) → length ys ≡ k → length zs ≡ l → p + k ≤ q → q + l ≤ length xs → put_mid p k (put_mid q l xs zs) ys ≡ put_mid q l (put_mid p k xs ys) zs
+either_first p k q l xs ys zs long more apart fit = same_lists _ _ (search (rules, places)) (λ n d m. grind (arith, places))
+
+-- a part that is overwritten leaves the list as long as it was
+pub as_long : (p k : ℕ) (xs ys : List ℕ) → length ys ≡ k → p + k ≤ length xs → length (put_mid p k xs ys) ≡ length xs
+as_long p k xs ys long fit = search (rules, places)
+
 -- bytes before the place were overwritten
 pub fill_before : (s : Sliced) (xs ys bytes : List ℕ) (from at : ℕ) → cut_at xs at ≡ s → ys ≡ bytes → from + length bytes ≤ length s.put → at ≤ length xs → seen_slice (cut_at (put_mid from (from + length bytes - from) xs ys) at) ≡ filled (seen_slice s) from bytes
 fill_before s xs ys bytes from at was same h fit =

@@ -4,17 +4,20 @@ use Rattle.std.specs.Ordering.{nat_cmp}
 use Rattle.std.specs.Cmp.Lexicographic.{slice_cmp}
 use Rattle.std.specs.List.Sorted.{IsStrictlySortedBy}
 use Rattle.std.specs.Map.{keys_of}
+use Rattle.amqp_value_core.specs.declared.types.amqp_type.AMQPType.{AMQPType}
 use Rattle.amqp_value_core.specs.declared.value.AMQPValue.{AMQPValue}
-use Rattle.amqp_value_core.specs.Values.{Tree, table}
+use Rattle.amqp_value_core.specs.Values.{Tree, table, type_of}
+use Rattle.amqp_value_core.specs.Ids.{id_of}
 use Rattle.amqp_value_core.specs.Bytes.{IsShort}
 use Rattle.amqp_value_core.specs.Grammar.{short_field, long_field}
 use Rattle.amqp_value_core.specs.View.{view}
 use Rattle.amqp_value_core.specs.Containers.{entries}
-use Rattle.amqp_value_core.specs.Texts.{text, pairs, Fits, EntriesFit}
+use Rattle.amqp_value_core.specs.Texts.{text, payload, pairs, Fits, EntriesFit}
 use Rattle.amqp_value_core.specs.InMemory.{IsValue, AreEntries}
 use Rattle.amq_protocol_types.specs.declared.generation.error.GenError.{GenError}
 use Rattle.amq_protocol_types.specs.generation.Outputs.{OutputState, Writes}
 use Rattle.amq_protocol_types.specs.generation.BufferOutput.{IsConsistentOutput, TruncatesTo, PatchesLength}
+use Rattle.amq_protocol_types.proofs.Arrays.{text_of}
 use Rattle.amq_protocol_types.proofs.Steps.{both_put, refused, refused_inside, length_put}
 
 -- the entries of a table, with their values in memory
@@ -86,10 +89,16 @@ one_more_put {rest = rest} k v here is value p q =
       stored = stored_more p.done k v p.stored is value;
     }
 
--- an entry's key was put and its value rejected, and the key was taken back
-pub key_taken_back : {A : Type 0} (k name : List ℕ) (v : Tree) (at : ℕ) {s t u w : OutputState} {e : GenError} → name ≡ k → at ≡ s.position → IsConsistentOutput s → Writes true A (short_field name) s (Ok tt) t → Writes true (Fits v) (text v) t (Err e) u → TruncatesTo at u w → Writes true (Fits v) (short_field k ++ text v) s (Err e) w
-key_taken_back k name v at same place whole p q back =
-    refused (Fits v) (short_field k ++ text v) at place whole (omega (arith, length-append k (text v), ap length same)) (λ fit. fit) p q back
+-- a key with the type tag, and the payload
+pub key_then : (k name : List ℕ) (v : Tree) (type : AMQPType) → name ≡ k → type ≡ type_of v → short_field k ++ text v ≡ (short_field name ++ id_of type ∷ []) ++ payload v
+key_then k name v type same e =
+    ap (λ s. short_field s ++ text v) (sym same) ∙ ap (λ l. short_field name ++ l) (text_of v type e) ∙ sym (append_assoc (short_field name) (id_of type ∷ []) (payload v))
+
+-- an entry's key and type tag were put and its payload rejected, and they were taken back
+pub key_taken_back : {A : Type 0} (k name : List ℕ) (v : Tree) (type : AMQPType) (at : ℕ) {s t u w : OutputState} {e : GenError} → name ≡ k → type ≡ type_of v → at ≡ s.position → IsConsistentOutput s → Writes true A (short_field name ++ id_of type ∷ []) s (Ok tt) t → Writes true (Fits v) (payload v) t (Err e) u → TruncatesTo at u w → Writes true (Fits v) (short_field k ++ text v) s (Err e) w
+key_taken_back k name v type at same is place whole p q back =
+    let long = ap length (key_then k name v type same is) ∙ length-append (short_field name ++ id_of type ∷ []) (payload v) in
+    refused (Fits v) (short_field k ++ text v) at place whole (omega (arith, long)) (λ fit. fit) p q back
 
 -- what a table's generator must promise
 abbrev pub TableOwes : Stored → OutputState → Result (Unit {0}) GenError → OutputState → Type 0

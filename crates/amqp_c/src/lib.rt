@@ -102,7 +102,8 @@ pub extern "C" fn amqpv_proved_read(
     store_read(read(&input, rules), entry, problem)
 }
 
-/// Returns the entry of the value at the start of the input, by its type tag and its length only, in constant time.
+/// Returns the entry of the value at the start of the input, by its type tag and its length only, whatever the rules are, in
+/// constant time.
 #[unsafe(no_mangle)]
 pub extern "C" fn amqpv_peek(input: &Input<'_>, entry: &mut Entry) -> i32
     ensures unknown_flag { rules input.now ≡ None
@@ -181,7 +182,8 @@ pub extern "C" fn amqpv_proved_measure(
     store_read(measure(input), size, problem)
 }
 
-/// Returns whether the value at the start of the input, which is read as by `amqpv_proved_read`, is encoded canonically.
+/// Returns whether the value at the start of the input, which is read as by `amqpv_proved_read`, is encoded
+/// canonically.
 #[unsafe(no_mangle)]
 pub extern "C" fn amqpv_is_canonical(input: &Input<'_>) -> i32
     ensures flags { has_known_flags input.now ≡ false → result ≡ code_of Invalid }

@@ -1,7 +1,7 @@
 //! `TableBuilder` and `ArrayBuilder`, which write values into a buffer of the caller.
 
 use crate::calls::Body;
-use crate::{ValueRef, WriteError};
+use crate::{ArrayValues, TablePairs, ValueRef, WriteError};
 use amqp_values_sys::{AMQPV_ARRAY, AMQPV_TABLE};
 #[cfg(feature = "std")]
 use std::vec::Vec;
@@ -26,11 +26,9 @@ use std::vec::Vec;
 /// assert_eq!(table, b"\0\0\0\x2a\x0cx-max-lengthI\0\0\x27\x10\x0cx-queue-typeS\0\0\0\x06quorum");
 /// # Ok::<(), WriteError>(())
 /// ```
-#[derive(Debug)]
 pub struct TableBuilder<'b>(Body<'b>);
 
 /// Builds an array in a buffer, value by value, as a [`TableBuilder`] builds a table.
-#[derive(Debug)]
 pub struct ArrayBuilder<'b>(Body<'b>);
 
 impl<'b> TableBuilder<'b> {
@@ -181,7 +179,19 @@ impl<'b> TableBuilder<'b> {
     }
 }
 
+impl TableBuilder<'_> {
+    /// The pairs so far, or how many bytes the table needs if the slice is too small.
+    pub(crate) fn pairs(&self) -> Result<TablePairs<'_>, usize> {
+        self.0.written().map(TablePairs::in_body)
+    }
+}
+
 impl ArrayBuilder<'_> {
+    /// The values so far, or how many bytes the table needs if the slice is too small.
+    pub(crate) fn values(&self) -> Result<ArrayValues<'_>, usize> {
+        self.0.written().map(ArrayValues::in_body)
+    }
+
     /// Appends a value.
     ///
     /// # Errors

@@ -226,7 +226,6 @@ pub(crate) fn find(body: &[u8], tag: u8, step: PathStep<'_>, of_equal: EqualKeys
 }
 
 /// Where a table is built.
-#[derive(Debug)]
 pub(crate) enum Buffer<'b> {
     /// A slice, whose length is the limit.
     Slice(&'b mut [u8]),
@@ -280,7 +279,6 @@ impl<'b> Buffer<'b> {
 }
 
 /// A container that is being built in a buffer.
-#[derive(Debug)]
 pub(crate) struct Body<'b> {
     buffer: Buffer<'b>,
     built: Progress<'b>,
@@ -288,14 +286,13 @@ pub(crate) struct Body<'b> {
 
 /// How far a container is built, or, of one in another, where that stands: so it is known even if a function puts another builder in
 /// the place of the one that it fills.
-#[derive(Debug)]
 enum Progress<'b> {
     Own(Built),
     Lent(&'b mut Built),
 }
 
 /// How far a container is built.
-#[derive(Clone, Copy, Debug)]
+#[derive(Clone, Copy)]
 struct Built {
     /// What is written. Once the buffer is too small the container counts as empty, in a buffer of no bytes, so that each entry
     /// needs as many as it has.
@@ -330,6 +327,24 @@ impl<'b> Body<'b> {
     pub(crate) fn after(bytes: &'b mut Vec<u8>) -> Self {
         let start = bytes.len();
         Self { buffer: Buffer::Vector { bytes, start }, built: Progress::Own(Built::empty(AMQPV_TABLE, LENGTH, None)) }
+    }
+
+    /// What is written of the container, or, if the buffer is too small, how many bytes the outermost table needs up to here.
+    pub(crate) fn written(&self) -> Result<&[u8], usize> {
+        let built = match &self.built {
+            Progress::Own(built) => built,
+            Progress::Lent(built) => &**built,
+        };
+        let buffer = match &self.buffer {
+            Buffer::Slice(slice) => &slice[..],
+            #[cfg(feature = "std")]
+            Buffer::Vector { bytes, start } => &bytes[*start..],
+        };
+        match built.needed {
+            // (a vector that nothing was put into may not have room for the length of the table)
+            None => Ok(buffer.get(built.into.written.offset..built.end()).unwrap_or_default()),
+            Some(needed) => Err(needed),
+        }
     }
 
     fn built(&mut self) -> &mut Built {

@@ -1,6 +1,6 @@
-//! `Debug` of values that were read: as much as a reader of a log wants, however large a value is.
+//! `Debug` of values that were read, and of builders: as much as a reader of a log wants, however large a value is.
 
-use crate::{ArrayRef, ArrayValues, TablePairs, TableRef, ValueRef};
+use crate::{ArrayBuilder, ArrayRef, ArrayValues, TableBuilder, TablePairs, TableRef, ValueRef};
 use core::cell::Cell;
 use core::fmt::{self, Debug, Formatter};
 
@@ -113,4 +113,25 @@ shown! {
     ArrayValues<'_>: |it| it.clone();
     /// Shows at most 64 of the pairs that are left.
     TablePairs<'_>: |it| it.clone();
+}
+
+/// Shows at most 64 pairs, in all levels, and, if the slice is too small, how many bytes the table needs so far. While a function fills
+/// a container in it, nothing of that is shown.
+impl Debug for TableBuilder<'_> {
+    fn fmt(&self, f: &mut Formatter<'_>) -> fmt::Result {
+        match self.pairs() {
+            Ok(pairs) => pairs.fmt(f),
+            Err(needed) => write!(f, "{{.. {needed} bytes}}"),
+        }
+    }
+}
+
+/// Shows at most 64 values, in all levels, and, if the slice is too small, how many bytes the table needs so far.
+impl Debug for ArrayBuilder<'_> {
+    fn fmt(&self, f: &mut Formatter<'_>) -> fmt::Result {
+        match self.values() {
+            Ok(values) => values.fmt(f),
+            Err(needed) => write!(f, "[.. {needed} bytes]"),
+        }
+    }
 }

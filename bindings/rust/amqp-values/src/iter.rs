@@ -19,6 +19,18 @@ pub struct TablePairs<'a> {
     cursor: amqpv_cursor,
 }
 
+impl<'a> ArrayValues<'a> {
+    pub(crate) fn in_body(body: &'a [u8]) -> Self {
+        Self { body, cursor: cursor(body, AMQPV_ARRAY) }
+    }
+}
+
+impl<'a> TablePairs<'a> {
+    pub(crate) fn in_body(body: &'a [u8]) -> Self {
+        Self { body, cursor: cursor(body, AMQPV_TABLE) }
+    }
+}
+
 impl<'a> Iterator for ArrayValues<'a> {
     type Item = ValueRef<'a>;
 
@@ -57,7 +69,7 @@ impl<'a> ArrayRef<'a> {
     /// Returns an iterator over the values, in their order.
     #[must_use]
     pub fn iter(self) -> ArrayValues<'a> {
-        ArrayValues { body: self.body(), cursor: cursor(self.body(), AMQPV_ARRAY) }
+        ArrayValues::in_body(self.body())
     }
 }
 
@@ -88,7 +100,7 @@ impl<'a> TableRef<'a> {
     /// ```
     #[must_use]
     pub fn iter(self) -> TablePairs<'a> {
-        TablePairs { body: self.body(), cursor: cursor(self.body(), AMQPV_TABLE) }
+        TablePairs::in_body(self.body())
     }
 }
 

@@ -226,3 +226,41 @@ fn a_key_may_have_255_bytes() {
     built.put(&key, ValueRef::Void).unwrap();
     assert_eq!(table(built.finish().unwrap()).get(&key), Some(ValueRef::Void));
 }
+
+#[test]
+fn a_builder_shows_what_it_has() {
+    let mut buffer = [0; 512];
+    let mut table = TableBuilder::new(&mut buffer);
+    assert_eq!(format!("{table:?}"), "{}");
+    table.put("a", 5).unwrap();
+    let filled = table.put_array("b", |array| {
+        array.push_table(|inner| {
+            inner.put("k", true)?;
+            assert_eq!(format!("{inner:?}"), r#"{"k": Boolean(true)}"#);
+            Ok::<(), WriteError>(())
+        })?;
+        assert_eq!(format!("{array:?}"), r#"[FieldTable({"k": Boolean(true)})]"#);
+        (0..65).try_for_each(|_| array.push(ValueRef::Void))
+    });
+    assert_eq!(filled, Ok(()));
+    // of 69 values 64 are shown
+    let array = ["FieldTable({\"k\": Boolean(true)})", &["Void"; 60].join(", "), ".. 5 more"].join(", ");
+    let shown = format!(r#"{{"a": LongInt(5), "b": FieldArray([{array}])}}"#);
+    assert_eq!(format!("{table:?}"), shown);
+
+    let mut vector = vec![1, 2, 3];
+    let mut table = TableBuilder::append_to(&mut vector);
+    assert_eq!(format!("{table:?}"), "{}");
+    table.put("a", 5).unwrap();
+    assert_eq!(format!("{table:?}"), r#"{"a": LongInt(5)}"#);
+
+    let mut small = [0; 10];
+    let mut table = TableBuilder::new(&mut small);
+    table.put("a", 5).unwrap();
+    let filled = table.put_array("b", |array| {
+        array.push(ValueRef::Void)?;
+        assert_eq!(format!("{array:?}"), "[.. 19 bytes]");
+        Ok::<(), WriteError>(())
+    });
+    assert_eq!((filled, format!("{table:?}")), (Ok(()), "{.. 19 bytes}".to_owned()));
+}

@@ -1,6 +1,6 @@
 //! [`WriteContext`], through which generators write to an output. It counts the bytes.
 
-ghost use Rattle.std.specs.Prelude.{◌≡◌, ◌-◌, ◌+◌, ◌≤◌, true, ⊤, IfOk, length, replicate};
+ghost use Rattle.std.specs.Prelude.{◌≡◌, ◌-◌, ◌+◌, ◌≤◌, true, ⊤, IfOk, [], ◌∷◌, ◌++◌, length, replicate};
 ghost use Rattle.amq_protocol_types.specs.generation.BufferOutput.{IsConsistentOutput, AppendsBytes, PromisesCapacity, outcome_of, filled, TruncatesTo};
 ghost use Rattle.amq_protocol_types.specs.generation.Outputs.{Writes};
 ghost use Rattle.amq_protocol_types.specs.generation.Contexts.{output_of, start_of, state_of};
@@ -45,6 +45,15 @@ impl<W: Output> WriteContext<W> {
         self.output.put(bytes)
     }
 
+    // Appends all of `a`, then all of `b`, or returns an error.
+    pub(crate) fn put_both(&mut self, a: &[u8], b: &[u8]) -> GenResult
+        ensures written { Writes W.is_buffer ⊤ (a.now ++ b.now)
+            (state_of W.seen self.old) result (state_of W.seen self.new) }
+        ensures start { start_of self.new ≡ start_of self.old }
+    {
+        self.output.put_both(a, b)
+    }
+
     // Reserves capacity for `n` more bytes, so that a buffer won't reject them, or fails.
     pub(crate) fn make_room(&mut self, n: usize) -> GenResult
         ensures made { PromisesCapacity W.is_buffer n
@@ -82,6 +91,15 @@ impl<W: BackToTheBuffer> WriteContext<W> {
         ensures whole { IsConsistentOutput (state_of W.seen self.old) }
     {
         self.output.reserve(n)
+    }
+
+    // Appends all of `a`, then all of `b`, then `c`, or returns an error.
+    pub(crate) fn put_three(&mut self, a: &[u8], b: &[u8], c: u8) -> GenResult
+        ensures written { Writes true ⊤ (a.now ++ (b.now ++ c ∷ []))
+            (state_of W.seen self.old) result (state_of W.seen self.new) }
+        ensures start { start_of self.new ≡ start_of self.old }
+    {
+        self.output.put_three(a, b, c)
     }
 
     // Replaces the bytes from the output's position `at` on.

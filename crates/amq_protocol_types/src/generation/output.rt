@@ -1,7 +1,7 @@
 //! [`Output`], the trait of what generators write to, and [`BackToTheBuffer`], the trait of a
 //! buffer, whose bytes can be changed or taken back.
 
-ghost use Rattle.std.specs.Prelude.{◌≡◌, ◌+◌, ◌≤◌, Bool, true, ⊤, IfOk, length, replicate};
+ghost use Rattle.std.specs.Prelude.{◌≡◌, ◌+◌, ◌≤◌, Bool, true, ⊤, IfOk, [], ◌∷◌, ◌++◌, length, replicate};
 ghost use Rattle.amq_protocol_types.specs.generation.Outputs.{OutputState, Writes};
 ghost use Rattle.amq_protocol_types.specs.generation.BufferOutput.{IsConsistentOutput, AppendsBytes, PromisesCapacity, outcome_of, filled, TruncatesTo};
 
@@ -28,6 +28,15 @@ pub trait Output {
     fn make_room(&mut self, n: usize) -> GenResult
         ensures { PromisesCapacity is_buffer n (seen self.old) result (seen self.new) };
 
+    /// Appends all of `a`, then all of `b`, or returns an error.
+    fn put_both(&mut self, a: &[u8], b: &[u8]) -> GenResult
+        ensures { Writes is_buffer ⊤ (a.now ++ b.now) (seen self.old) result (seen self.new) }
+    {
+        self.make_room(a.len() + b.len())?;
+        self.put(a)?;
+        self.put(b)
+    }
+
     /// The number of bytes before the next one.
     fn position(&self) -> u64
         ensures { result ≡ (seen self.now).position };
@@ -47,6 +56,19 @@ pub trait BackToTheBuffer: Output {
         ensures written { Writes true ⊤ (replicate n 0)
             (Self.seen self.old) (outcome_of result) (Self.seen self.new) }
         ensures place { IfOk result (λ at. at ≡ (Self.seen self.old).position) };
+
+    /// Appends all of `a`, then all of `b`, then `c`, or returns an error.
+    fn put_three(&mut self, a: &[u8], b: &[u8], c: u8) -> GenResult
+        ensures { Writes true ⊤ (a.now ++ (b.now ++ c ∷ [])) (Self.seen self.old) result (Self.seen self.new) }
+    {
+        let at = self.position();
+        self.put_both(a, b)?;
+        if let Err(e) = self.put(&[c]) {
+            self.back_to(at);
+            return Err(e);
+        }
+        Ok(())
+    }
 
     /// Overwrites the bytes from `at` on with `bytes`.
     fn fill(&mut self, at: u64, bytes: &[u8])

@@ -52,9 +52,24 @@ impl<'a> Output for SliceOutput<'a> {
         if bytes.len() > self.slice.len() - self.at {
             return Err(GenError::BufferTooSmall);
         }
-        let end = self.at + bytes.len();
-        self.slice[self.at..end].copy_from_slice(bytes);
+        let at = self.at;
+        let end = at + bytes.len();
         self.at = end;
+        self.slice[at..end].copy_from_slice(bytes);
+        Ok(())
+    }
+
+    fn put_both(&mut self, a: &[u8], b: &[u8]) -> GenResult {
+        let at = self.at;
+        let slice = &mut *self.slice;
+        if a.len() + b.len() > slice.len() - at {
+            return Err(GenError::BufferTooSmall);
+        }
+        let middle = at + a.len();
+        let end = middle + b.len();
+        self.at = end;
+        slice[at..middle].copy_from_slice(a);
+        slice[middle..end].copy_from_slice(b);
         Ok(())
     }
 
@@ -90,6 +105,22 @@ impl<'a> BackToTheBuffer for SliceOutput<'a> {
         self.slice[at..end].fill(0);
         self.at = end;
         Ok(at as u64)
+    }
+
+    fn put_three(&mut self, a: &[u8], b: &[u8], c: u8) -> GenResult {
+        let at = self.at;
+        let slice = &mut *self.slice;
+        if a.len() + b.len() >= slice.len() - at {
+            return Err(GenError::BufferTooSmall);
+        }
+        let middle = at + a.len();
+        let end = middle + b.len();
+        self.at = end + 1;
+        // `b` is copied last, since its copy may be a call
+        slice[end..end + 1].copy_from_slice(&[c]);
+        slice[at..middle].copy_from_slice(a);
+        slice[middle..end].copy_from_slice(b);
+        Ok(())
     }
 
     fn fill(&mut self, at: u64, bytes: &[u8]) {

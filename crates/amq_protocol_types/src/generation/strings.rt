@@ -21,12 +21,10 @@ pub fn gen_short_string<W: Output>(s: &str, x: &mut WriteContext<W>) -> GenResul
         → RefusedAsLong (state_of W.seen x.old) result (state_of W.seen x.new) }
     ensures start { KeepsStart x.old x.new }
 {
-    let Ok(n) = u8::try_from(s.len()) else {
+    if s.len() > 255 {
         return Err(GenError::LengthTooLong);
-    };
-    x.make_room(1 + s.len())?;
-    x.put(&[n])?;
-    x.put(s.as_bytes())
+    }
+    x.put_both(&[s.len() as u8], s.as_bytes())
 }
 
 /// Writes at most 4294967295 bytes after their length in four bytes, big-endian.
@@ -39,12 +37,10 @@ pub fn gen_long_string<W: Output>(s: &[u8], x: &mut WriteContext<W>) -> GenResul
         → RefusedAsLong (state_of W.seen x.old) result (state_of W.seen x.new) }
     ensures start { KeepsStart x.old x.new }
 {
-    let Ok(n) = u32::try_from(s.len()) else {
+    if s.len() > 0xffff_ffff {
         return Err(GenError::LengthTooLong);
-    };
-    x.make_room(4 + s.len())?;
-    x.put(&n.to_be_bytes())?;
-    x.put(s)
+    }
+    x.put_both(&u32::to_be_bytes(s.len() as u32), s)
 }
 
 /// Writes at most 4294967295 bytes after their length in four bytes, big-endian.

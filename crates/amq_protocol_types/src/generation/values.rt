@@ -1,10 +1,11 @@
 //! [`gen_value`] and [`gen_raw_value`], which write a value with and without its type tag, and the
 //! generators of arrays and tables. `scalars.rt` and `strings.rt` write all other payloads.
 
-ghost use Rattle.std.specs.Prelude.{◌+◌, ◌≤◌, ℕ, List, ◌++◌, true, OnOk};
-ghost use Rattle.amqp_value_core.specs.Values.{array, table};
+ghost use Rattle.std.specs.Prelude.{◌+◌, ◌≤◌, ℕ, List, [], ◌∷◌, ◌++◌, length, true, OnOk};
+ghost use Rattle.amqp_value_core.specs.Values.{array, table, type_of};
 ghost use Rattle.amqp_value_core.specs.View.{view};
 ghost use Rattle.amqp_value_core.specs.Containers.{array_view, table_view};
+ghost use Rattle.amqp_value_core.specs.Ids.{id_of};
 ghost use Rattle.amqp_value_core.specs.Bytes.{IsShort};
 ghost use Rattle.amqp_value_core.specs.Grammar.{short_field};
 ghost use Rattle.amqp_value_core.specs.Texts.{text, Fits, payload};
@@ -45,6 +46,7 @@ pub fn gen_value<W: BackToTheBuffer>(v: &AMQPValue, x: &mut WriteContext<W>) -> 
 
 // Writes a value, for `gen_value` and for the containers that it is in.
 #[cycle(values)]
+#[inline(always)]
 fn write_value<W: BackToTheBuffer>(v: &AMQPValue, x: &mut WriteContext<W>) -> GenResult
     ensures written { Writes true (Fits (view v.now)) (text (view v.now))
         (state_of W.seen x.old) result (state_of W.seen x.new) }
@@ -62,6 +64,7 @@ fn write_value<W: BackToTheBuffer>(v: &AMQPValue, x: &mut WriteContext<W>) -> Ge
 
 /// Writes a value's payload, without its type tag. Errors and memory are as in `gen_value`.
 #[cycle(values)]
+#[inline(always)]
 pub fn gen_raw_value<W: BackToTheBuffer>(v: &AMQPValue, x: &mut WriteContext<W>) -> GenResult
     ensures written { Writes true (Fits (view v.now)) (payload (view v.now))
         (state_of W.seen x.old) result (state_of W.seen x.new) }
@@ -87,9 +90,9 @@ pub fn gen_raw_value<W: BackToTheBuffer>(v: &AMQPValue, x: &mut WriteContext<W>)
         }
         AMQPValue::ShortString(s) => gen_short_string(s.as_str(), x),
         AMQPValue::LongString(s) => gen_long_string(s.as_bytes(), x),
-        AMQPValue::FieldArray(a) => gen_field_array(a, x),
+        AMQPValue::FieldArray(a) => Ok(gen_field_array(a, x)?),
         AMQPValue::Timestamp(n) => gen_timestamp(*n, x),
-        AMQPValue::FieldTable(t) => gen_field_table(t, x),
+        AMQPValue::FieldTable(t) => Ok(gen_field_table(t, x)?),
         AMQPValue::ByteArray(a) => gen_byte_array(a, x),
         AMQPValue::Void => Ok(()),
     }
@@ -99,6 +102,7 @@ pub fn gen_raw_value<W: BackToTheBuffer>(v: &AMQPValue, x: &mut WriteContext<W>)
 /// its type tag. Returns `LengthTooLong` if the body, or a string in it, has more than 4294967295
 /// bytes.
 #[cycle(values)]
+#[inline(never)]
 pub fn gen_field_array<W: BackToTheBuffer>(a: &FieldArray, x: &mut WriteContext<W>) -> GenResult
     ensures written { Writes true (Fits (array (array_view a.now)))
         (payload (array (array_view a.now)))
@@ -126,6 +130,7 @@ pub fn gen_field_array<W: BackToTheBuffer>(a: &FieldArray, x: &mut WriteContext<
 /// as a short string and its value after its type tag, sorted by the keys' bytes. Returns
 /// `LengthTooLong` if the body, or a string in it, has more than 4294967295 bytes.
 #[cycle(values)]
+#[inline(never)]
 pub fn gen_field_table<W: BackToTheBuffer>(t: &FieldTable, x: &mut WriteContext<W>) -> GenResult
     ensures written { Writes true (Fits (table (table_view t.now)))
         (payload (table (table_view t.now)))
@@ -149,8 +154,23 @@ pub fn gen_field_table<W: BackToTheBuffer>(t: &FieldTable, x: &mut WriteContext<
     fill_length(at, x)
 }
 
+// Writes a key as a short string, then the type tag of its value.
+#[inline(always)]
+fn gen_key<W: BackToTheBuffer>(k: &str, v: &AMQPValue, x: &mut WriteContext<W>) -> GenResult
+    ensures written { Writes true (length k.now ≤ 255) (short_field k.now ++ id_of (type_of (view v.now)) ∷ [])
+        (state_of W.seen x.old) result (state_of W.seen x.new) }
+    ensures start { KeepsStart x.old x.new }
+{
+    let tag = v.get_type().get_id() as u8;
+    if k.len() > 255 {
+        return Err(GenError::LengthTooLong);
+    }
+    x.put_three(&[k.len() as u8], k.as_bytes(), tag)
+}
+
 // Writes an entry of a table: its key as a short string, then its value with its type tag.
 #[cycle(values)]
+#[inline(always)]
 fn gen_entry<W: BackToTheBuffer>(
     k: &ShortString,
     v: &AMQPValue,
@@ -163,8 +183,8 @@ fn gen_entry<W: BackToTheBuffer>(
     ensures value { OnOk result (IsValue (view v.now)) }
 {
     let at = x.at();
-    gen_short_string(k.as_str(), x)?;
-    if let Err(e) = write_value(v, x) {
+    gen_key(k.as_str(), v, x)?;
+    if let Err(e) = gen_raw_value(v, x) {
         x.back_to(at);
         return Err(e);
     }
@@ -177,10 +197,11 @@ pub(super) fn fill_length<W: BackToTheBuffer>(at: u64, x: &mut WriteContext<W>) 
     ensures filled { PatchesLength at (state_of W.seen x.old) result (state_of W.seen x.new) }
     ensures start { KeepsStart x.old x.new }
 {
-    let Ok(n) = u32::try_from(x.at() - at - 4) else {
+    let n = x.at() - at - 4;
+    if n > 0xffff_ffff {
         x.back_to(at);
         return Err(GenError::LengthTooLong);
-    };
-    x.fill(at, &n.to_be_bytes());
+    }
+    x.fill(at, &u32::to_be_bytes(n as u32));
     Ok(())
 }

@@ -1,11 +1,11 @@
 -- Writing values, arrays, tables and entries (the cycle `values`): the parts put one after another
 -- are the canonical encoding, and after an error those before it were taken back.
-use Rattle.std.proofs.Common.{◌++◌, sym, ap, ◌∙◌, arith}
+use Rattle.std.proofs.Common.{◌++◌, refl, ◌∙◌, arith}
 use Rattle.amqp_value_core.specs.View.{view}
 use Rattle.amqp_value_core.specs.Grammar.{short_field}
 use Rattle.amqp_value_core.specs.Texts.{text, Fits}
 use Rattle.amq_protocol_types.proofs.Arrays.{values_next, value_refused, array_closed, array_value, text_of, longer_by_id, body_next, fit_next}
-use Rattle.amq_protocol_types.proofs.Tables.{none_put, one_more_put, key_taken_back, entry_refused, table_closed, table_value}
+use Rattle.amq_protocol_types.proofs.Tables.{none_put, one_more_put, key_then, key_taken_back, entry_refused, table_closed, table_value}
 use Rattle.amq_protocol_types.proofs.Steps.{lengths_of, both_put, refused, by_buffer}
 use Rattle.amq_protocol_types.proofs.ReadBack.{writes_payload_read, array_read_back, table_read_back, array_canonical, table_canonical}
 use Rattle.amqp_value_core.specs.Containers.{array_items, array_view, table_view}
@@ -24,7 +24,7 @@ write_value-returns-in-Err-clause-written g t c =
 pub gen_entry-returns-clause-written : goal.gen_entry-returns-clause-written
 gen_entry-returns-clause-written g t c =
     let v = view c.args.v.now in
-    both_put (Fits v) (short_field c.args.k.now ++ text v) (ap (λ s. short_field s ++ text v) (sym c.as_str.ensures.text)) (λ _ fit. fit) (by_buffer g.met.W.BackToTheBuffer.is_one c.in_ok-gen_short_string.ensures.written) c.in_default.ensures.written
+    both_put (Fits v) (short_field c.args.k.now ++ text v) (key_then _ _ v _ c.as_str.ensures.text refl) (λ _ fit. fit) c.in_ok-gen_key.ensures.written c.in_default.ensures.written
 
 pub gen_field_array-loop-v-preserved : goal.gen_field_array-loop-v-preserved
 gen_field_array-loop-v-preserved g t c =
@@ -53,7 +53,7 @@ gen_field_array-returns-clause-written g t c =
 
 pub gen_entry-returns-in-Err-clause-written : goal.gen_entry-returns-in-Err-clause-written
 gen_entry-returns-in-Err-clause-written g t c =
-    key_taken_back c.args.k.now c.as_str.result.now (view c.args.v.now) c.at-at.result c.as_str.ensures.text c.at-at.ensures.at c.at-at.ensures.whole (by_buffer g.met.W.BackToTheBuffer.is_one c.in_ok-gen_short_string.ensures.written) c.in-Err.ensures.written c.back_to.ensures.back
+    key_taken_back c.args.k.now c.as_str.result.now (view c.args.v.now) _ c.at-at.result c.as_str.ensures.text refl c.at-at.ensures.at c.at-at.ensures.whole c.in_ok-gen_key.ensures.written c.in-Err.ensures.written c.back_to.ensures.back
 
 pub gen_field_table-loop-k-init : goal.gen_field_table-loop-k-init
 gen_field_table-loop-k-init g t c = record {
