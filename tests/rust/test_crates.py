@@ -37,6 +37,24 @@ def test_own_tests(copies: Path, name: str, tools: Path | None) -> None:
     assert count_of_tests(done) >= examples + sum(it.count("#[test]") for it in sources)
 
 
+@pytest.mark.needs("rustfmt")
+def test_layouts(copies: Path) -> None:
+    """The declarations have each size and offset as clang has it, which is the same for both processors."""
+    command = [RUST / "declarations", "--layout-tests"]
+    of_x86_64, of_aarch64 = (assert_well(run([*command, f"{it}-unknown-linux-gnu"])) for it in ("x86_64", "aarch64"))
+    assert of_x86_64 == of_aarch64
+    folder = copied(copies / CRATES[0], copies / "layouts")
+    declared = folder / "src/bindings.rs"
+    # (the tests are added to what the repository has)
+    ours = declared.read_text()
+    tests = re.findall(r"(?ms)^#\[test\]\n.*?^}\n", of_x86_64)
+    assert len(tests) == len(re.findall(r"(?m)^pub struct \w+ \{", ours)) > 5
+    declared.write_text(ours + "".join(tests))
+    done = cargo(folder, "test", "layout")
+    assert_well(done)
+    assert count_of_tests(done) == len(tests)
+
+
 @pytest.mark.parametrize("name", CRATES)
 def test_rustdoc(copies: Path, name: str) -> None:
     assert_well(cargo(copies / name, "doc", "--no-deps", RUSTDOCFLAGS="-D warnings"))
