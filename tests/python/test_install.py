@@ -28,7 +28,7 @@ ADAPTERS: dict[str, tuple[Any, tuple[str, ...], tuple[str, ...]]] = {
 }
 DEEP, TWICE = self_check.deep(70), self_check.of((b"a", b"t\1"), (b"a", b"V"))
 # Pairs of a table, by values and in an order that no client writes.
-ODD = ((b"z", b"u\0\5"), (b"a", b"t\7"))
+ODD = ((b"z", b"u\0\5"), (b"a", b"t\7"), (b"e", b"F\0\0\0\0"))
 Bindings = dict[Any, dict[Any, Any]]
 # (what the first call of this, and the first `install`, would import is there before)
 assert metadata.version("pika") and all(import_module(it) for _, *of in ADAPTERS.values() for it in sum(of, ()))
@@ -128,13 +128,14 @@ def test_options(name: str) -> None:
     assert header.write(came) == header.write({"a": 3})
     # (the others would be lost)
     unwritten = type(adapter.client.unwritten(TypeError(), {}))
-    for wrong in (deep, deep.copy(), deep | {}, {} | deep, {"in": header.read(DEEP)}, {"in": [came | {"a": deep}]}):
+    odd, deep_too, more = header.read(self_check.of(*ODD)), header.read(DEEP), (b"k", b"V")
+    for wrong in (deep, deep.copy(), deep | {}, {} | deep, {"in": deep_too}, {"in": [odd | {"e": deep_too}]}):
         assert error_of(lambda: header.write(wrong)) is unwritten, wrong
-    odd, more = header.read(self_check.of(*ODD)), (b"k", b"V")
-    assert header.write(odd | {"k": None}) == self_check.of(*ODD, more) != header.write({**odd, "k": None})
-    assert header.write({"k": None} | odd) == self_check.of(more, *ODD)
-    for it in (odd, odd | {"k": None}):
-        assert header.write({"in": it}) == self_check.of((b"in", b"F" + header.write(it)))
+    assert header.write({"k": None} | odd) == self_check.of(more, *ODD) != header.write({**odd, "k": None})
+    for it, pairs in ((odd, ODD), (odd | {"k": None}, (*ODD, more))):
+        inside = (b"in", b"F" + self_check.of(*pairs))
+        assert header.write({"in": it}) == self_check.of(inside)
+        assert header.write(odd | {"in": it}) == self_check.of(*ODD, inside)
     adapter.install(depth=71, equal_keys="first", exact=False)
     assert header.read(TWICE) == {"a": True} and type(header.read(TWICE)) is dict is type(header.read(DEEP))
     adapter.install(equal_keys="refuse")
