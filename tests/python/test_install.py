@@ -27,7 +27,7 @@ ADAPTERS: dict[str, tuple[Any, tuple[str, ...], tuple[str, ...]]] = {
     "pamqp": (pamqp, ("pamqp.decode", "pamqp.encode"), ("pamqp", "aiormq", "aio_pika")),
 }
 DEEP, TWICE = self_check.deep(70), self_check.of((b"a", b"t\1"), (b"a", b"V"))
-# Pairs of a table, by values and in an order that no client writes.
+# Pairs of a table that no client writes with these bytes, nor in this order.
 ODD = ((b"z", b"u\0\5"), (b"a", b"t\7"), (b"e", b"F\0\0\0\0"))
 Bindings = dict[Any, dict[Any, Any]]
 # (what the first call of this, and the first `install`, would import is there before)

@@ -244,7 +244,7 @@ class Client:
             depth=32           how deep containers nest at most, up to MOST_DEPTH; a deeper table is a `Refused`
             max_bytes=1048576  how many bytes a table has at most, its type tag counted; a larger one is a `Refused`
             equal_keys="last"  of equal keys in a table the last counts; "first", or "refuse": such a table is a `Refused`
-            strict_keys=False  True for a `Refused` if a key isn't UTF-8
+            strict_keys=False  True: a table with a key that isn't UTF-8 is a `Refused`, and a table of yours with one isn't sent
             exact=True         headers keep their bytes, which are sent for all that you haven't changed; False for a `dict`
             raises=False       True raises the client's exception in place of a `Refused`, so that the connection is lost
             on_refused=None    a function that is called with each `Refused`, before the application gets it; None logs a
