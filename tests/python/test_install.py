@@ -6,6 +6,7 @@ import sys
 import traceback
 import warnings
 from collections.abc import Callable, Iterator
+from concurrent.futures import ThreadPoolExecutor
 from copy import copy
 from importlib import import_module, metadata
 from itertools import count
@@ -26,6 +27,8 @@ ADAPTERS: dict[str, tuple[Any, tuple[str, ...], tuple[str, ...]]] = {
     "pamqp": (pamqp, ("pamqp.decode", "pamqp.encode"), ("pamqp", "aiormq", "aio_pika")),
 }
 DEEP, TWICE = self_check.deep(70), self_check.of((b"a", b"t\1"), (b"a", b"V"))
+# Pairs of a table that no client writes with these bytes, nor in this order.
+ODD = ((b"z", b"u\0\5"), (b"a", b"t\7"), (b"e", b"F\0\0\0\0"))
 Bindings = dict[Any, dict[Any, Any]]
 # (what the first call of this, and the first `install`, would import is there before)
 assert metadata.version("pika") and all(import_module(it) for _, *of in ADAPTERS.values() for it in sum(of, ()))
@@ -116,7 +119,8 @@ def test_options(name: str) -> None:
     by_itself = header.read(TWICE)
     adapter.install()
     assert isinstance(header.read(DEEP), Refused) and type(header.read(TWICE)) is Headers
-    came, deep = header.read(TWICE), header.read(DEEP)
+    # (in other threads too)
+    came, deep = ThreadPoolExecutor().map(header.read, (TWICE, DEEP))
     assert came == {"a": None} == by_itself
     for it in (came, deep):
         assert method.write(it) == header.write(copy(it)) == header.write(it.copy()) == it.raw
@@ -124,16 +128,27 @@ def test_options(name: str) -> None:
     assert header.write(came) == header.write({"a": 3})
     # (the others would be lost)
     unwritten = type(adapter.client.unwritten(TypeError(), {}))
-    assert error_of(lambda: header.write(deep)) is error_of(lambda: header.write(deep.copy())) is unwritten
+    odd, deep_too, more = header.read(self_check.of(*ODD)), header.read(DEEP), (b"k", b"V")
+    for wrong in (deep, deep.copy(), deep | {}, {} | deep, {"in": deep_too}, {"in": [odd | {"e": deep_too}]}):
+        assert error_of(lambda: header.write(wrong)) is unwritten, wrong
+    assert header.write({"k": None} | odd) == self_check.of(more, *ODD) != header.write({**odd, "k": None})
+    for it, pairs in ((odd, ODD), (odd | {"k": None}, (*ODD, more))):
+        inside = (b"in", b"F" + self_check.of(*pairs))
+        assert header.write({"in": it}) == self_check.of(inside)
+        assert header.write(odd | {"in": it}) == self_check.of(*ODD, inside)
     adapter.install(depth=71, equal_keys="first", exact=False)
     assert header.read(TWICE) == {"a": True} and type(header.read(TWICE)) is dict is type(header.read(DEEP))
     adapter.install(equal_keys="refuse")
     assert isinstance(header.read(TWICE), Refused) and header.write(header.read(TWICE)) == TWICE
+    no_text = self_check.of((b"\xff", b"V"))
+    assert type(header.read(no_text)) is Headers
     for wrong in ({"depth": 513}, {"depth": 0}, {"max_bytes": 4}, {"on_refused": 1}):
         assert error_of(lambda: adapter.install(**wrong)) in (Error, TypeError), wrong
     assert isinstance(header.read(TWICE), Refused)
     adapter.install(max_bytes=10)
     assert isinstance(header.read(self_check.of((b"long", b"V"))), Refused)
+    adapter.install(strict_keys=True)
+    assert isinstance(header.read(no_text), Refused) and type(header.read(self_check.of(*ODD))) is Headers
     adapter.install(raises=True)
     assert isinstance(error := self_check.raised(lambda: header.read(DEEP)), Exception)
     assert type(error) is type(adapter.client.unread(None))
@@ -177,7 +192,10 @@ def test_what_is_refused(name: str, caplog: pytest.LogCaptureFixture, monkeypatc
     assert "refused a table of 487 bytes: too deep at 223: expected" in caplog.messages[0]
     # (tests/rabbitmq has messages of each client)
     if name == "pamqp":
-        assert refused(import_module("aio_pika").Message(b"", headers=read(DEEP)).headers)
+        message = import_module("aio_pika").Message
+        assert refused(message(b"", headers=read(DEEP)).headers)
+        nested = message(b"", headers={"in": message(b"", headers=read(self_check.of(*ODD))).headers})
+        assert pamqp.write_header(nested.properties.headers) == self_check.of((b"in", b"F" + self_check.of(*ODD)))
     assert refused(None) is refused({}) is refused(Headers(a=1).copy()) is None
     assert error_of(lambda: refused(b"body")) is TypeError
 
@@ -330,7 +348,7 @@ def test_help_has_each_option() -> None:
     text = str(inspect.getdoc(shared.Client.install))
     options = [it for it in inspect.signature(shared.Client.install).parameters.values() if it.kind is it.KEYWORD_ONLY]
     shown = [f"{it.name}={json.dumps(it.default) if isinstance(it.default, str) else it.default}" for it in options]
-    assert len(shown) == 6 and not [it for it in shown if f"\n    {it} " not in text]
+    assert len(shown) == 7 and not [it for it in shown if f"\n    {it} " not in text]
 
 
 def test_a_missing_client(name: str, monkeypatch: pytest.MonkeyPatch) -> None:

@@ -5,6 +5,7 @@ import copy
 import doctest
 import inspect
 import pickle
+import pydoc
 import re
 import sys
 from collections import ChainMap, OrderedDict, deque
@@ -121,11 +122,6 @@ def test_values_and_their_encodings() -> None:
         assert own.dumps(value).hex() == own.dumps([value])[5:].hex() == digits, value
 
 
-def test_encodings_are_not_limited_in_bytes() -> None:
-    large = own.dumps(b"a" * 2**20)
-    assert own.dumps(own.Encoded(large)) == large
-
-
 @given(VALUES)
 def test_each_value_comes_back(value: Value) -> None:
     found = own.loads(raw(value), text="bytes")
@@ -161,25 +157,15 @@ def test_tables_of_one_empty_key() -> None:
     assert own.loads(data) == value == own.loads(data, equal_keys="first")
 
 
-def test_large_values() -> None:
-    table: dict[str, Any] = {f"{it}": it for it in range(100_000)} | {
-        "text": "x" * FRAME,
-        "list": [[it] for it in range(999)],
-    }
-    data = own.dumps_table(table)
-    assert own.loads_table(data, max_bytes=len(data) + 1) == table
-    assert own_error(lambda: own.loads_table(data, max_bytes=len(data))) == ("too large", 0, 0)
-    assert own_error(lambda: own.loads_table(data)) == ("too large", 0, 0)
-    for size in [*range(480, 530), *range(1000, 1100)]:
-        assert own.loads(own.dumps(["x" * size, {"k" * 255: size}]))[1] == {"k" * 255: size}
-
-
 def test_much_memory() -> None:
-    """A mebibyte, and 100,000 entries: no call gives up."""
-    table: dict[str, Any] = {f"{it}": None for it in range(100_000)} | {"text": "x" * 2**20}
-    data, most = own.dumps_table(table), 2**32 - 1
-    assert own.dumps(table) == b"F" + data
-    assert own.loads(b"F" + data, max_bytes=most) == own.loads_table(data, max_bytes=most) == table
+    """100,000 entries, and more than a mebibyte: no call gives up."""
+    table: dict[str, Any] = {f"{it}": it for it in range(100_000)} | {"text": "x" * 2**20, "list": [[0]] * 999}
+    data = own.dumps_table(table)
+    least, most = len(data) + 1, 2**32 - 1
+    for limit in (own.MAX_BYTES, least - 1):
+        assert own_error(lambda: own.loads_table(data, max_bytes=limit)) == ("too large", 0, 0)
+    assert own.dumps(table) == own.dumps(own.Encoded(b"F" + data)) == b"F" + data
+    assert own.loads(b"F" + data, max_bytes=most) == own.loads_table(data, max_bytes=least) == table
     assert own.decode_table(data, max_bytes=most) == (table, len(data))
     assert own.find(data, "text", table=True, max_bytes=most) == table["text"]
     codec = Codec(None, type(None), None, max_bytes=most)
@@ -187,6 +173,8 @@ def test_much_memory() -> None:
     assert codec.write(table) == data
     text = own.to_json(data, table=True, max_bytes=most)
     assert own.loads_table(own.from_json(text, table=True, max_bytes=most), max_bytes=most) == table
+    for size in [*range(480, 530), *range(1000, 1100)]:
+        assert own.loads(own.dumps(["x" * size, {"k" * 255: size}]))[1] == {"k" * 255: size}
 
 
 def test_data_of_every_type() -> None:
@@ -333,6 +321,9 @@ def test_what_find_checks() -> None:
     for key, kind, offset in [*of_paths, (b"\xff", "key not UTF-8", 0)]:
         assert own_error(lambda: own.find(table, key, **how)) == (kind, offset, 0)
     assert own_error(lambda: own.find(table, **how)) == ("key not UTF-8", 4, 0)
+    for _, kind, offset in of_paths:
+        data = b"..." + field(b"", odd[offset - 6 :])
+        assert own_error(lambda: own.decode_table(data, 3, finite=True, plain=True)) == (kind, 3 + 6, 0)
     assert own_error(lambda: own.find(field(b"", odd + b"\1aV\1aV"), "x", **how)) == ("equal keys", 40, 0)
     for limit, kind in (("depth", "too deep"), ("max_bytes", "too large")):
         how[limit] = 0
@@ -469,20 +460,6 @@ def test_offsets_count_from_the_start(seed: int) -> None:
         assert (by_any and by_any[:2]) == (problem and (KINDS[problem[1]], problem[0]))
         assert own_error(lambda: own.find(b"F" + data, "no such key")) == by_any
     assert rejected > 200
-
-
-def test_offsets_of_values_that_are_not_taken() -> None:
-    """An offset counts from the start of the data, also if the value is well-formed and an option refuses it."""
-    endless, late = own.dumps_table({"a": [float("inf")]}), own.dumps_table({"a": own.Timestamp(2**40)})
-    rows: list[tuple[bytes, dict[str, Any], str, int]] = [
-        (LATIN, {"keys": "bytes"}, "text not UTF-8", 12),
-        (endless, {"finite": True}, "not finite", 11),
-        (late, {"plain": True}, "out of range", 6),
-    ]
-    for table, options, kind, offset in rows:
-        for before in (b"", b"..."):
-            found = own_error(lambda: own.decode_table(before + table, len(before), **options))
-            assert found == (kind, len(before) + offset, 0)
 
 
 # Errors
@@ -654,6 +631,7 @@ def test_docstrings_are_those_of_the_types() -> None:
     functions = [it for it in reversed(tree.body) if isinstance(it, ast.FunctionDef)]
     shown = {it.name: ast.get_docstring(it) for it in functions}
     assert shown == {it: inspect.getdoc(getattr(own, it)) for it in own.__all__ if inspect.isroutine(getattr(own, it))}
+    assert pydoc.render_doc(own).count("\n") < 500
 
 
 @pytest.mark.parametrize(("name", "has_other"), (("loads", ""), ("dumps", ""), ("to_json", ""), ("find", "loads")))

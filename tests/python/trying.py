@@ -23,7 +23,7 @@ import decimal, doctest, pathlib, sys
 import amqp_values as av
 assert "site-packages" in av.__file__, av.__file__
 tried = 0
-for it in (av, *(getattr(av, name) for name in av.__all__)):
+for it in (av, *(it for name, it in vars(av).items() if name[0] != "_")):
     for test in doctest.DocTestFinder(recurse=False).find(it, "it", globs=vars(av).copy()):
         results = doctest.DocTestRunner().run(test)
         assert not results.failed
@@ -144,11 +144,12 @@ def try_packages(packages: Path, words: Words, env: dict[str, str]) -> tuple[str
     return said.strip(), wrong
 
 
-# What Debian's Python for aarch64 needs to run, and the line that its packages come by.
+# What Debian's Python for aarch64 needs to run; where apt gets Debian's packages; and the line that these come by.
 OF_AARCH64 = (
     "python3.11-minimal libpython3.11-minimal libpython3.11-stdlib libc6 zlib1g libexpat1 libffi8 libgcc-s1 libuuid1"
 )
-SOURCE = "deb [signed-by=/usr/share/keyrings/debian-archive-keyring.gpg] http://deb.debian.org/debian bookworm main\n"
+MIRRORS = ["apt-get", "indextargets", "--format", "$(REPO_URI)", "Created-By: Packages", "Label: Debian"]
+SOURCE = "deb [signed-by=/usr/share/keyrings/debian-archive-keyring.gpg] %s bookworm main\n"
 
 
 def put_python_of_aarch64(root: Path) -> str:
@@ -156,7 +157,7 @@ def put_python_of_aarch64(root: Path) -> str:
     state = root / "apt"
     for it in ("lists/partial", "archives/partial", "debs"):
         (state / it).mkdir(parents=True)
-    (state / "sources.list").write_text(SOURCE)
+    (state / "sources.list").write_text(SOURCE % "".join(ran(MIRRORS)[0].split()[:1]))
     (state / "status").touch()
     places = {
         "APT::Architecture": "arm64",

@@ -24,6 +24,7 @@ FINDINGS = {
     ),
     "shellcheck": ("packaging/pack", "\necho $nowhere\n"),
     "codespell": ("README.md", f"\nthe {'sserda'[::-1]}\n"),
+    "host": ("SECURITY.md", f"\nfrom deb.{'debian'}.org\n"),
     "conflict": ("LICENSE", f"\n{'<' * 7} HEAD\n"),
 }
 

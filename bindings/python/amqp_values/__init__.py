@@ -22,7 +22,8 @@ So `dumps(loads(data))` is `data`, except for what can be written in two ways: t
 true that isn't 1 becomes 1, and of equal keys in a table one is kept. Bytes that can't be read and values that can't be written
 raise `Error`. The only other exceptions are TypeError, for an argument of the wrong type, and MemoryError.
 
-`help(loads)` has the options of reading, `help(dumps)` those of writing, and `help(to_json)` those of JSON.
+`help(loads)` has the options of reading, `help(dumps)` those of writing, `help(to_json)` those of JSON, and `help(Timestamp)` what
+a type has.
 """
 
 from ._native import DEPTH, MAX_BYTES, MOST_DEPTH, __version__
@@ -36,21 +37,12 @@ for _it in (ShortInt, ShortShortInt, ShortShortUInt, ShortUInt, Timestamp, Unsup
     _it.__module__ = __name__
 del _it
 
+# (without the types: of each of them `help` would list all that an int, a float or bytes has)
 __all__ = [
     "DEPTH",
-    "Encoded",
     "Error",
-    "Float",
-    "LongInt",
-    "LongString",
-    "LongUInt",
     "MAX_BYTES",
     "MOST_DEPTH",
-    "ShortInt",
-    "ShortShortInt",
-    "ShortShortUInt",
-    "ShortUInt",
-    "Timestamp",
     "UnsupportedType",
     "__version__",
     "decode_table",

@@ -9,8 +9,9 @@ from amqp_values import Error
 class Headers(dict[Any, Any]):
     """A message's headers: a `dict` that also keeps the bytes it was read from, as `raw`.
 
-    If you publish it, each header that you haven't changed is sent as the bytes that came. Without any change all of `raw` is sent.
-    `raw` takes memory for as long as the headers exist. `copy` keeps it; copies by `dict`, `copy.deepcopy` and pickling don't.
+    If you publish it, also as a value of another table, each header that you haven't changed is sent as the bytes that came. Without any
+    change all of `raw` is sent. `raw` takes memory for as long as the headers exist. `copy` and `|` keep it; copies by `dict`,
+    `copy.deepcopy` and pickling don't.
     """
 
     __slots__ = ("raw",)
@@ -25,6 +26,22 @@ class Headers(dict[Any, Any]):
     def __copy__(self) -> "Headers":
         return self.copy()
 
+    def __or__(self, other: Any) -> Any:
+        return self._merged(self, other)
+
+    def __ror__(self, other: Any) -> Any:
+        return self._merged(other, self)
+
+    def _merged(self, first: Any, second: Any) -> Any:
+        """A copy that has the entries of two dictionaries instead."""
+        if not isinstance(first, dict) or not isinstance(second, dict):
+            return NotImplemented
+        found = self.copy()
+        found.clear()
+        found.update(first)
+        found.update(second)
+        return found
+
     def __reduce__(self) -> tuple[Any, ...]:
         return dict, (dict(self),)
 
@@ -33,8 +50,8 @@ class Refused(Headers):
     """The headers of a message whose table was refused: a `dict` with no entries that is true nevertheless.
 
     `problem` is the `Error` that says what is wrong, and `raw` has the table's bytes; `problem.offset` counts these. Reject such a
-    message without requeue, or publish it again with the same headers, which sends these bytes. If you add headers to it, publishing it
-    raises the client's exception, since the others would be lost.
+    message without requeue, or publish it again with the same headers, which sends these bytes. If you add headers to it, or put it
+    inside another table, publishing it raises the client's exception, since its own would be lost.
     """
 
     __slots__ = ("problem",)

@@ -171,6 +171,7 @@ def keep_types(places: Places) -> None:
     convert, format_others, proxy = message.header_converter, message.format_headers, message.HeaderProxy
 
     def header_converter(value: Any) -> Any:
+        value = value._headers if type(value) is proxy else value
         return value if is_written(value) else convert(value)
 
     def format_headers(headers: Any) -> Any:

@@ -14,7 +14,7 @@ from time import monotonic
 from types import ModuleType
 from typing import Any, Literal, NoReturn
 
-from amqp_values import DEPTH, MAX_BYTES, Error, _native, loads_table
+from amqp_values import DEPTH, MAX_BYTES, Encoded, Error, _native, loads_table
 from amqp_values.adapters.frames import Frame
 from amqp_values.adapters.headers import Headers, Refused
 from amqp_values.adapters.self_check import differences, foreign_in, of, probed, value_read
@@ -80,6 +80,7 @@ class Codec:
         depth: int = DEPTH,
         max_bytes: int = MAX_BYTES,
         equal_keys: EqualKeys = "last",
+        strict_keys: bool = False,
         exact: bool = True,
         raises: bool = False,
         on_refused: OnRefused | None = None,
@@ -91,9 +92,10 @@ class Codec:
             self.on_refused = on_refused
         if not callable(self.on_refused):
             raise TypeError(f"on_refused is called with a Refused, and {type(on_refused).__name__} can't be called")
-        how: dict[str, Any] = {"signed_decimals": True, "depth": depth, "keys": client.keys, "text": "bytes"}
+        how: dict[str, Any] = {"signed_decimals": True, "depth": depth, "text": "bytes"}
+        how |= {"keys": "strict" if strict_keys else client.keys}
         how |= {**client.how, **manner, "max_bytes": max_bytes, "equal_keys": equal_keys}
-        how |= {"finite": True, "naive_datetimes": True, "others": client.sent}
+        how |= {"finite": True, "naive_datetimes": True, "others": self.sent}
         native = _native.Codec(self, Headers, Headers if exact else None, **how)
         # (with less no table at all would be read)
         for name, value, least in (("depth", depth, 1), ("max_bytes", max_bytes, len(b"F") + len(of()))):
@@ -101,14 +103,16 @@ class Codec:
                 raise Error("bad option", 0, f"for {name} at least {least}, not {value}")
         self.read: Callable[[Any, int], tuple[dict[Any, Any], int]] = native.read
         self.write: Callable[[Any], bytes] = native.write
+        # (headers that came keep their order, also if the client by itself sorts what it sends)
+        self.write_in_order = _native.Codec(Raising(), Raising, None, **{**how, "ascending": False}).write
         # (by which tables are compared: each type is another, and infinities have an encoding)
-        how |= {"finite": False, "integers": "l"}
+        how |= {"finite": False, "integers": "l", "others": self.compared}
         plain = _native.Codec(Raising(), Raising, None, **how)
         self.plainly, self.written = plain.read, plain.write
         self.encodings_in = partial(
             loads_table,
             encoded=True,
-            keys=client.keys,
+            keys=how["keys"],
             text="bytes",
             equal_keys=equal_keys,
             depth=depth,
@@ -153,7 +157,18 @@ class Codec:
         def is_as_found(key: Any, value: Any) -> bool:
             return key in found and self.written({"": value}) == self.written({"": found[key]})
 
-        return self.write({key: encodings[key] if is_as_found(key, it) else it for key, it in table.items()})
+        return self.write_in_order({key: encodings[key] if is_as_found(key, it) else it for key, it in table.items()})
+
+    def sent(self, value: Any) -> Any:
+        """What is sent for a value of none of the usual types: for headers inside another table the bytes that came."""
+        raw = self.relayed(value) if isinstance(value, Headers) and not isinstance(value, Refused) else None
+        return self.compared(value) if raw is None else Encoded(b"F" + raw)
+
+    def compared(self, value: Any) -> Any:
+        """What such a value is compared by. A `Refused` inside another table can't be sent, since its bytes may not be a table."""
+        if isinstance(value, Refused):
+            raise TypeError("a Refused inside another table can't be sent; put its `raw` there, as a bytearray")
+        return self.client.sent(value)
 
     def unsent(self, problem: Exception, table: Any) -> NoReturn:
         """Raises the client's exception for a table that has no encoding."""
@@ -214,6 +229,7 @@ class Client:
         depth: int = DEPTH,
         max_bytes: int = MAX_BYTES,
         equal_keys: EqualKeys = "last",
+        strict_keys: bool = False,
         exact: bool = True,
         raises: bool = False,
         on_refused: OnRefused | None = None,
@@ -228,6 +244,7 @@ class Client:
             depth=32           how deep containers nest at most, up to MOST_DEPTH; a deeper table is a `Refused`
             max_bytes=1048576  how many bytes a table has at most, its type tag counted; a larger one is a `Refused`
             equal_keys="last"  of equal keys in a table the last counts; "first", or "refuse": such a table is a `Refused`
+            strict_keys=False  True: a table with a key that isn't UTF-8 is a `Refused`, and a table of yours with one isn't sent
             exact=True         headers keep their bytes, which are sent for all that you haven't changed; False for a `dict`
             raises=False       True raises the client's exception in place of a `Refused`, so that the connection is lost
             on_refused=None    a function that is called with each `Refused`, before the application gets it; None logs a
@@ -237,8 +254,8 @@ class Client:
         an `IncompatibleClient` if the self-check fails, and an `amqp_values.Error` or a TypeError for a wrong option. For a
         version of the client that wasn't tested it issues an `UntestedVersion` warning, once.
         """
-        options: dict[str, Any] = {"depth": depth, "max_bytes": max_bytes, "equal_keys": equal_keys, "exact": exact}
-        options |= {"raises": raises, "on_refused": on_refused}
+        options: dict[str, Any] = {"depth": depth, "max_bytes": max_bytes, "equal_keys": equal_keys}
+        options |= {"strict_keys": strict_keys, "exact": exact, "raises": raises, "on_refused": on_refused}
         Codec(self, **options)
         self.warn()
         earlier = [*self.places.changes]
