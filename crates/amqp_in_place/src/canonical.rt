@@ -161,10 +161,10 @@ fn are_canonical_pairs<'a>(body: SliceInput<'a>, depth: usize) -> bool
     true
 }
 
-/// Returns whether a key is above the one before it by their bytes, or is the first. A table's
-/// encoding is canonical only if each of its keys is.
+// Whether a key is above the one before it by their bytes, or is the first. A table's encoding is
+// canonical only if each of its keys is.
 #[inline(always)]
-pub fn is_above(previous: Option<&[u8]>, key: &[u8]) -> bool
+pub(crate) fn is_above(previous: Option<&[u8]>, key: &[u8]) -> bool
     ensures yes { result ≡ true → IsAbove previous.entry key.now }
     ensures no { result ≡ false → IsAbove previous.entry key.now → ⊥ }
 {

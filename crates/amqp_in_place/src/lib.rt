@@ -35,9 +35,7 @@ mod steps;
 mod tables;
 
 pub use amq_protocol_types::stream::Limits;
-pub use canonical::{
-    canonical_len, canonical_table_len, is_above, is_canonical, is_canonical_table,
-};
+pub use canonical::{canonical_len, canonical_table_len, is_canonical, is_canonical_table};
 pub use head::skip_value;
 pub use iter::{ArrayValues, TablePairs};
 pub use measure::{Measure, measure_table, measure_value};
