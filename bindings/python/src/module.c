@@ -339,7 +339,7 @@ static PyObject *to_json(PyObject *module, PyObject *const *arguments, Py_ssize_
         content = begin_reading(&reader, state, &how, arguments[0]);
     }
     if (content != NULL && read_whole(&reader, &entry)) {
-        made = json_of(&reader, &entry, how.is_canonical);
+        made = json_of(&reader, &entry, how.is_canonical != 0);
     }
     Py_XDECREF(content);
     return documented(state, made);

@@ -35,7 +35,10 @@ const TYPES: &[(&str, &str)] = &[
     ("LongUInt", "an integer from 0 to 4294967295"),
     ("LongLongInt", INTEGER),
     ("Timestamp", "an integer from 0 to 18446744073709551615"),
-    ("Float", "a number up to 3.4e38, or its bits as 8 hexadecimal digits in quotes"),
+    (
+        "Float",
+        "a number up to 3.4e38, or its bits as 8 hexadecimal digits in quotes",
+    ),
     ("Double", DOUBLE),
     ("DecimalValue", "a number and a scale, as \"314e-2\""),
     ("LongString", "two hexadecimal digits a byte, in quotes"),
@@ -43,6 +46,7 @@ const TYPES: &[(&str, &str)] = &[
 ];
 
 const INTEGER: &str = "an integer from -9223372036854775808 to 9223372036854775807";
+
 const DOUBLE: &str = "a number up to 1.7e308, or its bits as 16 hexadecimal digits in quotes";
 
 /// Writes the encoding of the value that a file's JSON denotes, or of the table without its type
