@@ -38,7 +38,7 @@ SOURCES = ("crates/*/src/**/*.rt", "crates/*/proofs/**/*.antt", "crates/*/specs/
 BINDINGS = """examples/**/*.[ch] bindings/**/*.rs bindings/python/**/*.[chp]* packaging/amqp_*
     Makefile vectors/*.py vectors/schema.json""".split()
 NOT_OURS = set(
-    """git nm ryu venv FetchContent add_subdirectory CC_aarch64_unknown_linux_gnu inf mine MINE PYTHONPATH UseNumber time_t memmove memset HANDLES Compare CompareResult Default SerializeFn readTable
+    """git nm ryu venv BCC FetchContent add_subdirectory CC_aarch64_unknown_linux_gnu inf mine MINE PYTHONPATH UseNumber time_t memmove memset HANDLES Compare CompareResult Default SerializeFn readTable
     writeTable amqp_ IsBounded length_of_text ctypes TryFrom AMQ_PROTOCOL_TYPES crates/arguments/src/main.rt""".split()
 )
 # The folders from which a page may name a file.
