@@ -40,8 +40,8 @@ def test_own_tests(copies: Path, name: str, tools: Path | None) -> None:
 @pytest.mark.needs("rustfmt")
 def test_layouts(copies: Path) -> None:
     """The declarations have each size and offset as clang has it, which is the same for both processors."""
-    command = [RUST / "declarations", "--layout-tests"]
-    of_x86_64, of_aarch64 = (assert_well(run([*command, f"{it}-unknown-linux-gnu"])) for it in ("x86_64", "aarch64"))
+    targets = [f"{it}-unknown-linux-gnu" for it in ("x86_64", "aarch64")]
+    of_x86_64, of_aarch64 = (assert_well(run([RUST / "declarations", "--layout-tests", it])) for it in targets)
     assert of_x86_64 == of_aarch64
     folder = copied(copies / CRATES[0], copies / "layouts")
     declared = folder / "src/bindings.rs"
