@@ -5,7 +5,6 @@ import copy
 import doctest
 import inspect
 import pickle
-import pydoc
 import re
 import sys
 from collections import ChainMap, OrderedDict, deque
@@ -631,7 +630,6 @@ def test_docstrings_are_those_of_the_types() -> None:
     functions = [it for it in reversed(tree.body) if isinstance(it, ast.FunctionDef)]
     shown = {it.name: ast.get_docstring(it) for it in functions}
     assert shown == {it: inspect.getdoc(getattr(own, it)) for it in own.__all__ if inspect.isroutine(getattr(own, it))}
-    assert pydoc.render_doc(own).count("\n") < 500
 
 
 @pytest.mark.parametrize(("name", "has_other"), (("loads", ""), ("dumps", ""), ("to_json", ""), ("find", "loads")))

@@ -37,12 +37,21 @@ for _it in (ShortInt, ShortShortInt, ShortShortUInt, ShortUInt, Timestamp, Unsup
     _it.__module__ = __name__
 del _it
 
-# (without the types: of each of them `help` would list all that an int, a float or bytes has)
 __all__ = [
     "DEPTH",
+    "Encoded",
     "Error",
+    "Float",
+    "LongInt",
+    "LongString",
+    "LongUInt",
     "MAX_BYTES",
     "MOST_DEPTH",
+    "ShortInt",
+    "ShortShortInt",
+    "ShortShortUInt",
+    "ShortUInt",
+    "Timestamp",
     "UnsupportedType",
     "__version__",
     "decode_table",
