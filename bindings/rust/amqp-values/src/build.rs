@@ -60,6 +60,9 @@ impl<'b> TableBuilder<'b> {
     /// Appends a pair. A key may come again, but don't send such a table: RabbitMQ and clients take different pairs. A container
     /// that was read keeps its levels: inside a table they may be more than those of [`Limits::DEFAULT`](crate::Limits::DEFAULT).
     ///
+    /// A value that was read is written as the bytes that came, except that the type tags `U` and `L` become `s` and `l`, and a true that
+    /// isn't 1 becomes 1. Inside a container that was read these stay too.
+    ///
     /// # Errors
     ///
     /// [`WriteError::KeyTooLong`] or [`WriteError::TooLarge`], and in a vector [`WriteError::OutOfMemory`].

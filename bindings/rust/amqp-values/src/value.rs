@@ -81,7 +81,7 @@ impl<'a> ArrayRef<'a> {
         Self { encoding: bytes_of(bytes, entry.value) }
     }
 
-    /// Returns the encoding, its type tag included, as [`read`](crate::read) and `to_json` take it.
+    /// Returns the encoding, its type tag included, as [`read`](crate::read) and `to_json` take it. (That of a table has none.)
     #[must_use]
     pub fn as_bytes(self) -> &'a [u8] {
         self.encoding
