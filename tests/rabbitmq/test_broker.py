@@ -33,7 +33,7 @@ from tests.model.tables import raw, rewritten, row_of, sorted_by_key, streamed, 
 from tests.rabbitmq.broker import TRACED, Broker
 from tests.rabbitmq.found import PATIENCE, arguments, awaited, built, closed_by, dead_lettered, dying
 from tests.rabbitmq.found import is_now, loaded, of, value_at, without
-from tests.rabbitmq.wire import EMPTY, FRAME_MAX, Closed, Connection, Message
+from tests.rabbitmq.wire import EMPTY, FRAME_MAX, Closed, Connection, Message, Property
 from tests.values import form
 
 BATCH, ODD, ROUTED, STREAMED, ELSEWHERE = 200, 2000, 300, 500, 200
@@ -730,6 +730,35 @@ def test_frames(connection: Connection, rules: Version, notes: list[str]) -> Non
     with pytest.raises(own.Error, match="too large"):
         own.loads(back, max_bytes=FRAME_MAX)
     assert own.dumps(loaded(without(back, *rules.deaths))) == data
+
+
+def sized(size: int) -> bytes:
+    """A table that has so many bytes without its type tag."""
+    return arguments(k=("x", bytes(size - 11)))
+
+
+def test_largest_payload_of_a_frame(broker: Broker) -> None:
+    """It has as many bytes as were agreed: 14 and the headers, 2 more for two other properties, 8 and a queue's arguments."""
+    properties: dict[str, Property] = {"delivery_mode": 2, "priority": 1}
+    for more, wanted in ((0, None), (1, ("connection", 501))):
+        most = FRAME_MAX + more
+        acts: list[Callable[[Connection], object]] = [
+            lambda it: it.publish("", "none", sized(most - 14)),
+            lambda it: it.publish("", "none", sized(most - 16), properties),
+            lambda it: it.queue("", sized(most - 8)),
+        ]
+        assert [closed_by(broker, it) for it in acts] == [wanted] * len(acts)
+
+
+@pytest.mark.parametrize("key", (b"CC", b"BCC"))
+def test_routes_are_arrays(key: bytes, broker: Broker, make: Random) -> None:
+    """The first header CC or BCC is an array, whatever is in it; for another type the channel is closed."""
+    array, other = field(b"A", b"I\0\0\0\1V"), field(b"S", b"none")
+    values = [(array,), (array, other), (other, array), *((raw(random_value(make, 2)),) for _ in range(60))]
+    for given in values:
+        headers = field(b"F", b"".join(bytes([len(key)]) + key + it for it in given))
+        wanted = None if given[0][:1] == b"A" else ("channel", 406)
+        assert closed_by(broker, lambda it: it.publish("", "none", headers)) == wanted, headers.hex()
 
 
 # A client of it
