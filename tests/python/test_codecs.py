@@ -243,7 +243,7 @@ def test_a_type_that_is_asked_for_is_a_change(client: Client) -> None:
     """What a client sends for the number too, in place of one that came by another type."""
     one, another = codec(client), ShortShortInt(5) if client.name == "aiormq" else LongInt(5)
     came, _ = one.read(raw(("F", {b"k": number("u", 5)}))[1:], 0)
-    assert one.write(came | {}) == one.write({"k": 5}) != one.write(came)
+    assert one.write(dict(came)) == one.write({"k": 5}) != one.write(came)
     came["k"] = another
     assert one.write(came) == one.write({"k": 5}) == dumps_table({"k": another})
 
