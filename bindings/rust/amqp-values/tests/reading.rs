@@ -252,9 +252,9 @@ fn a_container_has_its_bytes_and_its_length() {
     assert_eq!((read.len(), read.as_bytes(), read.is_empty()), (3, &bytes[1..], false));
     let inner = read.get("a").and_then(ValueRef::as_array).unwrap();
     assert_eq!((inner.len(), inner.as_bytes(), inner.is_empty()), (2, &array[..], false));
-    assert_eq!(to_json(inner.as_bytes(), LIMITS, false).unwrap(), r#"[null,{"k":null}]"#);
+    assert_eq!(to_json(inner.as_bytes(), LIMITS, false).unwrap(), r#"[null,{"k":null,"k":null}]"#);
     let last = inner.get(1).and_then(ValueRef::as_table).unwrap();
-    assert_eq!((last.len(), table_to_json(last.as_bytes(), LIMITS, false).unwrap()), (2, r#"{"k":null}"#.to_owned()));
+    assert_eq!((last.len(), table_to_json(last.as_bytes(), LIMITS, true).unwrap()), (2, r#"{"k":null}"#.to_owned()));
     let empty = read.get("c").and_then(ValueRef::as_table).unwrap();
     assert_eq!((empty.len(), empty.is_empty()), (0, true));
 }
