@@ -8,7 +8,7 @@ the other. The second isn't proved, but tested. A policy in the page allows thes
 request.
 
 The page draws what amqpv_proved_read, amqpv_next, amqpv_peek, amqpv_is_canonical and amqpv_proved_write_json return. They are
-proved, and the scripts aren't. The scripts read only hexadecimal, set a cursor of amqpv_next to what a cut container has, and have
+proved, and the scripts aren't. The scripts read only what is typed (hexadecimal, base64, literals of Python), set a cursor of amqpv_next to what a cut container has, and have
 amqpv_peek read a lone number. The module allocates nothing. If it ends, for example since a stack is too small, the page
 makes it anew and says so. tests/web drives the page in Chromium, with both modules.
 """
@@ -25,7 +25,7 @@ from dependencies import TOP
 
 FOLDER = TOP / "bindings/web"
 # Each after those that it imports.
-SCRIPTS = ("module.js", "reading.js", "words.js", "hexadecimal.js", "page.js")
+SCRIPTS = ("module.js", "reading.js", "words.js", "hexadecimal.js", "text.js", "page.js")
 # What one script has of another, which all are one in the page.
 IMPORT = re.compile(r"(?ms)^import \{.*?\} from \"\./\w+\.js\";\n")
 EXPORT = re.compile(r"(?m)^export ")

@@ -44,7 +44,7 @@ export function readHexadecimal(text) {
 }
 
 // The line and the column, in bytes, of what comes after a text.
-function place(before) {
+export function place(before) {
     const lines = before.split("\n");
     return `line ${lines.length}, column ${new TextEncoder().encode(lines.at(-1)).length + 1}`;
 }

@@ -1,6 +1,9 @@
 // `Module` calls the proved code, in WebAssembly; in its memory structs of amqp_values.h come before the bytes.
 import { AMQPV } from "./header.js";
 
+// The call that writes JSON.
+const JSON_CALL = "amqpv_proved_write_json";
+
 // Where things are that calls take: an entry, a problem, a length, two inputs (of all bytes, and of ten), the ten,
 // and a cursor for each level; then, a page on, all bytes.
 const PAGE = 65536, ENTRY = 0, PROBLEM = 64, LENGTH = 88, ALL = 96, SMALL = 128, TEN = 160, CURSORS = 176, CURSOR = 24;
@@ -75,7 +78,7 @@ export class Module {
 
     // The JSON of the value, or null. It is written after the bytes.
     json(frame, depth) {
-        const from = PAGE + this.length, write = (capacity) => this.calls.amqpv_proved_write_json(
+        const from = PAGE + this.length, write = (capacity) => this.calls[JSON_CALL](
             this.input(frame, depth), this.address(from), BigInt(capacity), this.address(LENGTH));
         if (write(0) !== AMQPV.NO_ROOM) {
             return null;

@@ -1,4 +1,5 @@
-// The texts for what `read` returned, in the words of amqp_show. (packaging/web.py makes header.js of amqp_values.h.)
+// The texts for what `read` returned, in the words of amqp_show, without its options. (packaging/web.py makes header.js
+// of amqp_values.h.)
 import { AMQPV, NAMES } from "./header.js";
 import { AGAIN, BARE, CUT, REST, isContainer, isCounted, isTruncated } from "./reading.js";
 
@@ -83,11 +84,11 @@ export function valueText({ module, data, rows }, row, most = Infinity) {
     return `${name} ${text}${shown.length < content.length ? " .." : ""}`;
 }
 
-// The JSON of what was read, as amqp_show has it, or null.
+// The JSON of what was read, as amqp_show has it, or "".
 export function jsonText({ module, data, code, limits: { frame, depth } }) {
     module.load(data);
-    const text = code === AMQPV.OK ? module.json(frame, depth) : null;
-    return text?.replace(UNPRINTABLE, (it) => (/["\\]/.test(it) ? it : digitsOf(it)));
+    const text = code === AMQPV.OK ? module.json(frame, depth) ?? "" : "";
+    return text.replace(UNPRINTABLE, (it) => (/["\\]/.test(it) ? it : digitsOf(it)));
 }
 
 export const keyText = ({ data, rows }, row) => quoted(data.subarray(rows.start[row] + 1, rows.value[row]));
@@ -127,9 +128,9 @@ function problemText({ data, shift, limits: { frame, depth } }, problem) {
         [AMQPV.KEY_CUT]: `the key of ${bytesText(data[offset])} goes past the end of its table`,
         [AMQPV.KEY_NOT_UTF8]: `the key ${quoted(key)} isn't UTF-8`,
         [AMQPV.NOT_FINITE]: "the number is an infinity or a NaN",
-        [AMQPV.TOO_DEEP]: `containers nest deeper than --depth ${depth} allows`,
+        [AMQPV.TOO_DEEP]: `containers nest deeper than the limit of ${depth} levels`,
         [AMQPV.TOO_LARGE]: `the ${shift ? "table with its type tag" : "value"} has ${bytesText(size)}, `
-            + `more than --max-bytes ${frame} allows`,
+            + `more than the limit of ${frame}`,
     }[kind];
     return [Math.max(0, at - shift), why];
 }

@@ -25,6 +25,11 @@ KINDS = {
     "payload": re.compile(""),
 }
 NOTE = re.compile(r" \((the key comes .*|the .* isn't canonical, .*)\)$")
+# The options of amqp_show, for which the page has words.
+OPTIONS = (
+    (re.compile(r"--depth (\d+) allows$"), r"the limit of \1 levels"),
+    (re.compile(r"--max-bytes (\d+) allows$"), r"the limit of \1"),
+)
 
 
 def output(program: Path, words: Sequence[str], given: Sequence[bytes]) -> list[str]:
@@ -67,6 +72,13 @@ def parts_of(lines: Sequence[str], data: bytes, is_table: bool) -> str:
     return "".join(letters)
 
 
+def in_words(failure: str) -> str:
+    """A failure without options."""
+    for option, words in OPTIONS:
+        failure = option.sub(words, failure)
+    return failure
+
+
 def rabbitmq(lines: Sequence[str]) -> str:
     """What the page says of RabbitMQ. It shows no warnings, and no keys, but leads to the byte."""
     *failure, last = [it for it in lines if it[0] != "*"]
@@ -92,7 +104,7 @@ def wanted(program: Path, given: Sequence[bytes], is_table: bool = False) -> Ite
             "tree": tree_of(tree),
             "parts": "" if len(data) > 5000 else parts_of(of_bytes, data, is_table),
             "repeated": said.get("*", ""),
-            "failure": said.get("!", ""),
+            "failure": in_words(said.get("!", "")),
             "outcome": said["="],
             "rabbitmq": "" if "truncated" in said["="] else rabbitmq(check),
             "canonical": None if text is None else not notes,
