@@ -411,7 +411,7 @@ def test_what_bytes_seem_to_be(browser: Browser) -> None:
     ]
     expect(browser, drawn, ["FieldTable", '  "a": Void', '  "b": Void'])
     browser.choose("form", "table")
-    assert outcome(browser, "01 61 56")[:3] == ["a table's body of 3 bytes", "", body]
+    assert outcome(browser, "01 61 56 01 62 56")[:3] == ["a table's body of 6 bytes", "", body]
     browser.choose("form", "value")
     assert outcome(browser, "00000003 01 61 56")[:2] == ["malformed", "offset 0: a type tag is expected; 00 is none"]
     assert "seems to be a table" in browser.text("notes")
