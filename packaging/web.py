@@ -52,7 +52,7 @@ def examples() -> list[tuple[str, str]]:
     """The examples of the page: a name, and hexadecimal."""
     hostile = "460000002e0161530000000a1b5b33316de280ae68690162410000000a4100000005410000000001614100000005530fffffff"
     return [
-        ("x-death, of a message that was dead-lettered twice", digits("x-death-after-2")),
+        ("x-death, dead-lettered twice", digits("x-death-after-2")),
         ("arguments of a queue", digits("queue_arguments.hex")),
         ("properties of a server", digits("rabbitmq-server-properties")),
         ("properties of a client, cut", digits("client-properties")[:240]),
