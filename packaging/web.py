@@ -8,9 +8,9 @@ the other. The second isn't proved, but tested. A policy in the page allows thes
 request.
 
 The page draws what amqpv_proved_read, amqpv_next, amqpv_peek, amqpv_is_canonical and amqpv_proved_to_json return. They are
-proved, and the scripts aren't. The scripts read only hexadecimal, set a cursor of amqpv_next to what a cut container has, and have
-amqpv_peek read a lone number. The module allocates nothing. If it ends, for example since a stack is too small, the page
-makes it anew and says so. tests/web drives the page in Chromium, with both modules.
+proved, and the scripts aren't. The scripts read only what is typed (hexadecimal, base64, literals of Python), set a cursor of
+amqpv_next to what a cut container has, and have amqpv_peek read a lone number. The module allocates nothing. If it ends, for
+example since a stack is too small, the page makes it anew and says so. tests/web drives the page in Chromium, with both modules.
 """
 
 import base64
@@ -25,7 +25,7 @@ from dependencies import TOP
 
 FOLDER = TOP / "bindings/web"
 # Each after those that it imports.
-SCRIPTS = ("module.js", "reading.js", "words.js", "hexadecimal.js", "page.js")
+SCRIPTS = ("module.js", "reading.js", "words.js", "hexadecimal.js", "text.js", "page.js")
 # What one script has of another, which all are one in the page.
 IMPORT = re.compile(r"(?ms)^import \{.*?\} from \"\./\w+\.js\";\n")
 EXPORT = re.compile(r"(?m)^export ")
@@ -52,7 +52,7 @@ def examples() -> list[tuple[str, str]]:
     """The examples of the page: a name, and hexadecimal."""
     hostile = "460000002e0161530000000a1b5b33316de280ae68690162410000000a4100000005410000000001614100000005530fffffff"
     return [
-        ("x-death, of a message that was dead-lettered twice", digits("x-death-after-2")),
+        ("x-death, dead-lettered twice", digits("x-death-after-2")),
         ("arguments of a queue", digits("queue_arguments.hex")),
         ("properties of a server", digits("rabbitmq-server-properties")),
         ("properties of a client, cut", digits("client-properties")[:240]),

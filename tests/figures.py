@@ -12,8 +12,6 @@ HEADER, SPEED, INTEROP, CONTRIBUTING = "include/amqp_values.h", "docs/SPEED.md",
 VERIFICATION, ANSWERS = "docs/VERIFICATION.md", "crates/test_calls/data/rust.calls"
 # The steps of CI, which ask for a kit of one logic.
 STEPS = ".ci/steps.mk"
-# The page on what a new type touches.
-A_TYPE = "docs/ADDING-A-TYPE.md"
 # The page with the tables of bench/measure.py that docs/SPEED.md doesn't have.
 RESULTS = "bench/RESULTS.md"
 # The default limits on bytes and on levels: where they are, and patterns of which each has groups for `bytes` or `depth`.
@@ -60,8 +58,6 @@ DEFAULTS = {
 MOST_WORDS = {"": 3000, "README.md": 900}
 # What names no version of RabbitMQ that only docs/INTEROP.md may name.
 NAMING = ("*.md", "include", "bindings", "packaging", "crates")
-# The folders of crates whose files docs/ADDING-A-TYPE.md counts.
-PARTS = ("src", "specs", "proofs")
 # The crates whose lines docs/VERIFICATION.md counts.
 PROVED = "amqp_value_core amq_protocol_types amqp_in_place amqp_json amqp_c amqp_c_alloc amqp_wire amqp_show".split()
 # The list of definitions that the headline is stated by, and the folder of those that it names in italics, of another crate.
@@ -166,17 +162,6 @@ def other_versions() -> Iterator[str]:
                 yield f"{place(page, it.start())}: the version of {it[0]} isn't {wanted}, as in {HEADER}: write that"
 
 
-def files_of_a_type() -> Iterator[str]:
-    """Yields how many files docs/ADDING-A-TYPE.md names, if it states another number."""
-    text = read(A_TYPE)
-    rows = [it.partition("|")[::2] for it in re.findall(r"(?m)^\| (.*) \|$", text)]
-    paths = {(crate, it) for crate, cells in rows for it in re.findall(rf"`((?:{'|'.join(PARTS)})[\w/.+-]*)`", cells)}
-    counts = [sum(it.startswith(f"{part}/") for _, it in paths) for part in PARTS]
-    wanted = "{} files of `src`, {} of `specs` and {} of `proofs`".format(*counts)
-    if f"The table names {wanted}" not in " ".join(text.split()):
-        yield f"{A_TYPE}: the table names {wanted}: write that below it"
-
-
 def lines_of(*paths: Path) -> list[str]:
     """The lines of sources that say something."""
     texts = (re.sub(LEFT_OUT[it.suffix], "", it.read_text()) for it in paths)
@@ -239,5 +224,5 @@ def other_lengths() -> Iterator[str]:
 def faults() -> Iterator[str]:
     """Yields what is repeated otherwise than it is made."""
     checks = [other_defaults, other_ratios, other_picture, long_pages, other_logics, tables_of_no_run, versions_by_hand]
-    for check in (*checks, other_versions, files_of_a_type, other_lengths):
+    for check in (*checks, other_versions, other_lengths):
         yield from check()

@@ -11,7 +11,11 @@ const DUMPS = [
     [/^(?:[^\n]*\n)?\t0x0000: {2}/, "a dump of tcpdump: `grep '^.0x' FILE | cut -c 11-49 | amqp_show --hex` "
         + "reads its bytes, of which a packet's headers are the first"],
     [/^0000 {3}/, "a dump of Wireshark: copy the bytes of the table as a hex stream, which --hex reads"],
+    [/^(?:[^\n]*\n)?0000 {2}/, "a dump of tshark: `cut -c 7-53 FILE | amqp_show --hex` reads its bytes, of which a "
+        + "packet's headers are the first; --skip passes them"],
     [/^00000000 {2}/, "a dump of hexdump -C: `cut -c 11-58 FILE | amqp_show --hex` reads it"],
+    [/^(?:0{6}(?= )(?: +[^ \n]{2})* *\n(?!0{6})[\da-f]{6}|0{7}(?= )(?: +[^ \n]{2})* *\n(?!0{7})[\da-f]{7})/i,
+        "a dump of od: `cut -sd ' ' -f 2- FILE | amqp_show --hex` reads it"],
 ];
 
 // Returns the bytes, or why there are none.
@@ -44,7 +48,7 @@ export function readHexadecimal(text) {
 }
 
 // The line and the column, in bytes, of what comes after a text.
-function place(before) {
+export function place(before) {
     const lines = before.split("\n");
     return `line ${lines.length}, column ${new TextEncoder().encode(lines.at(-1)).length + 1}`;
 }

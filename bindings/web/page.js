@@ -2,19 +2,32 @@
 import { AMQPV } from "./header.js";
 import { readHexadecimal } from "./hexadecimal.js";
 import { Module } from "./module.js";
-import { read } from "./reading.js";
-import { failure, hexadecimal, indentation, jsonText, keyText, outcome, rabbitmqText, repeated, rowParts, treeLines,
-} from "./words.js";
+import { read, shapeOf } from "./reading.js";
+import { readText } from "./text.js";
+import { copies, failure, hexadecimal, indentation, jsonText, keyText, outcome, rabbitmqText, repeated, rowParts,
+    treeLines } from "./words.js";
 
 // The height of a line, and of the tallest element, in pixels; how many bytes of a string a row shows, how many are
 // typed, and how many a link has. For more levels a call's stack might not suffice.
 const HEIGHT = 22, TALLEST = 8e6, MOST_SHOWN = 300, MOST_TYPED = 65536, MOST_LINKED = 500000, MOST_LEVELS = 1000;
-// What is said of bytes that are the other, by whether they are taken for a table without its type tag.
-const OTHER = ["the input seems to be a table without its type tag; --table reads it",
-    "the input seems to have a type tag; without --table it is read"];
-const modules = {}, $ = (id) => document.getElementById(id);
-// What is shown: bytes and what was read of them, the rows that are closed and those that are seen, what is marked.
-const now = { bytes: new Uint8Array(), reading: null, closed: new Set(), seen: [], row: 0, byte: -1, width: 16 };
+// What is said of bytes that are taken for something else than a value; and of those that seem to be something else.
+const READ_AS = { 0: "", 1: "read as a table without its type tag",
+    5: "read as a table's body, without its type tag and length" };
+const OTHER = { value: "the input seems to be a table without its type tag",
+    table: "the input seems to have a type tag" };
+// How a capture of packets begins.
+const CAPTURE = /^(?:d4c3b2a1|0a0d0d0a)$/;
+// What is said of a module, by how many bits its addresses have.
+const ABOUT_MODULES = {
+    64: "The bytes are read by WebAssembly with 64-bit addresses, which is the proved code as Rattle compiles it.",
+    32: "This browser has no WebAssembly with 64-bit addresses. The bytes are read by a module with 32-bit addresses, "
+        + "which binaryen makes of the proved code; that step isn't proved.",
+};
+const $ = (id) => document.getElementById(id);
+// What is shown: bytes, how they were typed, what reads them and what was read, the rows that are closed and those that
+// are seen, what is marked.
+const now = { bytes: new Uint8Array(), how: "", module: null, reading: null, closed: new Set(), seen: [], row: 0,
+    byte: -1, width: 16 };
 
 function element(name, properties, ...parts) {
     const made = Object.assign(document.createElement(name), properties);
@@ -131,21 +144,17 @@ function toggle(row) {
     fold();
 }
 
-// Reads the bytes, and shows what was read. What is no value, as a whole, may be a table without its type tag, and
-// what is no table one with it.
+// Reads the bytes, and shows what was read.
 function show() {
-    const module = modules[$("bits").value], form = $("form").value, isTable = form === "table";
+    const { module, bytes } = now, form = $("form").value, isTable = form === "table";
     const limit = (id, most) => Math.max(0, Math.min(most, Math.trunc(Number($(id).value))));
     const how = { frame: limit("frame", 0xffffffff), depth: limit("depth", MOST_LEVELS) };
     Object.assign(now, { closed: new Set(), row: 0, byte: -1, width: innerWidth > 800 ? 16 : 8 });
     try {
-        const first = read(module, now.bytes, { ...how, isTable });
-        const mayBeOther = first.code === AMQPV.UNKNOWN_TAG || first.code !== AMQPV.OK && isTable;
-        const other = mayBeOther && read(module, now.bytes, { ...how, isTable: !isTable });
-        const isOther = mayBeOther && other.count === other.data.length && other.rows.tag[1] === AMQPV.TABLE
-            && other.code === AMQPV.OK;
-        now.reading = isOther && form === "any" ? other : first;
-        tell(isOther && form !== "any" ? OTHER[Number(isTable)] : "");
+        const seems = shapeOf(module, bytes, { ...how, shape: isTable ? "table" : "value" });
+        const isOther = isTable ? bytes[0] === AMQPV.TABLE && bytes[1] === 0 : seems === "table";
+        now.reading = read(module, bytes, { ...how, shape: form === "value" ? "value" : seems });
+        bytes.length ? tell(isOther && OTHER[form]) : complain("");
     } catch (error) {
         module.renew();
         now.reading = read(module, new Uint8Array());
@@ -160,9 +169,8 @@ function show() {
 // Shows the JSON of what was read, unless something else was since.
 function showJson(reading) {
     if (reading === now.reading) {
-        now.json = jsonText(reading) ?? "";
-        const more = now.json.length > MOST_TYPED ? " .." : "";
-        $("json-text").textContent = now.json.slice(0, MOST_TYPED) + more;
+        now.json = jsonText(reading);
+        $("json-text").textContent = now.json.slice(0, MOST_TYPED) + (now.json.length > MOST_TYPED ? " .." : "");
         $("json-part").hidden = $("copy-JSON").hidden = reading.code !== AMQPV.OK;
     }
 }
@@ -185,15 +193,17 @@ function complain(why) {
 // Says what came of reading.
 function tell(note) {
     const { reading, reading: { rows, shift, code, count, data, rabbitmq, isCanonical } } = now;
-    const again = repeated(reading), [at, why] = failure(reading) ?? [], said = rabbitmqText(reading);
+    const again = repeated(reading), copied = copies(reading), [at, why] = failure(reading) ?? [];
+    const said = rabbitmqText(reading);
     const notes = [
-        shift && $("form").value === "any" ? "read as a table without its type tag" : "",
+        now.how,
+        shift > ($("form").value === "table" ? 1 : 0) ? READ_AS[shift] : "",
         note,
         rabbitmq ? jump(said, Math.max(0, rabbitmq.offset - shift)) : said,
+        copied && jump(copied[1], rows.start[copied[0]] - shift),
         again && jump(again[1], rows.start[again[0]] - shift),
         code === AMQPV.OK && count < data.length ? `more bytes follow, from offset ${count - shift}` : "",
         why ? "" : isCanonical ? "canonical" : "not canonical"];
-    $("module").textContent = $("bits").selectedOptions[0].title;
     $("outcome").textContent = outcome(reading);
     $("failure").replaceChildren(...(why ? [jump(`offset ${at}: ${why}`, at)] : []));
     $("notes").replaceChildren(...notes.filter(Boolean).map((it) => element("li", {}, it)));
@@ -201,10 +211,10 @@ function tell(note) {
 
 // Takes what is typed, which neither the example has that was chosen, nor the link that was followed or copied.
 function type() {
-    const { bytes, fault } = readHexadecimal($("text").value);
+    const { bytes = new Uint8Array(), how = "", fault } = readText($("text").value);
     $("examples").value = "";
     location.hash && history.replaceState(null, "", "#");
-    now.bytes = bytes ?? new Uint8Array();
+    Object.assign(now, { bytes, how });
     show();
     fault && complain(fault);
 }
@@ -212,31 +222,46 @@ function type() {
 // Takes other bytes, which are typed if they aren't many.
 function put(bytes, name = "a link") {
     const isMuch = bytes.length > MOST_TYPED;
+    $("examples").value = "";
     $("text").value = isMuch ? "" : hexadecimal(bytes);
     $("text").setSelectionRange(0, 0);
     $("text").scrollTop = 0;
     $("text").placeholder = isMuch ? `${name}: ${bytes.length} bytes` : "";
-    now.bytes = bytes;
+    Object.assign(now, { bytes, how: "" });
     show();
 }
 
-// Takes a file, of bytes or of hexadecimal.
+function showExample() {
+    const { value } = $("examples");
+    $("form").value = "any";
+    put(readHexadecimal(value).bytes);
+    $("examples").value = value;
+}
+
+// Takes a file, of bytes or of a text that spells them. (What is encoded has a zero, or other controls, with few
+// exceptions.)
 async function drop(event) {
     event.preventDefault();
     const [file] = event.dataTransfer.files;
     if (file) {
         const bytes = new Uint8Array(await file.arrayBuffer());
-        const text = readHexadecimal(new TextDecoder("latin1").decode(bytes));
-        put(text.bytes?.length ? text.bytes : bytes, file.name);
+        const text = new TextDecoder("latin1").decode(bytes), typed = readText(text);
+        const isText = !/[\0-\x08\x0e-\x1f\x7f]/.test(text);
+        const isCapture = CAPTURE.test(hexadecimal(bytes.subarray(0, 4)));
+        const fault = isCapture ? "a capture of packets: copy the bytes of the table in Wireshark as a hex stream"
+            : isText ? typed.fault : "";
+        put(typed.bytes ?? (fault ? new Uint8Array() : bytes), file.name);
+        fault && complain(`${file.name}: ${fault}`);
     }
 }
 
 // A link has the bytes after `#`, and how they are read.
 function follow() {
-    const [, form = "any", digits] = /^#(?:(value|table):)?((?:[\da-f]{2})+)$/i.exec(location.hash) ?? [];
-    if (digits) {
+    const [, form = "any", digits = ""] = /^#(?:(value|table):)?((?:[\da-f]{2})+)$/i.exec(location.hash) ?? [];
+    if (location.hash) {
         $("form").value = form;
         put(readHexadecimal(digits).bytes);
+        digits || complain(`the link has no bytes in hexadecimal: ${location.hash.slice(0, 40)}`);
     }
 }
 
@@ -293,26 +318,26 @@ function point({ type: kind, target }) {
     }
 }
 
-function start() {
-    for (const option of $("bits").options) {
-        try {
-            const code = Uint8Array.from(atob($(`wasm${option.value}`).textContent), (it) => it.charCodeAt(0));
-            modules[option.value] = new Module(new WebAssembly.Module(code), Number(option.value));
-        } catch {
-            option.disabled = true;
-        }
+// The module whose addresses have so many bits, or null if the browser has no such addresses.
+function compile(bits) {
+    try {
+        const code = Uint8Array.from(atob($(`wasm${bits}`).textContent), (it) => it.charCodeAt(0));
+        return new Module(new WebAssembly.Module(code), bits);
+    } catch {
+        return null;
     }
-    if (!modules[64] && !modules[32]) {
-        $("outcome").textContent = "This browser has no WebAssembly, by which the page reads.";
+}
+
+function start() {
+    now.module = compile(64) ?? compile(32);
+    if (!now.module) {
+        $("failure").textContent = "This browser has no WebAssembly, by which the page reads.";
         return;
     }
-    $("bits").value = modules[64] ? 64 : 32;
+    $("module").textContent = ABOUT_MODULES[now.module.bits];
     $("text").addEventListener("input", type);
-    ["form", "depth", "frame", "bits"].forEach((id) => $(id).addEventListener("change", show));
-    $("examples").addEventListener("change", ({ target }) => {
-        $("form").value = "any";
-        put(readHexadecimal(target.value).bytes);
-    });
+    ["form", "depth", "frame"].forEach((id) => $(id).addEventListener("change", show));
+    $("examples").addEventListener("change", showExample);
     Object.keys(COPIES).forEach((what) => $(`copy-${what}`).addEventListener("click", () => copy(what)));
     addEventListener("hashchange", follow);
     addEventListener("dragover", (event) => event.preventDefault());
@@ -321,11 +346,16 @@ function start() {
         box.addEventListener("keydown", move);
         ["pointerover", "click"].forEach((kind) => box.addEventListener(kind, point));
     }
-    show();
-    follow();
+    if (location.hash) {
+        follow();
+    } else {
+        $("examples").selectedIndex = 1;
+        showExample();
+        $("text").select();
+    }
 }
 
 start();
 // For the console, and for tests.
-globalThis.amqp = { failure, hexadecimal, jsonText, modules, now, outcome, partOf, put, rabbitmqText, read,
-    readHexadecimal, repeated, treeLines };
+globalThis.amqp = { compile, failure, hexadecimal, jsonText, now, outcome, partOf, put, rabbitmqText, read,
+    readHexadecimal, readText, repeated, shapeOf, treeLines };

@@ -1,8 +1,9 @@
-// The texts for what `read` returned, in the words of amqp_show. (packaging/web.py makes header.js of amqp_values.h.)
+// The texts for what `read` returned, in the words of amqp_show, without its options. (packaging/web.py makes header.js
+// of amqp_values.h.)
 import { AMQPV, NAMES } from "./header.js";
 import { AGAIN, BARE, CUT, REST, isContainer, isCounted, isTruncated } from "./reading.js";
 
-const UNPRINTABLE = /["\\\u0000-\u001f\u007f-\u009f\u061c\u200e\u200f\u202a-\u202e\u2066-\u2069]/g;
+const UNPRINTABLE = /["\\\u0000-\u001f\u007f-\u009f\u00ad\u061c\u200b-\u200f\u2028-\u202e\u2060-\u206f\ufeff]/g;
 const DIGITS = Array.from({ length: 256 }, (_, it) => it.toString(16).padStart(2, "0"));
 export const hexadecimal = (bytes) => Array.from(bytes, (it) => DIGITS[it]).join("");
 
@@ -83,11 +84,11 @@ export function valueText({ module, data, rows }, row, most = Infinity) {
     return `${name} ${text}${shown.length < content.length ? " .." : ""}`;
 }
 
-// The JSON of what was read, as amqp_show has it, or null.
+// The JSON of what was read, as amqp_show has it, or "".
 export function jsonText({ module, data, code, limits: { frame, depth } }) {
     module.load(data);
-    const text = code === AMQPV.OK ? module.json(frame, depth) : null;
-    return text?.replace(UNPRINTABLE, (it) => (/["\\]/.test(it) ? it : digitsOf(it)));
+    const text = code === AMQPV.OK ? module.json(frame, depth) ?? "" : "";
+    return text.replace(UNPRINTABLE, (it) => (/["\\]/.test(it) ? it : digitsOf(it)));
 }
 
 export const keyText = ({ data, rows }, row) => quoted(data.subarray(rows.start[row] + 1, rows.value[row]));
@@ -127,9 +128,9 @@ function problemText({ data, shift, limits: { frame, depth } }, problem) {
         [AMQPV.KEY_CUT]: `the key of ${bytesText(data[offset])} goes past the end of its table`,
         [AMQPV.KEY_NOT_UTF8]: `the key ${quoted(key)} isn't UTF-8`,
         [AMQPV.NOT_FINITE]: "the number is an infinity or a NaN",
-        [AMQPV.TOO_DEEP]: `containers nest deeper than --depth ${depth} allows`,
+        [AMQPV.TOO_DEEP]: `containers nest deeper than the limit of ${depth} levels`,
         [AMQPV.TOO_LARGE]: `the ${shift ? "table with its type tag" : "value"} has ${bytesText(size)}, `
-            + `more than --max-bytes ${frame} allows`,
+            + `more than the limit of ${frame}`,
     }[kind];
     return [Math.max(0, at - shift), why];
 }
@@ -139,25 +140,39 @@ const isBeyondLimits = ({ kind }) => kind === AMQPV.TOO_DEEP || kind === AMQPV.T
 // The offset and the words of what is wrong, or null.
 export const failure = (reading) => reading.failed && problemText(reading, reading.failed);
 
+// What is read after so many bytes that were put before it.
+const SHAPES = { 0: "value", 1: "table", 5: "table's body" };
+
 // What reading resulted in.
 export function outcome({ code, count, shift, failed }) {
-    return code === AMQPV.OK ? `a ${shift ? "table" : "value"} of ${bytesText(count - shift)}`
+    return code === AMQPV.OK ? `a ${SHAPES[shift]} of ${bytesText(count - shift)}`
         : isBeyondLimits(failed) ? "beyond the limits"
             : code === AMQPV.MORE ? `truncated; more bytes needed: ${count}` : "malformed";
 }
 
-// Those that were tried.
-const VERSIONS = "RabbitMQ 3.10.8 and 4.0.5";
+// Those that were tried; and the most bytes of headers and of arguments, without the type tag, that fit their frames.
+const VERSIONS = "RabbitMQ 3.10.8 and 4.0.5", HEADERS = 131058, ARGUMENTS = 131064;
 
 // Whether RabbitMQ closes the connection, and why; nothing of truncated bytes.
 export function rabbitmqText(reading) {
-    const { code, rabbitmq } = reading;
-    if (!rabbitmq) {
+    const { code, rabbitmq, rows, count } = reading, size = rows.tag[1] === AMQPV.TABLE ? count - 1 : 0;
+    if (!rabbitmq && size > HEADERS && code === AMQPV.OK) {
+        return `${VERSIONS} close the connection for headers of more than ${HEADERS} bytes, and for arguments of more `
+            + `than ${ARGUMENTS}: without its type tag the table has ${size}`;
+    } else if (!rabbitmq) {
         return code === AMQPV.MORE ? "" : `${VERSIONS} accept it`;
     }
     const [at, why] = problemText(reading, rabbitmq);
     return isBeyondLimits(rabbitmq) ? "not checked for RabbitMQ beyond the limits"
         : `${VERSIONS} close the connection: offset ${at}: ${why}`;
+}
+
+// Of the first CC or BCC of headers that is no array the row and a line, or null.
+export function copies(reading) {
+    const { code, rows, shift } = reading, row = rows.parent.findIndex((it, row) => it === 1 && rows.isPair(row)
+        && rows.tag[row] !== AMQPV.ARRAY && !(rows.flags[row] & AGAIN) && /^"B?CC"$/.test(keyText(reading, row)));
+    return row < 0 || code !== AMQPV.OK ? null : [row, `offset ${rows.start[row] - shift}: ${keyText(reading, row)} `
+        + "isn't an array; in headers RabbitMQ closes the channel for it"];
 }
 
 // Of the first key that comes again in its table the row and a line, or null.

@@ -16,16 +16,20 @@ from random import Random
 
 import pytest
 from building import AARCH64, COMPILERS
+from dependencies import TOP
 
 from tests.c.compiling import FLAGS, HERE, OF_AARCH64, SANITIZERS, WRAPPED, C, Words, compiled, printed
 from tests.model import nesting
 from tests.model.json_format import json_of, text_for
 from tests.model.encoding import field, json_of_encoding, read, write
+from tests.model.inputs import nested as nested_encoding
 from tests.model.inputs import value_of
 from tests.model.tables import random_table, raw
 
 # The results of what is wrong, as include/amqp_values.h has them.
 UNKNOWN_TAG, CUT, KEY_CUT, KEY_NOT_UTF8, TOO_DEEP, NOT_UTF8, NOT_JSON, NOT_A_VALUE = -2, -3, -4, -5, -7, -9, -10, -11
+# How many bytes a level of tables has at least: the table before has its empty key.
+SMALLEST_LEVEL = 6
 # Pairs that end a table, and what amqpv_read() finds in them.
 WRONG_PAIRS = {b"\1az": UNKNOWN_TAG, b"\1a": CUT, b"\2a": KEY_CUT, b"\1\xffV": KEY_NOT_UTF8}
 # The programs that have no input.
@@ -134,6 +138,19 @@ OF_X86_64, FOR_AARCH64 = checks(0), checks(1)
 @pytest.mark.parametrize("check", OF_X86_64, ids=[it.name for it in OF_X86_64])
 def test_nested(on_x86_64: nesting.Program, check: nesting.Check) -> None:
     assert check.wrong(on_x86_64) == ""
+
+
+@pytest.mark.parametrize("page", ("README.md", "docs/LIMITS.md"))
+def test_stack_of_pages(on_x86_64: nesting.Program, page: str) -> None:
+    """Tables of the size that the page names overflow the stack that it names, in the call that takes most for a level, if its
+    limit lets them through; nine tenths of them don't.
+    """
+    found = re.findall(r"(\d+) kB of nested tables can overflow a stack of (\d+) MiB", (TOP / page).read_text())
+    ((kilobytes, mebibytes),) = found
+    call, of_page = nesting.FOR_C["amqpv_canonical"], int(kilobytes) * 1000 // SMALLEST_LEVEL
+    for levels, wants in ((of_page, "status -11"), (of_page * 9 // 10, "done")):
+        given = b"0" + nested_encoding("F", levels, b"t\7", b"\0")
+        assert nesting.answer(on_x86_64, call, levels, given, int(mebibytes) << 20) == wants
 
 
 @needs_aarch64

@@ -160,6 +160,15 @@ def test_stack_is_stated() -> None:
         ), f"{call}: {takes} bytes a level, and {stated} are stated"
 
 
+def test_stack_of_unlimited_parsing() -> None:
+    """The tables of which README.md says that they can overflow a stack do so here, by what a level takes."""
+    ((kilobytes, mebibytes),) = re.findall(
+        r"(\d+) kB of nested tables can overflow a stack of (\d+) MiB", (TOP / "README.md").read_text()
+    )
+    a_level = number(rows()["parse_value"][-2])
+    assert int(kilobytes) * 1000 / 6 * a_level > int(mebibytes) << 20
+
+
 # What the header states that calls hold at most, and how much that is; a row of a table without its type tag is of the same call.
 STATED: dict[str, tuple[str, Callable[[Taken], float]]] = {
     "amqpv_canonical": (

@@ -88,19 +88,6 @@ def test_nested(check: nesting.Check) -> None:
     assert check.wrong(built("test_calls")) == ""
 
 
-@pytest.mark.parametrize("page", ("README.md", "docs/LIMITS.md"))
-@pytest.mark.parametrize("form", "AF")
-def test_stack_of_unlimited_parsing(page: str, form: str) -> None:
-    """So many nested arrays or tables overflow the stack, as the page says, and half as many don't."""
-    found = re.search(r"(\d+) kB of nested arrays or tables overflow a stack of (\d+) MiB", (TOP / page).read_text())
-    assert found, "the page names no size"
-    size, stack = int(found[1]) * 1000, int(found[2]) << 20
-    a_level = len(nesting.encoding(form, 2)) - len(nesting.encoding(form, 1))
-    for depth, wants in ((size // a_level, "status -11"), (size // a_level // 2, "done")):
-        given = nesting.encoding(form, depth)
-        assert nesting.answer(built("test_calls"), nesting.CALLS["parse_value"], depth, given, stack) == wants
-
-
 def stack_of_show() -> int:
     """The stack, in bytes, that docs/SHOW.md names for the deepest limit."""
     found = re.search(r"under ([\d.]+) MB in all", (TOP / "docs/SHOW.md").read_text())

@@ -18,9 +18,11 @@ PATIENCE = 60
 # canonical, and its JSON.
 READ = """
 const [inputs, how, bits] = arguments, {amqp} = globalThis;
+const module = (amqp.modules ??= {})[bits] ??= amqp.compile(bits);
 return inputs.map((digits) => {
     const bytes = Uint8Array.from(digits.match(/../g) ?? [], (it) => parseInt(it, 16));
-    const reading = amqp.read(amqp.modules[bits], bytes, how), failed = amqp.failure(reading);
+    const shape = amqp.shapeOf(module, bytes, {...how, shape: how.isTable ? "table" : "value"});
+    const reading = amqp.read(module, bytes, {...how, shape}), failed = amqp.failure(reading);
     return {
         tree: amqp.treeLines(reading),
         parts: bytes.length > 5000 ? "" : Array.from(reading.data, (_, at) =>
@@ -30,7 +32,7 @@ return inputs.map((digits) => {
         outcome: `= ${amqp.outcome(reading)}`,
         rabbitmq: amqp.rabbitmqText(reading),
         canonical: failed ? null : reading.isCanonical,
-        json: failed ? null : amqp.jsonText(reading) ?? "",
+        json: failed ? null : amqp.jsonText(reading),
     };
 });
 """

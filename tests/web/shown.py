@@ -25,6 +25,14 @@ KINDS = {
     "payload": re.compile(""),
 }
 NOTE = re.compile(r" \((the key comes .*|the .* isn't canonical, .*)\)$")
+# A warning that the frame is too large, and what the page says of that.
+LARGE = re.compile(r"\* the table has (\d+) bytes without its type tag; .* closes the connection \(501\)")
+FRAMES = "headers of more than 131058 bytes, and for arguments of more than 131064"
+# The options of amqp_show, for which the page has words.
+OPTIONS = (
+    (re.compile(r"--depth (\d+) allows$"), r"the limit of \1 levels"),
+    (re.compile(r"--max-bytes (\d+) allows$"), r"the limit of \1"),
+)
 
 
 def output(program: Path, words: Sequence[str], given: Sequence[bytes]) -> list[str]:
@@ -67,9 +75,19 @@ def parts_of(lines: Sequence[str], data: bytes, is_table: bool) -> str:
     return "".join(letters)
 
 
+def in_words(failure: str) -> str:
+    """A failure without options."""
+    for option, words in OPTIONS:
+        failure = option.sub(words, failure)
+    return failure
+
+
 def rabbitmq(lines: Sequence[str]) -> str:
     """What the page says of RabbitMQ. It shows no warnings, and no keys, but leads to the byte."""
     *failure, last = [it for it in lines if it[0] != "*"]
+    large = [found[1] for it in lines if (found := LARGE.match(it))]
+    if large and "accepts" in last:
+        return f"{RABBITMQ} close the connection for {FRAMES}: without its type tag the table has {large[0]}"
     if "closes" in last:
         return f"{RABBITMQ} close the connection: {PATH.sub('', failure[0][2:])}"
     return f"{RABBITMQ} accept it" if "accepts" in last else "not checked for RabbitMQ beyond the limits"
@@ -92,7 +110,7 @@ def wanted(program: Path, given: Sequence[bytes], is_table: bool = False) -> Ite
             "tree": tree_of(tree),
             "parts": "" if len(data) > 5000 else parts_of(of_bytes, data, is_table),
             "repeated": said.get("*", ""),
-            "failure": said.get("!", ""),
+            "failure": in_words(said.get("!", "")),
             "outcome": said["="],
             "rabbitmq": "" if "truncated" in said["="] else rabbitmq(check),
             "canonical": None if text is None else not notes,

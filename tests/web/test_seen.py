@@ -16,6 +16,7 @@ from selenium.common.exceptions import MoveTargetOutOfBoundsException, StaleElem
 from selenium.webdriver.common.action_chains import ActionChains
 from selenium.webdriver.common.keys import Keys
 
+from tests.model.encoding import field
 from tests.model.inputs import nested
 from tests.model.tables import EVERY_TYPE, raw
 from tests.transcripts import Case, cases
@@ -34,6 +35,7 @@ NO_DIGITS = re.compile(r"#[^\n]*|0[xX]|\\x|[ \t\r\n\f,:]")
 TWISTS = str.maketrans("", "", "▸▾")
 # A table with a number, an array with a string in it, and a number after that: where each pair and each part begins.
 TABLE = "46 00000017 01 61 49 00000005 01 62 41 00000006 53 00000001 78 01 63 56"
+ESCAPED = "".join(f"\\x{it:02x}" for it in bytes.fromhex(TABLE)[2:])
 CLOSED = ["FieldTable", '  "a": LongInt 5', '  "b": FieldArray', '  "c": Void']
 OPEN = [*CLOSED[:3], '    LongString "x"', *CLOSED[3:]]
 # Counts the pixels of a picture by their colours.
@@ -181,6 +183,52 @@ def test_what_is_wrong_is_marked(browser: Browser) -> None:
     expect(browser, here, ["byte-10"])
 
 
+def test_opened(browser: Browser) -> None:
+    """It shows an example, which what is pasted replaces, and of an empty field nothing."""
+    expect(browser, lambda it: '  "x-death": FieldArray' in drawn(it), True)
+    assert browser.text("failure") == "" and browser.text("outcome").startswith("a value of")
+    selected = "const it = document.getElementById('text'); return it.value.slice(it.selectionStart, it.selectionEnd)"
+    assert browser.run(selected) == browser.run("return document.getElementById('examples').value")
+    browser.type("")
+    expect(browser, lambda it: [drawn(it), it.lines("bytes")], [[], []])
+    assert [browser.text(it) for it in ("failure", "outcome", "notes", "about")] == ["", "", "", ""]
+    expect(browser, lambda it: it.is_shown("json-text"), False)
+
+
+@pytest.mark.parametrize(
+    ("text", "how"),
+    (
+        ("RgAAABcBYUkAAAAFAWJBAAAABlMAAAABeAFjVg==", "read as base64: line 1, column 1 isn't hexadecimal"),
+        ("RgAAABcBYUkAAAAF\r\n  AWJBAAAABlMAAAABeAFjVg==\n", "read as base64: line 1, column 1 isn't hexadecimal"),
+        (repr(bytes.fromhex(TABLE)), "read as a bytes literal of Python"),
+        (repr(bytearray.fromhex(TABLE)), "read as a bytes literal of Python"),
+        (f"(b'F\\0'\n  B\"{ESCAPED}\")", "read as a bytes literal of Python"),
+    ),
+)
+def test_other_texts(browser: Browser, text: str, how: str) -> None:
+    """Base64 and Python's literals are read too, and a note says so."""
+    browser.type(text)
+    expect(browser, drawn, OPEN)
+    assert browser.text("notes").splitlines()[0] == how
+
+
+def test_literals(browser: Browser) -> None:
+    """Each byte is read of what Python prints, in either quotes, and of what Python takes."""
+    texts = [*(bytes([it]) for it in range(256)), bytes(range(256)), b"it's", b'"', b"'\"\\"]
+    others = {"b'\\a\\b\\v\\f\\7\\101\\q\\\n'": b"\a\b\v\f\7A\\q", 'b"\\\'\\""': b"'\""}
+    script = "return arguments[0].map((it) => amqp.hexadecimal(amqp.readText(it).bytes))"
+    given, wants = [*map(repr, texts), *others], [*texts, *others.values()]
+    assert browser.run(script, given) == [it.hex() for it in wants]
+    for text, fault in (
+        ("b'ab", "the text ends inside a bytes literal of Python"),
+        ("b'a\\x4'", "line 1, column 4: this can't be in a bytes literal of Python"),
+        ("b'a'\nb'\u00e9'", "line 2, column 3: this can't be in a bytes literal of Python"),
+        ("b'a' + c", "line 1, column 6: this can't be in a bytes literal of Python"),
+    ):
+        browser.type(text)
+        assert browser.text("failure") == fault
+
+
 def test_hexadecimal_that_is_none(browser: Browser) -> None:
     """Nothing stays of what was read before."""
     browser.type(TABLE)
@@ -248,10 +296,10 @@ def test_a_table_without_its_type_tag(browser: Browser) -> None:
     browser.type("00000007 0161 7401 0162 56")
     expect(browser, drawn, ["FieldTable", '  "a": Boolean true', '  "b": Void'])
     browser.choose("form", "value")
-    assert "the input seems to be a table without its type tag; --table reads it" in browser.text("notes")
+    assert "the input seems to be a table without its type tag" in browser.text("notes")
     browser.choose("form", "table")
     browser.type("46 00000007 0161 7401 0162 56")
-    assert "the input seems to have a type tag; without --table it is read" in browser.text("notes")
+    assert "the input seems to have a type tag" in browser.text("notes")
 
 
 def test_a_link_has_the_bytes(browser: Browser) -> None:
@@ -269,6 +317,12 @@ def test_a_link_has_the_bytes(browser: Browser) -> None:
     browser.type("74 01")
     assert browser.run("return location.hash") == ""
     expect(browser, drawn, ["Boolean true"])
+    for bad in ("#zz", "#table:0"):
+        browser.run("location.hash = arguments[0]", bad)
+        expect(browser, lambda it: it.text("failure"), f"the link has no bytes in hexadecimal: {bad}")
+        expect(browser, drawn, [])
+    browser.load("#zz")
+    expect(browser, lambda it: it.text("failure"), "the link has no bytes in hexadecimal: #zz")
 
 
 def test_examples(browser: Browser) -> None:
@@ -318,7 +372,7 @@ def test_a_module_without_stack_is_made_anew(browser: Browser) -> None:
     # (as the page reads, but without its bound of 1,000 levels)
     script = f"""
         {deep}
-        const module = amqp.modules[64], calls = {{...module.calls}}, {{amqpv_proved_read}} = calls;
+        const {{module}} = amqp.now, calls = {{...module.calls}}, {{amqpv_proved_read}} = calls;
         calls.amqpv_proved_read = (input, ...more) => {{
             module.words[Number(input) / 4 + 5] = n + 1;
             return amqpv_proved_read(input, ...more);
@@ -327,39 +381,100 @@ def test_a_module_without_stack_is_made_anew(browser: Browser) -> None:
         amqp.put(it);
     """
     browser.run(script)
-    assert "made anew" in browser.text("failure") and browser.run("return amqp.modules[64].calls !== ended")
+    assert "made anew" in browser.text("failure") and browser.run("return amqp.now.module.calls !== ended")
     browser.type(TABLE)
     expect(browser, drawn, OPEN)
     assert browser.text("failure") == ""
 
 
-def test_each_module_says_what_it_is(browser: Browser) -> None:
-    """Both read the same; of the second the page says that a step isn't proved."""
-    browser.type(TABLE)
-    expect(browser, drawn, OPEN)
-    assert "64-bit" in browser.text("module") and "isn't proved" not in browser.text("module")
-    browser.choose("bits", 32)
-    assert browser.run("return amqp.now.reading.module === amqp.modules[32] && amqp.modules[32].bits === 32")
-    assert "32-bit" in browser.text("module") and "isn't proved" in browser.text("module")
-    expect(browser, drawn, OPEN)
+def outcome(browser: Browser, text: str) -> list[str]:
+    """What is said of bytes in hexadecimal: what they are, what is wrong, and the notes."""
+    browser.type(text)
+    return [browser.text("outcome"), browser.text("failure"), *browser.text("notes").splitlines()]
+
+
+def test_what_bytes_seem_to_be(browser: Browser) -> None:
+    """A table is read without its type tag, also if it is malformed, and without its length; as amqp_show reads them."""
+    table, body = "read as a table without its type tag", "read as a table's body, without its type tag and length"
+    wrong = "offset 6: a type tag is expected; 7a is none"
+    closes = f"{RABBITMQ} close the connection: {wrong}"
+    assert outcome(browser, "00000003 01 61 7a") == ["malformed", wrong, table, closes]
+    truncated = ["truncated; more bytes needed: 3", "offset 8: the input ends inside the FieldTable", table]
+    assert outcome(browser, "00000007 01 61 56 01") == truncated
+    expect(browser, drawn, ["FieldTable", '  "a": Void', '  "\\u0001" (not decoded)'])
+    assert outcome(browser, "01 61 56 01 62 56") == [
+        "a table's body of 6 bytes",
+        "",
+        body,
+        f"{RABBITMQ} accept it",
+        "canonical",
+    ]
+    expect(browser, drawn, ["FieldTable", '  "a": Void', '  "b": Void'])
+    browser.choose("form", "table")
+    assert outcome(browser, "01 61 56 01 62 56")[:3] == ["a table's body of 6 bytes", "", body]
+    browser.choose("form", "value")
+    assert outcome(browser, "00000003 01 61 56")[:2] == ["malformed", "offset 0: a type tag is expected; 00 is none"]
+    assert "seems to be a table" in browser.text("notes")
+
+
+def test_what_rabbitmq_makes_of_headers(browser: Browser) -> None:
+    """It closes the connection for large ones, and the channel if CC or BCC isn't an array."""
+    for size, starts in (
+        (131058, f"{RABBITMQ} accept it"),
+        (131059, f"{RABBITMQ} close the connection for headers of more"),
+    ):
+        pair = b"\1kx" + (size - 11).to_bytes(4, "big") + bytes(size - 11)
+        browser.run("amqp.put(Uint8Array.from(arguments[0]))", [*field(b"F", pair)])
+        assert browser.text("outcome") == f"a value of {size + 1} bytes"
+        assert browser.text("notes").startswith(starts), size
+    tells = 'offset 5: "CC" isn\'t an array; in headers RabbitMQ closes the channel for it'
+    assert tells in outcome(browser, field(b"F", b"\2CC" + field(b"S", b"a")).hex())
+    for fine in (field(b"F", b"\2CCA\0\0\0\0"), field(b"F", b"\1aF\0\0\0\4\2CCV"), field(b"F", b"\2CcV")):
+        assert "CC" not in " ".join(outcome(browser, fine.hex()))
+
+
+def drop(browser: Browser, data: bytes) -> None:
+    """Drops a file."""
+    script = """
+        const data = new DataTransfer();
+        data.items.add(new File([Uint8Array.from(arguments[0])], "a.bin"));
+        dispatchEvent(new DragEvent("drop", {dataTransfer: data, cancelable: true}));
+    """
+    browser.run(script, [*data])
 
 
 def test_a_dropped_file(browser: Browser) -> None:
-    """Is read as bytes, or if it is hexadecimal as that."""
-    script = """
-        const data = new DataTransfer(), given = arguments[0], it = given.bytes ? Uint8Array.from(given.bytes) : given.text;
-        data.items.add(new File([it], "a.bin"));
-        dispatchEvent(new DragEvent("drop", {dataTransfer: data, cancelable: true}));
-    """
-    for given in ({"bytes": [*bytes.fromhex(TABLE)]}, {"text": f"# a table\n{TABLE}"}):
+    """Is read as bytes, or if it is a text as that."""
+    for given in (bytes.fromhex(TABLE), f"# a table, größer\n{TABLE}".encode(), repr(bytes.fromhex(TABLE)).encode()):
         browser.load()
-        browser.run(script, given)
+        drop(browser, given)
         expect(browser, drawn, OPEN)
         assert browser.run("return document.getElementById('text').value") == TABLE.replace(" ", "")
     browser.load()
-    browser.run(script, {"bytes": [0x41, 0, 1, 0xFF, 0xFB] + [0x56] * 0x1FFFB})
+    drop(browser, bytes([0x41, 0, 1, 0xFF, 0xFB] + [0x56] * 0x1FFFB))
     expect(browser, lambda it: it.text("outcome"), "a value of 131072 bytes")
     assert browser.run("return document.getElementById('text').placeholder") == "a.bin: 131072 bytes"
+
+
+def test_a_dropped_text_that_is_something_else(browser: Browser) -> None:
+    """Has the hint of amqp_show, and nothing is said of RabbitMQ."""
+    texts = {it.given: FAULT.search(it.wants.error.decode()) for it in HEXADECIMAL}
+    hints = {text: found[1] for text, found in texts.items() if found}
+    hints[
+        bytes.fromhex("d4c3b2a102000400")
+    ] = "a capture of packets: copy the bytes of the table in Wireshark as a hex stream"
+    hints[b"0000  00 00 00 00"] = (
+        "a dump of tshark: `cut -c 7-53 FILE | amqp_show --hex` reads its bytes, of which a packet's headers are the first; "
+        "--skip passes them"
+    )
+    for text in (b"000000 00 00 00 0b 01 61\n000010 62 56\n", b"0000000 74 01\n0000002\n"):
+        hints[text] = "a dump of od: `cut -sd ' ' -f 2- FILE | amqp_show --hex` reads it"
+    hints[b'{"a": 1}'] = "the input seems to be JSON; amqp_show --encode reads it"
+    assert len([it for it in hints.values() if it.startswith("a dump of")]) >= 5
+    for text, hint in hints.items():
+        drop(browser, text)
+        expect(browser, lambda it: it.text("failure"), f"a.bin: {hint}")
+        assert browser.text("notes") == "" and drawn(browser) == []
 
 
 def copied(browser: Browser, *names: str) -> list[str]:
@@ -391,9 +506,9 @@ def test_copy_of_long_json(browser: Browser) -> None:
 
 
 def test_modules_are_plain() -> None:
-    """All together have at most 800 lines, of at most 120 columns."""
+    """All together have at most 950 lines, of at most 120 columns."""
     lines = [it for path in (TOP / "bindings/web").glob("*.js") for it in path.read_text().splitlines()]
-    assert len(lines) <= 800 and max(map(len, lines)) <= 120
+    assert len(lines) <= 950 and max(map(len, lines)) <= 120
 
 
 def test_limits(browser: Browser) -> None:
@@ -405,10 +520,10 @@ def test_limits(browser: Browser) -> None:
     assert "nest deeper" in browser.text("failure")
     browser.choose("depth", -1)
     browser.type("4100000000")
-    assert browser.text("failure") == "offset 0: containers nest deeper than --depth 0 allows"
+    assert browser.text("failure") == "offset 0: containers nest deeper than the limit of 0 levels"
     browser.choose("frame", -1)
-    assert browser.text("failure") == "offset 0: the value has 5 bytes, more than --max-bytes 0 allows"
-    for frame, failure in ((5, "the value has 6 bytes, more than --max-bytes 5 allows"), (6, "")):
+    assert browser.text("failure") == "offset 0: the value has 5 bytes, more than the limit of 0"
+    for frame, failure in ((5, "the value has 6 bytes, more than the limit of 5"), (6, "")):
         browser.choose("frame", frame)
         browser.choose("depth", 1)
         browser.type("4100000001 56")
@@ -430,7 +545,11 @@ def test_widths(browser: Browser, width: int) -> None:
 
 
 def test_a_browser_without_64_bit_addresses(page: Path, tmp_path: Path) -> None:
-    """It reads by the second module. (Here the first one is no module.)"""
+    """It reads by the second module, and a note says so. (Here the first one is no module.)"""
+    with opened(page) as browser:
+        browser.type(TABLE)
+        expect(browser, drawn, OPEN)
+        assert "64-bit" in browser.text("module") and "isn't proved" not in browser.text("module")
     text = page.read_text()
     begin = text.index('id="wasm64">') + len('id="wasm64">')
     other = tmp_path / "other.html"
@@ -438,8 +557,7 @@ def test_a_browser_without_64_bit_addresses(page: Path, tmp_path: Path) -> None:
     with opened(other) as browser:
         browser.type(TABLE)
         expect(browser, drawn, OPEN)
-        assert "32-bit" in browser.text("module")
-        assert browser.run("return document.querySelector('#bits [value=\"64\"]').disabled")
+        assert "32-bit" in browser.text("module") and "isn't proved" in browser.text("module")
 
 
 def test_firefox_shows_it(browser: Browser, page: Path, tmp_path: Path) -> None:
