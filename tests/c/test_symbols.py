@@ -1,8 +1,9 @@
 """The symbols that the two objects of the C API define, and those that they ask for, as gcc and clang assemble them.
 
 The global symbols of each are its calls and no other, as include/amqp_values.h declares them: another library that Rattle made
-can have functions of the same names. The first asks only for `memcpy` and `memmove`, so it can't allocate, print or end the
-process, the second for `memset` and the three functions of c/malloc.c too. None has a variable.
+can have functions of the same names. The first asks only for `memcpy`, `memmove` and `memset`, and for the division of 128 bits
+that every compiler's own library has, so it can't allocate, print or end the process. The second asks for the three functions of
+c/malloc.c too. None has a variable.
 """
 
 from typing import Any
@@ -15,7 +16,8 @@ from tests.c.declared import CALLS
 from tests.c.compiling import ALLOCATING, PLAIN, symbols
 
 OF_MALLOC = {"malloc", "realloc", "free"}
-BORROWED = {PLAIN: {"memcpy", "memmove"}, ALLOCATING: {"memcpy", "memmove", "memset"} | OF_MALLOC}
+OF_EACH = {"memcpy", "memmove", "memset", "__udivti3"}
+BORROWED = {PLAIN: OF_EACH, ALLOCATING: OF_EACH | OF_MALLOC}
 
 
 def ways() -> list[Any]:

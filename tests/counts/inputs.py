@@ -77,7 +77,7 @@ def counted() -> Iterator[Input]:
 
 # What isn't canonical, so that what follows isn't copied as it is.
 ODD = b"t\7"
-# A table whose keys don't ascend, of which JSON can't be written as they come.
+# A table whose keys don't ascend.
 FALLING = field(b"F", b"\1aV\0V")
 # What an array has again and again: tables of a pair, in each other too, and strings of few bytes.
 ITEMS = {
