@@ -101,7 +101,7 @@ PRINTED = """\
 x-death: FieldArray
 key: Void
 42 bytes from 26
-{"key":null,"x-death":[{"count":3}]}
+{"x-death":[{"count":3}],"key":null}
 """
 
 
