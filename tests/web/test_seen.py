@@ -250,11 +250,11 @@ def test_other_bytes_have_no_marks(browser: Browser) -> None:
 
 
 def test_json(browser: Browser) -> None:
-    """It is that of what is shown, with the pairs in their order."""
+    """It is that of what is shown, with keys in the order of the bytes, also if they come again."""
     browser.type("4600000007 0161 7401 0162 56")
     expect(browser, json_text, '{"a":true,"b":null}')
-    browser.type("4600000006 0162 56 0161 56")
-    expect(browser, json_text, '{"b":null,"a":null}')
+    browser.type("4600000009 0162 56 0161 56 0162 56")
+    expect(browser, json_text, '{"b":null,"a":null,"b":null}')
     browser.type("4600000003 0161 56")
     expect(browser, json_text, '{"a":null}')
     browser.type("4600000003 0161")
