@@ -148,8 +148,6 @@ export function shapeOf(module, bytes, { shape = "value", frame = AMQPV.MAX_BYTE
     } else if (shape === "value" && first === 0 && bytes.length > 3
         && (size === bytes.length - 4 || size > 0 && isTag(after[0]))) {
         return "table";
-    } else if (bytes.length + 5 > frame) {
-        return shape;
     }
     module.load(Uint8Array.from([...before("body", bytes.length), ...bytes]));
     return module.read(frame, depth).code === AMQPV.OK ? "body" : shape;
