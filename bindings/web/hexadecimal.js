@@ -11,11 +11,7 @@ const DUMPS = [
     [/^(?:[^\n]*\n)?\t0x0000: {2}/, "a dump of tcpdump: `grep '^.0x' FILE | cut -c 11-49 | amqp_show --hex` "
         + "reads its bytes, of which a packet's headers are the first"],
     [/^0000 {3}/, "a dump of Wireshark: copy the bytes of the table as a hex stream, which --hex reads"],
-    [/^(?:[^\n]*\n)?0000 {2}/, "a dump of tshark: `cut -c 7-53 FILE | amqp_show --hex` reads its bytes, of which a "
-        + "packet's headers are the first; --skip passes them"],
     [/^00000000 {2}/, "a dump of hexdump -C: `cut -c 11-58 FILE | amqp_show --hex` reads it"],
-    [/^(?:0{6}(?= )(?: +[^ \n]{2})* *\n(?!0{6})[\da-f]{6}|0{7}(?= )(?: +[^ \n]{2})* *\n(?!0{7})[\da-f]{7})/i,
-        "a dump of od: `cut -sd ' ' -f 2- FILE | amqp_show --hex` reads it"],
 ];
 
 // Returns the bytes, or why there are none.

@@ -2,21 +2,16 @@
 import { AMQPV } from "./header.js";
 import { readHexadecimal } from "./hexadecimal.js";
 import { Module } from "./module.js";
-import { read, shapeOf } from "./reading.js";
+import { read } from "./reading.js";
 import { readText } from "./text.js";
-import { copies, failure, hexadecimal, indentation, jsonText, keyText, outcome, rabbitmqText, repeated, rowParts,
-    treeLines } from "./words.js";
+import { failure, hexadecimal, indentation, jsonText, keyText, outcome, rabbitmqText, repeated, rowParts, treeLines,
+} from "./words.js";
 
 // The height of a line, and of the tallest element, in pixels; how many bytes of a string a row shows, how many are
 // typed, and how many a link has. For more levels a call's stack might not suffice.
 const HEIGHT = 22, TALLEST = 8e6, MOST_SHOWN = 300, MOST_TYPED = 65536, MOST_LINKED = 500000, MOST_LEVELS = 1000;
-// What is said of bytes that are taken for something else than a value; and of those that seem to be something else.
-const READ_AS = { 0: "", 1: "read as a table without its type tag",
-    5: "read as a table's body, without its type tag and length" };
-const OTHER = { value: "the input seems to be a table without its type tag",
-    table: "the input seems to have a type tag" };
-// How a capture of packets begins.
-const CAPTURE = /^(?:d4c3b2a1|0a0d0d0a)$/;
+// What is said of bytes that are the other, by whether they are taken for a table without its type tag.
+const OTHER = ["the input seems to be a table without its type tag", "the input seems to have a type tag"];
 // What is said of a module, by how many bits its addresses have.
 const ABOUT_MODULES = {
     64: "The bytes are read by WebAssembly with 64-bit addresses, which is the proved code as Rattle compiles it.",
@@ -144,17 +139,21 @@ function toggle(row) {
     fold();
 }
 
-// Reads the bytes, and shows what was read.
+// Reads the bytes, and shows what was read. What is no value, as a whole, may be a table without its type tag, and
+// what is no table one with it.
 function show() {
-    const { module, bytes } = now, form = $("form").value, isTable = form === "table";
+    const { module } = now, form = $("form").value, isTable = form === "table";
     const limit = (id, most) => Math.max(0, Math.min(most, Math.trunc(Number($(id).value))));
     const how = { frame: limit("frame", 0xffffffff), depth: limit("depth", MOST_LEVELS) };
     Object.assign(now, { closed: new Set(), row: 0, byte: -1, width: innerWidth > 800 ? 16 : 8 });
     try {
-        const seems = shapeOf(module, bytes, { ...how, shape: isTable ? "table" : "value" });
-        const isOther = isTable ? bytes[0] === AMQPV.TABLE && bytes[1] === 0 : seems === "table";
-        now.reading = read(module, bytes, { ...how, shape: form === "value" ? "value" : seems });
-        bytes.length ? tell(isOther && OTHER[form]) : complain("");
+        const first = read(module, now.bytes, { ...how, isTable });
+        const mayBeOther = first.code === AMQPV.UNKNOWN_TAG || first.code !== AMQPV.OK && isTable;
+        const other = mayBeOther && read(module, now.bytes, { ...how, isTable: !isTable });
+        const isOther = mayBeOther && other.count === other.data.length && other.rows.tag[1] === AMQPV.TABLE
+            && other.code === AMQPV.OK;
+        now.reading = isOther && form === "any" ? other : first;
+        now.bytes.length ? tell(isOther && form !== "any" ? OTHER[Number(isTable)] : "") : complain("");
     } catch (error) {
         module.renew();
         now.reading = read(module, new Uint8Array());
@@ -193,14 +192,12 @@ function complain(why) {
 // Says what came of reading.
 function tell(note) {
     const { reading, reading: { rows, shift, code, count, data, rabbitmq, isCanonical } } = now;
-    const again = repeated(reading), copied = copies(reading), [at, why] = failure(reading) ?? [];
-    const said = rabbitmqText(reading);
+    const again = repeated(reading), [at, why] = failure(reading) ?? [], said = rabbitmqText(reading);
     const notes = [
         now.how,
-        shift > ($("form").value === "table" ? 1 : 0) ? READ_AS[shift] : "",
+        shift && $("form").value === "any" ? "read as a table without its type tag" : "",
         note,
         rabbitmq ? jump(said, Math.max(0, rabbitmq.offset - shift)) : said,
-        copied && jump(copied[1], rows.start[copied[0]] - shift),
         again && jump(again[1], rows.start[again[0]] - shift),
         code === AMQPV.OK && count < data.length ? `more bytes follow, from offset ${count - shift}` : "",
         why ? "" : isCanonical ? "canonical" : "not canonical"];
@@ -247,11 +244,8 @@ async function drop(event) {
         const bytes = new Uint8Array(await file.arrayBuffer());
         const text = new TextDecoder("latin1").decode(bytes), typed = readText(text);
         const isText = !/[\0-\x08\x0e-\x1f\x7f]/.test(text);
-        const isCapture = CAPTURE.test(hexadecimal(bytes.subarray(0, 4)));
-        const fault = isCapture ? "a capture of packets: copy the bytes of the table in Wireshark as a hex stream"
-            : isText ? typed.fault : "";
-        put(typed.bytes ?? (fault ? new Uint8Array() : bytes), file.name);
-        fault && complain(`${file.name}: ${fault}`);
+        put(typed.bytes ?? (isText ? new Uint8Array() : bytes), file.name);
+        isText && typed.fault && complain(`${file.name}: ${typed.fault}`);
     }
 }
 
@@ -358,4 +352,4 @@ function start() {
 start();
 // For the console, and for tests.
 globalThis.amqp = { compile, failure, hexadecimal, jsonText, now, outcome, partOf, put, rabbitmqText, read,
-    readHexadecimal, readText, repeated, shapeOf, treeLines };
+    readHexadecimal, readText, repeated, treeLines };

@@ -130,36 +130,10 @@ function markRepeated({ data, rows }) {
     }
 }
 
-// What is put before bytes that are a table without its type tag, and before those that are without its length too.
-function before(shape, length) {
-    const bytes = [AMQPV.TABLE, length >>> 24, length >>> 16, length >>> 8, length];
-    return bytes.slice(0, { value: 0, table: 1, body: 5 }[shape]);
-}
-
-// What bytes are that seem to be no value, or no table if they are to be one, as amqp_show decides it.
-export function shapeOf(module, bytes, { shape = "value", frame = AMQPV.MAX_BYTES, depth = AMQPV.MAX_DEPTH } = {}) {
-    const [first, ...length] = bytes.subarray(0, 5), after = bytes.subarray(5 + bytes[4]), isTag = (it) => {
-        module.load(new Uint8Array());
-        return it !== undefined && Boolean(module.number([it]));
-    };
-    const size = new DataView(Uint8Array.from([first, ...length, 0, 0, 0, 0]).buffer).getUint32(0);
-    if (shape === "value" ? !bytes.length || isTag(first) : bytes.length < 4 || size + 5 <= frame) {
-        return shape;
-    } else if (shape === "value" && first === 0 && bytes.length > 3
-        && (size === bytes.length - 4 || size > 0 && isTag(after[0]))) {
-        return "table";
-    } else if (bytes.length + 5 > frame) {
-        return shape;
-    }
-    module.load(Uint8Array.from([...before("body", bytes.length), ...bytes]));
-    return module.read(frame, depth).code === AMQPV.OK ? "body" : shape;
-}
-
-// Reads the value at the start of some bytes, or the table without its type tag or its length, within limits. Offsets
-// count from `data`, which has these, `shift` bytes before the others.
-export function read(module, bytes, { shape = "value", frame = AMQPV.MAX_BYTES, depth = AMQPV.MAX_DEPTH } = {}) {
-    const put = before(shape, bytes.length), shift = put.length, data = new Uint8Array(bytes.length + shift);
-    data.set(put);
+// Reads the value at the start of some bytes, or the table without its type tag, within limits. Offsets count from
+// `data`, which has that type tag, `shift` bytes before the others.
+export function read(module, bytes, { isTable = false, frame = AMQPV.MAX_BYTES, depth = AMQPV.MAX_DEPTH } = {}) {
+    const shift = isTable ? 1 : 0, data = new Uint8Array(bytes.length + shift).fill(AMQPV.TABLE, 0, shift);
     data.set(bytes, shift);
     module.load(data);
     const { code, count, problem: failed } = module.read(frame, depth), isOk = code === AMQPV.OK;

@@ -3,7 +3,7 @@
 import { AMQPV, NAMES } from "./header.js";
 import { AGAIN, BARE, CUT, REST, isContainer, isCounted, isTruncated } from "./reading.js";
 
-const UNPRINTABLE = /["\\\u0000-\u001f\u007f-\u009f\u00ad\u061c\u200b-\u200f\u2028-\u202e\u2060-\u206f\ufeff]/g;
+const UNPRINTABLE = /["\\\u0000-\u001f\u007f-\u009f\u061c\u200e\u200f\u202a-\u202e\u2066-\u2069]/g;
 const DIGITS = Array.from({ length: 256 }, (_, it) => it.toString(16).padStart(2, "0"));
 export const hexadecimal = (bytes) => Array.from(bytes, (it) => DIGITS[it]).join("");
 
@@ -140,39 +140,25 @@ const isBeyondLimits = ({ kind }) => kind === AMQPV.TOO_DEEP || kind === AMQPV.T
 // The offset and the words of what is wrong, or null.
 export const failure = (reading) => reading.failed && problemText(reading, reading.failed);
 
-// What is read after so many bytes that were put before it.
-const SHAPES = { 0: "value", 1: "table", 5: "table's body" };
-
 // What reading resulted in.
 export function outcome({ code, count, shift, failed }) {
-    return code === AMQPV.OK ? `a ${SHAPES[shift]} of ${bytesText(count - shift)}`
+    return code === AMQPV.OK ? `a ${shift ? "table" : "value"} of ${bytesText(count - shift)}`
         : isBeyondLimits(failed) ? "beyond the limits"
             : code === AMQPV.MORE ? `truncated; more bytes needed: ${count}` : "malformed";
 }
 
-// Those that were tried; and the most bytes of headers and of arguments, without the type tag, that fit their frames.
-const VERSIONS = "RabbitMQ 3.10.8 and 4.0.5", HEADERS = 131058, ARGUMENTS = 131064;
+// Those that were tried.
+const VERSIONS = "RabbitMQ 3.10.8 and 4.0.5";
 
 // Whether RabbitMQ closes the connection, and why; nothing of truncated bytes.
 export function rabbitmqText(reading) {
-    const { code, rabbitmq, rows, count } = reading, size = rows.tag[1] === AMQPV.TABLE ? count - 1 : 0;
-    if (!rabbitmq && size > HEADERS && code === AMQPV.OK) {
-        return `${VERSIONS} close the connection for headers of more than ${HEADERS} bytes, and for arguments of more `
-            + `than ${ARGUMENTS}: without its type tag the table has ${size}`;
-    } else if (!rabbitmq) {
+    const { code, rabbitmq } = reading;
+    if (!rabbitmq) {
         return code === AMQPV.MORE ? "" : `${VERSIONS} accept it`;
     }
     const [at, why] = problemText(reading, rabbitmq);
     return isBeyondLimits(rabbitmq) ? "not checked for RabbitMQ beyond the limits"
         : `${VERSIONS} close the connection: offset ${at}: ${why}`;
-}
-
-// Of the first CC or BCC of headers that is no array the row and a line, or null.
-export function copies(reading) {
-    const { code, rows, shift } = reading, row = rows.parent.findIndex((it, row) => it === 1 && rows.isPair(row)
-        && rows.tag[row] !== AMQPV.ARRAY && !(rows.flags[row] & AGAIN) && /^"B?CC"$/.test(keyText(reading, row)));
-    return row < 0 || code !== AMQPV.OK ? null : [row, `offset ${rows.start[row] - shift}: ${keyText(reading, row)} `
-        + "isn't an array; in headers RabbitMQ closes the channel for it"];
 }
 
 // Of the first key that comes again in its table the row and a line, or null.

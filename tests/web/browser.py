@@ -21,8 +21,7 @@ const [inputs, how, bits] = arguments, {amqp} = globalThis;
 const module = (amqp.modules ??= {})[bits] ??= amqp.compile(bits);
 return inputs.map((digits) => {
     const bytes = Uint8Array.from(digits.match(/../g) ?? [], (it) => parseInt(it, 16));
-    const shape = amqp.shapeOf(module, bytes, {...how, shape: how.isTable ? "table" : "value"});
-    const reading = amqp.read(module, bytes, {...how, shape}), failed = amqp.failure(reading);
+    const reading = amqp.read(module, bytes, how), failed = amqp.failure(reading);
     return {
         tree: amqp.treeLines(reading),
         parts: bytes.length > 5000 ? "" : Array.from(reading.data, (_, at) =>

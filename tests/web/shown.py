@@ -25,9 +25,6 @@ KINDS = {
     "payload": re.compile(""),
 }
 NOTE = re.compile(r" \((the key comes .*|the .* isn't canonical, .*)\)$")
-# A warning that the frame is too large, and what the page says of that.
-LARGE = re.compile(r"\* the table has (\d+) bytes without its type tag; .* closes the connection \(501\)")
-FRAMES = "headers of more than 131058 bytes, and for arguments of more than 131064"
 # The options of amqp_show, for which the page has words.
 OPTIONS = (
     (re.compile(r"--depth (\d+) allows$"), r"the limit of \1 levels"),
@@ -85,9 +82,6 @@ def in_words(failure: str) -> str:
 def rabbitmq(lines: Sequence[str]) -> str:
     """What the page says of RabbitMQ. It shows no warnings, and no keys, but leads to the byte."""
     *failure, last = [it for it in lines if it[0] != "*"]
-    large = [found[1] for it in lines if (found := LARGE.match(it))]
-    if large and "accepts" in last:
-        return f"{RABBITMQ} close the connection for {FRAMES}: without its type tag the table has {large[0]}"
     if "closes" in last:
         return f"{RABBITMQ} close the connection: {PATH.sub('', failure[0][2:])}"
     return f"{RABBITMQ} accept it" if "accepts" in last else "not checked for RabbitMQ beyond the limits"

@@ -16,7 +16,6 @@ from selenium.common.exceptions import MoveTargetOutOfBoundsException, StaleElem
 from selenium.webdriver.common.action_chains import ActionChains
 from selenium.webdriver.common.keys import Keys
 
-from tests.model.encoding import field
 from tests.model.inputs import nested
 from tests.model.tables import EVERY_TYPE, raw
 from tests.transcripts import Case, cases
@@ -387,52 +386,6 @@ def test_a_module_without_stack_is_made_anew(browser: Browser) -> None:
     assert browser.text("failure") == ""
 
 
-def outcome(browser: Browser, text: str) -> list[str]:
-    """What is said of bytes in hexadecimal: what they are, what is wrong, and the notes."""
-    browser.type(text)
-    return [browser.text("outcome"), browser.text("failure"), *browser.text("notes").splitlines()]
-
-
-def test_what_bytes_seem_to_be(browser: Browser) -> None:
-    """A table is read without its type tag, also if it is malformed, and without its length; as amqp_show reads them."""
-    table, body = "read as a table without its type tag", "read as a table's body, without its type tag and length"
-    wrong = "offset 6: a type tag is expected; 7a is none"
-    closes = f"{RABBITMQ} close the connection: {wrong}"
-    assert outcome(browser, "00000003 01 61 7a") == ["malformed", wrong, table, closes]
-    truncated = ["truncated; more bytes needed: 3", "offset 8: the input ends inside the FieldTable", table]
-    assert outcome(browser, "00000007 01 61 56 01") == truncated
-    expect(browser, drawn, ["FieldTable", '  "a": Void', '  "\\u0001" (not decoded)'])
-    assert outcome(browser, "01 61 56 01 62 56") == [
-        "a table's body of 6 bytes",
-        "",
-        body,
-        f"{RABBITMQ} accept it",
-        "canonical",
-    ]
-    expect(browser, drawn, ["FieldTable", '  "a": Void', '  "b": Void'])
-    browser.choose("form", "table")
-    assert outcome(browser, "01 61 56 01 62 56")[:3] == ["a table's body of 6 bytes", "", body]
-    browser.choose("form", "value")
-    assert outcome(browser, "00000003 01 61 56")[:2] == ["malformed", "offset 0: a type tag is expected; 00 is none"]
-    assert "seems to be a table" in browser.text("notes")
-
-
-def test_what_rabbitmq_makes_of_headers(browser: Browser) -> None:
-    """It closes the connection for large ones, and the channel if CC or BCC isn't an array."""
-    for size, starts in (
-        (131058, f"{RABBITMQ} accept it"),
-        (131059, f"{RABBITMQ} close the connection for headers of more"),
-    ):
-        pair = b"\1kx" + (size - 11).to_bytes(4, "big") + bytes(size - 11)
-        browser.run("amqp.put(Uint8Array.from(arguments[0]))", [*field(b"F", pair)])
-        assert browser.text("outcome") == f"a value of {size + 1} bytes"
-        assert browser.text("notes").startswith(starts), size
-    tells = 'offset 5: "CC" isn\'t an array; in headers RabbitMQ closes the channel for it'
-    assert tells in outcome(browser, field(b"F", b"\2CC" + field(b"S", b"a")).hex())
-    for fine in (field(b"F", b"\2CCA\0\0\0\0"), field(b"F", b"\1aF\0\0\0\4\2CCV"), field(b"F", b"\2CcV")):
-        assert "CC" not in " ".join(outcome(browser, fine.hex()))
-
-
 def drop(browser: Browser, data: bytes) -> None:
     """Drops a file."""
     script = """
@@ -460,15 +413,6 @@ def test_a_dropped_text_that_is_something_else(browser: Browser) -> None:
     """Has the hint of amqp_show, and nothing is said of RabbitMQ."""
     texts = {it.given: FAULT.search(it.wants.error.decode()) for it in HEXADECIMAL}
     hints = {text: found[1] for text, found in texts.items() if found}
-    hints[
-        bytes.fromhex("d4c3b2a102000400")
-    ] = "a capture of packets: copy the bytes of the table in Wireshark as a hex stream"
-    hints[b"0000  00 00 00 00"] = (
-        "a dump of tshark: `cut -c 7-53 FILE | amqp_show --hex` reads its bytes, of which a packet's headers are the first; "
-        "--skip passes them"
-    )
-    for text in (b"000000 00 00 00 0b 01 61\n000010 62 56\n", b"0000000 74 01\n0000002\n"):
-        hints[text] = "a dump of od: `cut -sd ' ' -f 2- FILE | amqp_show --hex` reads it"
     hints[b'{"a": 1}'] = "the input seems to be JSON; amqp_show --encode reads it"
     assert len([it for it in hints.values() if it.startswith("a dump of")]) >= 5
     for text, hint in hints.items():
@@ -506,9 +450,9 @@ def test_copy_of_long_json(browser: Browser) -> None:
 
 
 def test_modules_are_plain() -> None:
-    """All together have at most 950 lines, of at most 120 columns."""
+    """All together have at most 900 lines, of at most 120 columns."""
     lines = [it for path in (TOP / "bindings/web").glob("*.js") for it in path.read_text().splitlines()]
-    assert len(lines) <= 950 and max(map(len, lines)) <= 120
+    assert len(lines) <= 900 and max(map(len, lines)) <= 120
 
 
 def test_limits(browser: Browser) -> None:
