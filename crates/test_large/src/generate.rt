@@ -22,8 +22,9 @@ type Context = WriteContext<Vec<u8>>;
 
 /// Whether the call is done.
 pub fn call(alloc: Global, name: &str) -> Done {
-    if let Some(name) = name.strip_prefix("VecU8") {
-        return of_vector(alloc, name);
+    let of_trait = name.strip_prefix("VecU8").unwrap_or(name);
+    if of_trait.starts_with("Output::") || of_trait.starts_with("BackToTheBuffer::") {
+        return of_vector(alloc, of_trait);
     }
     if name.ends_with("to_vec") {
         return to_vector(alloc, name);
