@@ -81,10 +81,10 @@ def test_prefixes(browser: Browser, program: Path) -> None:
 
 
 def test_inputs_are_drawn(browser: Browser, program: Path) -> None:
-    """Of inputs of every kind the page draws the lines of amqp_show, and says what is wrong."""
+    """Of inputs of every kind the page draws the lines of amqp_show, and says what is wrong. (It says nothing of an empty field.)"""
     browser.load()
     browser.choose("form", "value")
-    given = [it for it in inputs() if len(it) < 300][::25]
+    given = [it for it in inputs() if 0 < len(it) < 300][::25]
     for data, wants in zip(given, wanted(program, given), strict=True):
         if wants:
             browser.type(data.hex())
