@@ -1,7 +1,7 @@
 -- `is_plain` bytes need no escape in a string of JSON; the escapes of others. For `src/printing`.
 use Rattle.std.proofs.Common.{◌≡◌, ℕ, ◌+◌, ◌%◌, ◌^◌, ◌≤◌, ltb, Bool, true, cond, eqb, List, [], ◌∷◌, map, length, drop, Fits, w8, refl, sym, ap, ap₂, ◌∙◌, arith, zero, suc, ◌-◌, ◌<◌, ◌/◌, ◌++◌, take, get_or, false, append_assoc, append-nil, decimal}
 use Rattle.std.proofs.lemmas.Bool.{agree_below_at, eq-eqb}
-use Rattle.std.proofs.lemmas.List.{length-map}
+use Rattle.std.proofs.lemmas.List.{length-map, drop_more}
 use Rattle.std.proofs.lemmas.List.Folds.{prefix_len-append}
 use Rattle.std.proofs.lemmas.Simd.{chunk-drop, length-chunk, leading_from_mask_l, mask_l-mod}
 use Rattle.std.specs.List.{prefix_len, slice_index}
@@ -14,7 +14,7 @@ use Rattle.std.proofs.lemmas.Fmt.{decimal_is_IsNumeral}
 use Rattle.hex.specs.Hex.{lower_digits, encode_with, encode_lower, IsBytes}
 use Rattle.json.specs.Token.{key}
 use Rattle.json.specs.Print.{escape_byte, escape, token_text}
-use Rattle.json.proofs.Printed.Strings.{escape_byte_plain, escape_to_stop, escape_at, escape_end}
+use Rattle.json.proofs.Printed.Strings.{escape_byte_plain, escape_to_stop}
 use Rattle.amqp_json.specs.Written.{is_marked, decimal_text, written_key}
 
 -- ---- plain bytes, several at once
@@ -55,23 +55,18 @@ stops_are v z short fits e = ap (λ l. mask_l l % 2 ^ 64) (ap (map (top 7)) e �
 
 -- ---- a text with its escapes
 
-pub escaped_end : (text done whole : List ℕ) (from stop : ℕ) → stop ≡ from + prefix_len is_plain (drop from text) → stop ≡ length text → done ++ escape (drop from text) ≡ whole
-    → done ++ take (stop - from) (drop from text) ≡ whole
-escaped_end text done whole from stop is end e =
+pub escaped_run : (text done whole : List ℕ) (from stop : ℕ) → stop ≡ from + prefix_len is_plain (drop from text) → done ++ escape (drop from text) ≡ whole
+    → (done ++ take (stop - from) (drop from text)) ++ escape (drop stop text) ≡ whole
+escaped_run text done whole from stop is e =
     let part = take (stop - from) (drop from text) in
-    ap (λ l. done ++ l)
-    (sym (append-nil part) ∙ ap (λ l. part ++ l) (sym (escape_end text stop [] (omega (arith, end)))) ∙ sym (escape_to_stop text from stop [] is) ∙ append-nil (escape (drop from text)))
-    ∙ e
+    let rest = escape (drop stop text) in
+    append_assoc done part rest
+    ∙ ap (λ l. done ++ l) (ap (λ l. part ++ l) (sym (append-nil rest)) ∙ sym (escape_to_stop text from stop [] is) ∙ append-nil (escape (drop from text))) ∙ e
 
-pub escaped_more : (text done whole : List ℕ) (from stop : ℕ) → stop ≡ from + prefix_len is_plain (drop from text) → stop < length text → done ++ escape (drop from text) ≡ whole
-    → ((done ++ take (stop - from) (drop from text)) ++ escape_byte (get_or text stop 0)) ++ escape (drop (stop + 1) text) ≡ whole
-escaped_more text done whole from stop is less e =
-    let part = take (stop - from) (drop from text) in
-    let byte = escape_byte (get_or text stop 0) in
-    let rest = escape (drop (stop + 1) text) in
-    append_assoc (done ++ part) byte rest ∙ append_assoc done part (byte ++ rest)
-    ∙ ap (λ l. done ++ (part ++ l)) (ap (λ l. byte ++ l) (sym (append-nil rest)) ∙ sym (escape_at text stop [] less))
-    ∙ ap (λ l. done ++ l) (sym (escape_to_stop text from stop [] is) ∙ append-nil (escape (drop from text))) ∙ e
+pub escaped_byte : (text done whole : List ℕ) (from : ℕ) → from < length text → done ++ escape (drop from text) ≡ whole
+    → (done ++ escape_byte (get_or text from 0)) ++ escape (drop (from + 1) text) ≡ whole
+escaped_byte text done whole from less e =
+    append_assoc done (escape_byte (get_or text from 0)) (escape (drop (from + 1) text)) ∙ ap (λ l. done ++ escape l) (sym (drop_more text from 0 less)) ∙ e
 
 -- ---- hexadecimal digits need no escape
 

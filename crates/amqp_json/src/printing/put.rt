@@ -4,7 +4,7 @@
 
 // The tactics at the functions name the lemma that a clause is proved by, and open the definition of an escape.
 
-ghost use Rattle.std.specs.Prelude.{◌≡◌, ◌+◌, ◌<◌, ◌≤◌, length, take, drop, map};
+ghost use Rattle.std.specs.Prelude.{◌≡◌, ◌+◌, ◌<◌, ◌≤◌, length, drop, map};
 ghost use Rattle.std.specs.List.{prefix_len};
 ghost use Rattle.std.specs.Char.{digit_char};
 ghost use Rattle.std.specs.Simd.Lanes.{mask_l};
@@ -19,10 +19,11 @@ use std::simd::prelude::*;
 pub(crate) fn put(buffer: &mut [u8], at: usize, bytes: &[u8]) -> usize
     ensures { PutsBytes buffer.old at buffer.new result bytes.now }
 {
-    if at <= buffer.len() && bytes.len() <= buffer.len() - at {
-        buffer[at..at + bytes.len()].copy_from_slice(bytes);
+    let end = at.saturating_add(bytes.len());
+    if end <= buffer.len() {
+        buffer[at..end].copy_from_slice(bytes);
     }
-    at.saturating_add(bytes.len())
+    end
 }
 
 /// The bytes in hexadecimal digits.
@@ -45,16 +46,17 @@ pub(crate) fn put_escaped(buffer: &mut [u8], at: usize, text: &[u8]) -> usize
 {
     let mut at = at;
     let mut from = 0;
-    loop {
-        let stop = plain_end(text, from);
-        at = put(buffer, at, &text[from..stop]);
-        if stop == text.len() {
-            return at;
+    while from < text.len() {
+        if is_plain(text[from]) {
+            let stop = plain_end(text, from);
+            at = put(buffer, at, &text[from..stop]);
+            from = stop;
+        } else {
+            at = put_escape(buffer, at, text[from]);
+            from += 1;
         }
-        let (escape, count) = escape_of(text[stop]);
-        at = put(buffer, at, &escape[..count]);
-        from = stop + 1;
     }
+    at
 }
 
 // The first place from this one on that has a quote, a backslash or a control character, or the end. Eight bytes
@@ -66,9 +68,6 @@ fn plain_end(bytes: &[u8], from: usize) -> usize
     ensures value { result ≡ from + prefix_len is_plain (drop from bytes.now) }
     ensures bound { result ≤ length bytes.now }
 {
-    if from < bytes.len() && !is_plain(bytes[from]) {
-        return from;
-    }
     let mut at = from;
     while bytes.len() - at >= 8 && stops(u8x8::from_slice(&bytes[at..])) == 0 {
         at += 8;
@@ -106,22 +105,21 @@ fn stop_of(bytes: &[u8], from: usize) -> usize
     at
 }
 
+// A byte, or its escape if it has one.
 #[tactic(auto, unfolding(json::specs::Print::escape_byte))]
-fn escape_of(byte: u8) -> ([u8; 6], usize)
-    ensures value { take result.1 result.0 ≡ escape_byte byte }
-    ensures bound { result.1 ≤ 6 }
+#[inline(always)]
+fn put_escape(buffer: &mut [u8], at: usize, byte: u8) -> usize
+    ensures { PutsBytes buffer.old at buffer.new result (escape_byte byte) }
 {
     let letter = letter(byte);
     if letter > 0 {
-        return ([b'\\', letter, 0, 0, 0, 0], 2);
+        return put(buffer, at, &[b'\\', letter]);
     }
     if byte < 0x20 {
-        return (
-            [b'\\', b'u', b'0', b'0', digit(byte / 16), digit(byte % 16)],
-            6,
-        );
+        let [high, low] = [digit(byte / 16), digit(byte % 16)];
+        return put(buffer, at, &[b'\\', b'u', b'0', b'0', high, low]);
     }
-    ([byte, 0, 0, 0, 0, 0], 1)
+    put(buffer, at, &[byte])
 }
 
 // The letter of the short escape, or 0.

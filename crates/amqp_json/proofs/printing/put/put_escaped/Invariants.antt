@@ -5,10 +5,10 @@ use Rattle.amqp_json.specs.printing.Buffers.{PutsBytes}
 use Rattle.amqp_json.proofs.printing.put.put_escaped.Given as goal
 
 -- with what is left, the text is there
-abbrev pub invariant-loop-at : goal.invariant-loop-at
-invariant-loop-at l =
+abbrev pub invariant-loop-from : goal.invariant-loop-from
+invariant-loop-from l =
     (l.from ≤ length l.text)
     × (done : List ℕ) × PutsBytes l.fn.buffer l.fn.at l.buffer l.at done × (done ++ escape (drop l.from l.text) ≡ escape l.text)
 
-abbrev pub decreases-loop-at : goal.decreases-loop-at
-decreases-loop-at l = length l.text - l.from
+abbrev pub decreases-loop-from : goal.decreases-loop-from
+decreases-loop-from l = length l.text - l.from
