@@ -1,12 +1,12 @@
 -- `PutsBytes`, `PutsTokens` and `PutsJson` step by step: bytes, tokens, values and pairs that are
 -- put after others in a buffer. For `src/printing`.
-use Rattle.std.proofs.Common.{◌≡◌, Bool, ℕ, min, ◌+◌, ◌-◌, ◌<◌, List, [], ◌∷◌, ◌*◌, ◌^◌, ◌++◌, length, take, drop, length-append, refl, sym, ap, ◌∙◌, subst, false, true, append_assoc, arith, ◌≤◌}
+use Rattle.std.proofs.Common.{◌≡◌, Bool, ℕ, min, ◌+◌, ◌-◌, ◌<◌, List, [], ◌∷◌, ◌*◌, ◌^◌, ◌++◌, length, take, drop, length-append, refl, sym, ap, ◌∙◌, subst, false, true, append_assoc, append-nil, arith, ◌≤◌}
 use Rattle.std.proofs.lemmas.List.{take_at}
 use Rattle.hex.proofs.HexLemmas.{length-encode_with}
 use Rattle.hex.specs.Hex.{lower_digits, encode_lower}
-use Rattle.json.specs.Token.{Token, key, end_array, end_object}
-use Rattle.json.specs.Print.{print, ends, separator, token_text}
-use Rattle.json.proofs.Printed.Tokens.{print_from_push, ends_push}
+use Rattle.json.specs.Token.{Token, begin_object, key, end_array, end_object}
+use Rattle.json.specs.Print.{print, print_from, ends, ends_value, separator, token_text}
+use Rattle.json.proofs.Printed.Tokens.{print_from_push, print_from-append, ends_push}
 use Rattle.amqp_json.specs.declared.printing.tokens.Place.{Place}
 use Rattle.amqp_json.specs.printing.Buffers.{Begins, PutsBytes, AreTokensPrinted, PutsTokens, PutsJson, body_len}
 use Rattle.amqp_json.specs.Written.{written_key, under, long_written, written, items_written, members_written}
@@ -52,6 +52,21 @@ token_put a b c p r at t x y e = λ start ts h.
     let both = puts_more a b c p.count at r.count (separator p.after_value t) (token_text t) x y start (print ts) h.text in
     let same : print ts ++ (separator p.after_value t ++ token_text t) ≡ print (ts ++ t ∷ []) = ap (λ b. print ts ++ (separator b t ++ token_text t)) h.after ∙ sym (print_from_push false ts t) in
     record { text = subst (λ (u : List ℕ). Begins start c r.count u) same both; after = e ∙ sym (ends_push false ts t) }
+
+-- an opening brace and a key
+pub name_put : (a b c : List ℕ) (p r : Place) (at : ℕ) (s : List ℕ) → PutsBytes a p.count b at (separator p.after_value begin_object) → PutsBytes b at c r.count (123 ∷ token_text (key s))
+    → r.after_value ≡ false → PutsTokens a p c r (begin_object ∷ key s ∷ [])
+unfolding print_from
+name_put a b c p r at s x y e = λ start ts h.
+    let both = puts_more a b c p.count at r.count (separator p.after_value begin_object) (123 ∷ token_text (key s)) x y start (print ts) h.text in
+    let same : print ts ++ (separator p.after_value begin_object ++ 123 ∷ token_text (key s)) ≡ print (ts ++ begin_object ∷ key s ∷ []) =
+    ap (λ b. print ts ++ (separator b begin_object ++ 123 ∷ token_text (key s))) h.after
+    ∙ ap (λ l. print ts ++ (separator (ends_value ts) begin_object ++ 123 ∷ l)) (sym (append-nil (token_text (key s))))
+    ∙ sym (print_from-append false ts (begin_object ∷ key s ∷ [])) in
+    record {
+      text = subst (λ (u : List ℕ). Begins start c r.count u) same both;
+      after = e ∙ sym (ap ends_value (sym (append_assoc ts (begin_object ∷ []) (key s ∷ []))) ∙ ends_push false (ts ++ begin_object ∷ []) (key s));
+    }
 
 -- hexadecimal digits that a buffer isn't large enough for
 pub digits_counted : (a : List ℕ) (at end : ℕ) (bytes : List ℕ) → end ≡ min (at + 2 * length bytes) (2 ^ 64 - 1) → length a < end → PutsBytes a at a end (encode_lower bytes)

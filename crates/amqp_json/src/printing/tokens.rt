@@ -3,7 +3,7 @@
 
 ghost use Rattle.std.specs.Prelude.{◌≡◌, ◌∷◌, [], ◌++◌, ◌&&◌, cond, true, decimal};
 ghost use Rattle.hex.specs.Hex.{encode_lower};
-ghost use Rattle.json.specs.Token.{key, string};
+ghost use Rattle.json.specs.Token.{begin_object, key, string};
 ghost use Rattle.json.specs.Reads.{token_of};
 ghost use Rattle.json.specs.Print.{begins, ends, escape, token_text};
 ghost use Rattle.amqp_json.specs.printing.Buffers.{PutsBytes, PutsTokens};
@@ -66,6 +66,21 @@ fn put_key_quote(buffer: &mut [u8], at: usize, name: &str) -> usize
         put(buffer, at, b"\"$")
     } else {
         put(buffer, at, b"\"")
+    }
+}
+
+/// An opening brace and the key of a type's name.
+#[inline(always)]
+pub(crate) fn put_name(buffer: &mut [u8], place: Place, name: &str) -> Place
+    requires { escape name.now ≡ name.now }
+    ensures { PutsTokens buffer.old place buffer.new result (begin_object ∷ key name.now ∷ []) }
+{
+    let at = put_separator(buffer, place, true);
+    let at = put(buffer, at, b"{\"");
+    let at = put(buffer, at, name.as_bytes());
+    Place {
+        count: put(buffer, at, b"\":"),
+        after_value: false,
     }
 }
 

@@ -1,4 +1,4 @@
--- `named` puts four tokens: an opening brace, the key, the value and a closing brace.
+-- `named` puts an opening brace and the key, the value and a closing brace.
 use Rattle.std.proofs.Common.{◌∷◌, []}
 use Rattle.json.specs.Token.{begin_object, key}
 use Rattle.json.specs.Reads.{token_of}
@@ -7,6 +7,5 @@ use Rattle.amqp_json.proofs.printing.leaves.named.Goals as goal
 
 pub returns : goal.returns
 returns c =
-    tokens_more _ _ _ _ _ _ (begin_object ∷ []) _ c.put_token-place.ensures
-    (tokens_more _ _ _ _ _ _ (key c.args.name.now ∷ []) _ c.put_token-place-2.ensures
-    (tokens_more _ _ _ _ _ _ (token_of c.args.value ∷ []) _ c.put_token-place-3.ensures c.put_token.ensures))
+    tokens_more _ _ _ _ _ _ (begin_object ∷ key c.args.name.now ∷ []) _ c.put_name-place.ensures
+    (tokens_more _ _ _ _ _ _ (token_of c.args.value ∷ []) _ c.put_token-place.ensures c.put_token.ensures)
