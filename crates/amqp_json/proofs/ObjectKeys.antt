@@ -1,5 +1,5 @@
 -- Keys of objects: of entries, and type keys, which are `$` and the name of a type.
-use Rattle.std.proofs.Common.{◌≡◌, ◌≢◌, true, false, not, drop, ℕ, ◌==◌, List, [], ◌∷◌, get_or, refl, ap, ◌∙◌, arith, Bool, cond, length, Option, Some, None, option_map, option_and_then, le-ltb, zero, suc, ◌-◌, sym, Bor, ◌⊎◌, inl, inr}
+use Rattle.std.proofs.Common.{◌≡◌, ◌≢◌, true, false, drop, ℕ, ◌==◌, List, [], ◌∷◌, get_or, refl, ap, ◌∙◌, arith, Bool, cond, length, Option, Some, None, option_map, option_and_then, le-ltb, zero, suc, ◌-◌, sym, Bor, ◌⊎◌, inl, inr}
 use Rattle.std.specs.Prelude.{nat_lt, ◌||◌}
 use Rattle.amqp_value_core.specs.Bytes.{IsShort}
 use Rattle.amqp_value_core.specs.Values.{Tree, Entries, entry}
@@ -15,18 +15,7 @@ use Rattle.json.proofs.Grammar.{value_is, members_end, members_more, members_no_
 use Rattle.amqp_value_core.specs.declared.types.amqp_type.AMQPType.{AMQPType}
 use Rattle.amqp_json.specs.reading.Puts.{IsLeaf, IsNoLeaf, members_at, object_meant, converted}
 
--- ---- keys with a `$` and without
-
--- a key without a `$` at its start
-pub plain : (k : List ℕ) → ((rest : List ℕ) → k ≢ 36 ∷ rest) → (is_type_key k ≡ false) × (k ≡ entry_key k)
-plain [] h = (refl, refl)
-plain (x ∷ xs) h =
-    let no : (x == 36) ≡ false = grind (arith, h xs) in
-    (rw no refl, rw no refl)
-
--- a key with one
-pub marked : (k rest : List ℕ) → k ≡ 36 ∷ rest → (is_type_key k ≡ not (get_or rest 0 0 == 36)) × (drop 1 k ≡ rest) × (entry_key k ≡ rest)
-marked k rest e = rw e (refl, refl, refl)
+-- ---- keys
 
 -- a short key that is no name is that of an entry
 pub entry_fits : (k : List ℕ) → is_type_key k ≡ false → IsShort (entry_key k) → (v : Tree) (ps : Option Entries) → with_entry k (Some v) ps ≡ option_map (entry (entry_key k) v) ps

@@ -20,13 +20,14 @@ pub(crate) enum Key<'a> {
 pub(crate) fn key_of(key: &str) -> Key<'_>
     ensures { IsKey key.now result }
 {
-    let Some(rest) = key.strip_prefix('$') else {
+    let [b'$', ..] = key.as_bytes() else {
         return Key::Entry(key);
     };
-    if rest.starts_with('$') {
-        return Key::Entry(rest);
+    let rest = &key[1..];
+    match rest.as_bytes() {
+        [b'$', ..] => Key::Entry(rest),
+        _ => Key::Name(rest),
     }
-    Key::Name(rest)
 }
 
 /// The type of a name, if its values can be written by their names.
