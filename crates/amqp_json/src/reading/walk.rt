@@ -206,9 +206,10 @@ fn put_named(
     };
     put_leaf(alloc, out, amqp_type, token, at)?;
     let next_at = reader.offset();
-    match next_key(reader)? {
-        None => Ok(()),
-        Some(_) => Err(JsonError::NotAValue(next_at, Mismatch::NotAlone)),
+    match reader.next_key() {
+        Ok(None) => Ok(()),
+        Ok(Some(_)) => Err(JsonError::NotAValue(next_at, Mismatch::NotAlone)),
+        Err(_) => Err(NOT_JSON),
     }
 }
 
