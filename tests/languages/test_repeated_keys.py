@@ -6,7 +6,7 @@ from random import Random
 import amqp_values as own
 from building import shared_object
 from tests.c import c_api
-from tests.model.encoding import extent
+from tests.model.encoding import extent, field
 from tests.model.inputs import damaged, table_of, value_of
 from tests.model.tables import odd_table, random_table, raw
 from tests.values import own_error
@@ -15,14 +15,19 @@ COUNT = 100_000
 
 
 def table(make: Random) -> bytes:
-    """A table with its type tag, by chance a damaged one, with equal keys in half of all."""
-    kind = make.randrange(4)
+    """A table with its type tag. Many have equal keys, and some have keys of up to 255 bytes that differ only in the last one."""
+    kind = make.randrange(5)
     if kind == 0:
         return raw(random_table(make))
     if kind == 1:
         return odd_table(make)
+    if kind == 2:
+        keys = (
+            make.choice([b"k", b"l"]) * make.choice([30, 63, 254]) + make.choice([b"a", b"b", b"c"]) for _ in range(3)
+        )
+        return field(b"F", b"".join(bytes([len(key)]) + key + value_of(make, 1) for key in keys))
     inner = [table_of(make, [value_of(make, 1) for _ in range(make.randrange(4))]) for _ in range(3)]
-    return table_of(make, inner if kind == 2 else [*inner, *(value_of(make, 2) for _ in range(3))])
+    return table_of(make, inner if kind == 3 else [*inner, *(value_of(make, 2) for _ in range(3))])
 
 
 def test_the_same_key_is_repeated(seed: int, tmp_path: Path) -> None:
