@@ -659,7 +659,7 @@ def test_what_the_guide_sends_and_logs() -> None:
     recipe, function = re.findall(r'send `(\{"problem".*?\})`', page), re.findall(
         r"(?m)^>>> (def as_text.*\n(?:\.\.\. .*\n)+)", page
     )
-    it = Refused(own.Error("test"), bytes(2**20))
+    it = Refused(own.Error("cut"), bytes(2**20))
     assert len(own.dumps_table(eval(recipe[0], {"it": it}))) < 131_072 - 32_768
     names: dict[str, Any] = {"av": own}
     exec(re.sub(r"(?m)^\.\.\. ", "", function[0]), names)
@@ -668,5 +668,5 @@ def test_what_the_guide_sends_and_logs() -> None:
         (b"\0\0\0\3\1\xffV", "0000000301ff56"),
         (b"\0\0\0\3\1a", "000000030161"),
     ):
-        assert names["as_text"](Refused(own.Error("test"), raw)) == text
+        assert names["as_text"](Refused(own.Error("cut"), raw)) == text
     assert names["as_text"]({}) == "{}"
