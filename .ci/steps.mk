@@ -15,7 +15,7 @@ PROGRAMS := $(patsubst crates/%/src/main.rt,%,$(wildcard crates/*/src/main.rt))
 TESTED := $(sort $(foreach it,$(shell grep -rl '\#\[test\]' crates/*/src),$(word 2,$(subst /, ,$(it)))))
 UNPROVED := $(PROGRAMS:%=%-runs) $(TESTED:%=%-tests) stored-output
 # What needs no proofs, of which some suites are over generated/; what runs over what the proofs leave; and all.
-OVER_GENERATED := c python rust web broker
+OVER_GENERATED := c python rust languages web broker
 OVER_PROOFS := show packages alloc-failures sizes wire counts crate
 ALONE := docs lint test-scripts test-model test-vendor test-vectors $(OVER_GENERATED:%=test-%)
 CHECKED := proofs test-generated $(ALONE) $(OVER_PROOFS:%=test-%) mutants

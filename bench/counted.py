@@ -6,7 +6,7 @@ import sys
 from collections.abc import Collection, Iterable, Iterator, Sequence
 
 from lanes import OUT, Lanes, Process, note
-from ten import Input
+from speed_inputs import Input
 
 from tests.counts.counting import dumps
 

@@ -36,12 +36,12 @@ sys.path += [str(ROOT), str(ROOT / "packaging")]
 
 import counted  # noqa: E402
 import picture  # noqa: E402
-import ten  # noqa: E402
+import speed_inputs  # noqa: E402
 from dependencies import TOP, said_by  # noqa: E402
 from lanes import BEGIN, OUT, RUST_CRATE, Lanes, load, note, preloaded, python_sides, sides  # noqa: E402
 from page import RESULTS, SPEED, Pages  # noqa: E402
 from right import TASKS, compare, right_lanes, right_python, right_tasks  # noqa: E402
-from ten import Input  # noqa: E402
+from speed_inputs import Input  # noqa: E402
 
 # By the head of a table, the lane that ratios are to, and lanes with the heads of their columns.
 TABLES = {
@@ -179,7 +179,7 @@ def python_tables(pages: Pages, lanes: Lanes, rounds: int, least: float) -> None
     if not lanes:
         return
     found: Timed = []
-    for one in ten.of_python():
+    for one in speed_inputs.of_python():
         note(f"Python: {one.row}")
         found.append((one, Times(lanes, right_python(one, lanes), rounds, least)))
     clients = dict.fromkeys(it.partition("-adapter")[0] for it in map(side_of, lanes) if it != "package")
@@ -204,7 +204,7 @@ def stream_table(pages: Pages, program: Path, rounds: int) -> None:
         note(f"amqp_show is left out: there is no {program} (rt ci)")
         return
     note("amqp_show")
-    (OUT / "stream").write_bytes(data := ten.stream(STREAM).given)
+    (OUT / "stream").write_bytes(data := speed_inputs.stream(STREAM).given)
     words, took = [str(program), "--stream", "--json", str(OUT / "stream")], []
     if (lines := subprocess.run(words, capture_output=True).stdout.count(b"\n")) != STREAM:
         sys.exit(f"bench: amqp_show makes {lines} lines of {STREAM} values")
@@ -263,14 +263,14 @@ def main() -> None:
     if missing := [it for it in ("cargo", "cc", "rt") if not shutil.which(it)]:
         sys.exit(f"bench: missing: {', '.join(missing)}")
     rounds, least, step = (5, 1e6, 37) if given.quick else (25, 6e6, 1)
-    lanes, inputs, pages = sides(given), [*ten.ten()], Pages()
+    lanes, inputs, pages = sides(given), [*speed_inputs.ten()], Pages()
     built, driver = time.monotonic() - BEGIN, lanes["crate.read"]
     for where, text in machine():
         pages.line(text, where)
     note("results on prefixes and changes")
     pages.line(compare(inputs[:3], step, lanes), SPEED)
     tasks = right_tasks(headers := inputs[1], lanes)
-    found = measured([*inputs, ten.stream(STREAM)], lanes, rounds, least)
+    found = measured([*inputs, speed_inputs.stream(STREAM)], lanes, rounds, least)
     ratio_tables(pages, found, lanes)
     if tasks:
         is_counted = not given.quick and shutil.which("valgrind")

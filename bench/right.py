@@ -3,9 +3,9 @@
 import sys
 from collections.abc import Iterable, Sequence
 
-import ten
+import speed_inputs
 from lanes import OUT, Lanes, load, made, note
-from ten import Input
+from speed_inputs import Input
 
 # The sides that must have the Rust crate's results, and write its bytes.
 ALIKE = ("crate", "library", "in-place", "look-up", "by-hand", "c")
@@ -59,10 +59,10 @@ def right_tasks(headers: Input, lanes: Lanes) -> Lanes:
     if not chosen:
         note("the tasks are left out: they need the C API and librabbitmq")
     load(headers.given, chosen)
-    right = ten.queue_arguments()[1:]
+    right = speed_inputs.queue_arguments()[1:]
     for lane in chosen:
         count, data = made(lane, chosen)
-        if count != ten.FIRST_COUNT if lane.endswith("deaths") else data != right:
+        if count != speed_inputs.FIRST_COUNT if lane.endswith("deaths") else data != right:
             sys.exit(f"bench: {lane} isn't right: {count} {data.hex()}")
     return chosen
 

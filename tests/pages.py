@@ -5,7 +5,7 @@ What a page names exists: files, links, functions, definitions, clauses, targets
 a source file. No page, comment or message has a word of this project's own. docs/PROMISES.md names each clause of a public
 call. Each public function of a library has a mutant (tests/mutants.py). Each call that may run out of memory is made with much. A
 crate uses only what is below it, and no module one that uses it. No source makes up that memory ran out
-(tests/memory/made_up.py). Numbers that are repeated are those of where they are made (tests/figures.py). Other suites run the
+(tests/false_oom.py). Numbers that are repeated are those of where they are made (tests/figures.py). Other suites run the
 commands that pages show.
 """
 
@@ -24,8 +24,7 @@ sys.path[:0] = [str(TOP), str(TOP / "packaging"), str(TOP / "bench")]
 
 from dependencies import Crates  # noqa: E402
 
-from tests import figures  # noqa: E402
-from tests.memory import made_up  # noqa: E402
+from tests import false_oom, figures  # noqa: E402
 
 PROMISES, VERIFICATION, CONTRIBUTING = "docs/PROMISES.md", "docs/VERIFICATION.md", "CONTRIBUTING.md"
 DIFFERENCES, SHOWN = "docs/DIFFERENCES.md", "crates/test_calls/data/differences.calls"
@@ -563,7 +562,7 @@ def not_with_much() -> Iterator[str]:
 
 def main() -> int:
     checks = [missing, wrong_lengths, misquoted, private, unlisted, wrong_clauses, untried, uncalled, allocating]
-    checks += [not_with_much, wrong_figure, circular, made_up.faults, figures.faults]
+    checks += [not_with_much, wrong_figure, circular, false_oom.faults, figures.faults]
     found = [[*check()] for check in checks]
     print("".join(f"{it}\n" for wrong in found for it in wrong), end="")
     failed = sum(map(bool, found))

@@ -17,8 +17,6 @@ from tests import transcripts
 from tests.checks import content
 
 TOP = Path(__file__).resolve().parent.parent
-# `make check` runs this test: it takes all memory, and the checks of `rt try` need some themselves.
-NOT_HERE = {"amqp_wire": {"exhausted::results_come_once_there_is_memory"}}
 # `make check` runs these cases: they print the program's own name, or read a folder and a file that tests/run show makes.
 OTHER_CASES = {"help", "file_folder_stream", "file_name_escape"}
 
@@ -40,9 +38,6 @@ def tests(crate: Path) -> Tried:
     found = dict(re.findall(r"(?m)^test (\S+) \.\.\. (\w+)$", text))
     if f"tests: {len(found)}\n" not in text or "\ntest result: " not in text:
         yield "the run", f"not all tests ended\n{text[-3000:]}"
-    for name in NOT_HERE.get(crate.name, set()):
-        if not found.pop(name, ""):
-            yield name, f"isn't there\n{text[-3000:]}"
     yield from ((name, "" if ended == "ok" else f"{ended}\n{text[-3000:]}") for name, ended in found.items())
 
 

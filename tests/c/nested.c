@@ -1,6 +1,6 @@
 /*
  * Makes one call of amqp_values.h that recurses, in a thread with a stack of STACK bytes: nested NAME DEPTH STACK.
- * test_programs.py runs it with the inputs and stacks of tests/model/nesting.py.
+ * test_programs.py runs it with the inputs and stacks of tests/memory/stacks.py.
  *
  * Standard input has a digit, the call's flags, and then the input. Before the stack is a page that can't be accessed.
  * DEPTH is the limit. Prints `done`, also if the innermost value isn't canonical or has an unknown type tag, or

@@ -17,7 +17,7 @@ from tests.c.c_api import ANY_KEYS, FIRST_KEY, INVALID, NONE, NOWHERE, OK, RABBI
 from tests.model.json_format import LEVELS, Rejected, json_of, some_value, text_for, texts, value_of_json
 from tests.model.encoding import COUNTED, SIGNED, TYPES, extent, field, is_utf8, json_of_encoding, lack, read, write
 from tests.model.inputs import inputs, nested, untagged, value_of
-from tests.model.nesting import HEADER
+from tests.memory.stacks import HEADER
 from tests.model.rules import doubtful, exceeds, unfit_for_streams
 from tests.model.tables import first_problem, odd_table, parts, random_table, raw
 from tests.rows import bytes_of, stored

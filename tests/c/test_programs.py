@@ -3,7 +3,7 @@
 All except nested.c print how many calls they made.
 
 nested.c makes the calls that recurse, on the stacks that docs/PROMISES.md names, and with the limits that the header recommends
-on the stacks that it names (tests/model/nesting.py), for aarch64 too.
+on the stacks that it names (tests/memory/stacks.py), for aarch64 too.
 
 C is compiled with the address and undefined behaviour sanitizers, threads.c with ThreadSanitizer, except nested.c.
 They don't see into the libraries, so most programs have pages about their bytes that can't be accessed.
@@ -19,7 +19,7 @@ from building import AARCH64, COMPILERS
 from dependencies import TOP
 
 from tests.c.compiling import FLAGS, HERE, OF_AARCH64, SANITIZERS, WRAPPED, C, Words, compiled, printed
-from tests.model import nesting
+from tests.memory import stacks
 from tests.model.json_format import json_of, text_for
 from tests.model.encoding import field, json_of_encoding, read, write
 from tests.model.inputs import nested as nested_encoding
@@ -118,42 +118,42 @@ def nested(folder: Path, name: str, libraries: Words, words: Words) -> Path:
 
 
 @pytest.fixture(scope="module")
-def on_x86_64(linked: Words, folder: Path) -> nesting.Program:
-    return nesting.Threaded(nested(folder, "nested", linked, C))
+def on_x86_64(linked: Words, folder: Path) -> stacks.Program:
+    return stacks.Threaded(nested(folder, "nested", linked, C))
 
 
 @pytest.fixture(scope="module")
-def on_aarch64(for_aarch64: Words, folder: Path) -> nesting.Program:
-    return nesting.Threaded(nested(folder, "nested-aarch64", for_aarch64, CC_OF_AARCH64), (*map(str, OF_AARCH64),))
+def on_aarch64(for_aarch64: Words, folder: Path) -> stacks.Program:
+    return stacks.Threaded(nested(folder, "nested-aarch64", for_aarch64, CC_OF_AARCH64), (*map(str, OF_AARCH64),))
 
 
-def checks(column: int) -> list[nesting.Check]:
+def checks(column: int) -> list[stacks.Check]:
     """The checks on the stacks of a column of the page's table and the header's."""
-    return [*nesting.checks(nesting.FOR_C, column), *nesting.recommended(column)]
+    return [*stacks.checks(stacks.FOR_C, column), *stacks.recommended(column)]
 
 
 OF_X86_64, FOR_AARCH64 = checks(0), checks(1)
 
 
 @pytest.mark.parametrize("check", OF_X86_64, ids=[it.name for it in OF_X86_64])
-def test_nested(on_x86_64: nesting.Program, check: nesting.Check) -> None:
+def test_nested(on_x86_64: stacks.Program, check: stacks.Check) -> None:
     assert check.wrong(on_x86_64) == ""
 
 
 @pytest.mark.parametrize("page", ("README.md", "docs/LIMITS.md"))
-def test_stack_of_pages(on_x86_64: nesting.Program, page: str) -> None:
+def test_stack_of_pages(on_x86_64: stacks.Program, page: str) -> None:
     """Tables of the size that the page names overflow the stack that it names, in the call that takes most for a level, if its
     limit lets them through; nine tenths of them don't.
     """
     found = re.findall(r"(\d+) kB of nested tables can overflow a stack of (\d+) MiB", (TOP / page).read_text())
     ((kilobytes, mebibytes),) = found
-    call, of_page = nesting.FOR_C["amqpv_canonical"], int(kilobytes) * 1000 // SMALLEST_LEVEL
+    call, of_page = stacks.FOR_C["amqpv_canonical"], int(kilobytes) * 1000 // SMALLEST_LEVEL
     for levels, wants in ((of_page, "status -11"), (of_page * 9 // 10, "done")):
         given = b"0" + nested_encoding("F", levels, b"t\7", b"\0")
-        assert nesting.answer(on_x86_64, call, levels, given, int(mebibytes) << 20) == wants
+        assert stacks.answer(on_x86_64, call, levels, given, int(mebibytes) << 20) == wants
 
 
 @needs_aarch64
 @pytest.mark.parametrize("check", FOR_AARCH64, ids=[it.name for it in FOR_AARCH64])
-def test_nested_on_aarch64(on_aarch64: nesting.Program, check: nesting.Check) -> None:
+def test_nested_on_aarch64(on_aarch64: stacks.Program, check: stacks.Check) -> None:
     assert check.wrong(on_aarch64) == ""

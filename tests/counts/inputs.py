@@ -3,7 +3,7 @@
 from collections.abc import Iterator
 from typing import NamedTuple
 
-import ten
+from speed_inputs import Value, encoded, entries, every_type, message_headers, number, server_properties, text
 
 from tests.model.encoding import field
 from tests.model.inputs import nested
@@ -13,7 +13,7 @@ N = 2000
 # How deep the smallest one nests: amqpv_from_json reads 127 levels, which are four times as many and the table around them.
 LEVELS = 31
 
-Pairs = list[tuple[str, ten.Value]]
+Pairs = list[tuple[str, Value]]
 
 
 class Input(NamedTuple):
@@ -30,7 +30,7 @@ class Input(NamedTuple):
 
 def table_of(pairs: Pairs) -> bytes:
     """The table of these pairs in this order. Keys may be equal."""
-    return field(b"F", b"".join(bytes([len(key)]) + key.encode() + ten.encoded(it, False) for key, it in pairs))
+    return field(b"F", b"".join(bytes([len(key)]) + key.encode() + encoded(it, False) for key, it in pairs))
 
 
 def unordered(levels: int) -> bytes:
@@ -41,23 +41,23 @@ def unordered(levels: int) -> bytes:
     return value
 
 
-def messages() -> Iterator[tuple[str, ten.Value]]:
-    yield "every type", ten.every_type()
-    yield "message headers", ten.message_headers()
-    yield "server's properties", ten.server_properties()
+def messages() -> Iterator[tuple[str, Value]]:
+    yield "every type", every_type()
+    yield "message headers", message_headers()
+    yield "server's properties", server_properties()
 
 
 def flat(n: int) -> Iterator[tuple[str, Pairs]]:
     """Tables of n entries, or of as many bytes as these have."""
-    pairs = list(ten.entries(n).items())
+    pairs = list(entries(n).items())
     yield "entries in order", sorted(pairs, key=lambda it: it[0])
     yield "entries in reverse", sorted(pairs, key=lambda it: it[0], reverse=True)
     yield "entries at random", pairs
     yield "equal keys", [("key", value) for _, value in pairs]
     yield "long keys", [("k" * 249 + key[4:], value) for key, value in pairs[: n // 4]]
-    yield "numbers", [("v", [ten.number("I", it) for it in range(n)])]
-    yield "a string", [("v", ten.text("x" * 20 * n))]
-    yield "a string of escapes", [("v", ten.text("\x01" * 4 * n))]
+    yield "numbers", [("v", [number("I", it) for it in range(n)])]
+    yield "a string", [("v", text("x" * 20 * n))]
+    yield "a string of escapes", [("v", text("\x01" * 4 * n))]
 
 
 def deep(levels: int) -> Iterator[tuple[str, Pairs]]:
@@ -68,7 +68,7 @@ def deep(levels: int) -> Iterator[tuple[str, Pairs]]:
 
 def counted() -> Iterator[Input]:
     """The inputs of which everything is counted."""
-    yield from (Input(name, ten.encoded(value, False), 1) for name, value in messages())
+    yield from (Input(name, encoded(value, False), 1) for name, value in messages())
     for size in (1, 2, 4):
         yield from (Input(name, table_of(pairs), size) for name, pairs in flat(size * N))
     for size in (1, 2, 4, 8, 16):

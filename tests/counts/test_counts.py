@@ -21,7 +21,7 @@ from dependencies import TOP
 
 from tests.counts.counting import OfCall, Taken, grown, taken
 from tests.counts.inputs import INPUTS
-from tests.model import nesting
+from tests.memory import stacks
 
 TABLE, HEADER = Path(__file__).with_name("table.txt"), TOP / "include/amqp_values.h"
 HEAD = """\
@@ -149,14 +149,14 @@ def test_row(call: str, found: dict[str, OfCall], table: Rows) -> None:
 
 def test_stack_is_stated() -> None:
     """A level takes no more here than docs/PROMISES.md states, and of the calls that take most here more than half of it."""
-    figures, _ = nesting.table()
+    figures, _ = stacks.table()
     for call, (*_, a_level, _) in rows().items():
         name, takes = call.split()[0], number(a_level)
         # (amqpv_put and others have amqpv_put_value among them)
         stated = max((it for of, it in figures.items() if of.startswith(name)), default=0)
         assert takes <= stated, f"{call}: {takes} bytes a level, {stated} are stated"
         assert (
-            takes > stated / 2 or name not in nesting.IN_COUNTS
+            takes > stated / 2 or name not in stacks.IN_COUNTS
         ), f"{call}: {takes} bytes a level, and {stated} are stated"
 
 

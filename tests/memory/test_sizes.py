@@ -6,7 +6,7 @@ a million lines go through amqp_wire, a stream through examples, and a string of
 amqp_show, as JSON, as a tree and from JSON. What they must print is made in large.py. A program may have 4 GiB of address
 space.
 
-Then the calls that recurse, through test_calls, on small stacks (those of nesting.py), and amqp_show as deep as --depth
+Then the calls that recurse, through test_calls, on small stacks (those of stacks.py), and amqp_show as deep as --depth
 may be, on the stack that docs/SHOW.md names, and on half of it.
 """
 
@@ -26,12 +26,12 @@ import pytest
 from dependencies import TOP
 
 from tests.checks import built, within
+from tests.memory import stacks
 from tests.memory.large import RUNS, Pieces, Run
-from tests.model import nesting
 
 # The most seconds of a processor.
 SECONDS = 300
-CHECKS = [*nesting.checks(nesting.CALLS)]
+CHECKS = [*stacks.checks(stacks.CALLS)]
 
 
 # Large input
@@ -83,7 +83,7 @@ def test_large(made: Callable[[], Run]) -> None:
 
 
 @pytest.mark.parametrize("check", CHECKS, ids=[it.name for it in CHECKS])
-def test_nested(check: nesting.Check) -> None:
+def test_nested(check: stacks.Check) -> None:
     """A call on a small stack."""
     assert check.wrong(built("test_calls")) == ""
 
@@ -100,12 +100,12 @@ def status_on(stack: int, words: str, given: bytes) -> int:
     return within(RLIMIT_STACK, stack, [built("amqp_show"), "--depth", "1000", *words.split()], given).returncode
 
 
-@pytest.mark.parametrize("form", nesting.FORMS.values(), ids=nesting.FORMS)
+@pytest.mark.parametrize("form", stacks.FORMS.values(), ids=stacks.FORMS)
 @pytest.mark.parametrize("words", ("", "--bytes", "--json"), ids=("tree", "bytes", "JSON"))
 def test_shown_deep(form: str, words: str) -> None:
-    given = nesting.encoding(form, 1000)
+    given = stacks.encoding(form, 1000)
     assert status_on(stack_of_show(), words, given) == 0
 
 
 def test_half_of_the_stack() -> None:
-    assert status_on(stack_of_show() // 2, "--json", nesting.encoding("F", 1000)) < 0, "it is enough"
+    assert status_on(stack_of_show() // 2, "--json", stacks.encoding("F", 1000)) < 0, "it is enough"

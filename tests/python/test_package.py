@@ -19,6 +19,7 @@ from typing import Any, assert_type
 import amqp_values as own
 import pytest
 from amqp_values._native import Codec
+from amqp_values.adapters import Refused
 from dependencies import TOP
 from hypothesis import given
 from hypothesis import strategies as st
@@ -650,3 +651,22 @@ def test_examples_of_a_page(name: str) -> None:
     test = doctest.DocTestParser().get_doctest("".join(blocks), {}, page.name, None, 0)
     failed, tried = doctest.DocTestRunner().run(test)
     assert tried and not failed
+
+
+def test_what_the_guide_sends_and_logs() -> None:
+    """A table that is refused goes into a header that fits a frame with room to spare, and any headers are shown as text."""
+    page = (TOP / "docs/PYTHON.md").read_text()
+    recipe, function = re.findall(r'send `(\{"problem".*?\})`', page), re.findall(
+        r"(?m)^>>> (def as_text.*\n(?:\.\.\. .*\n)+)", page
+    )
+    it = Refused(own.Error("cut"), bytes(2**20))
+    assert len(own.dumps_table(eval(recipe[0], {"it": it}))) < 131_072 - 32_768
+    names: dict[str, Any] = {"av": own}
+    exec(re.sub(r"(?m)^\.\.\. ", "", function[0]), names)
+    for raw, text in (
+        (b"\0\0\0\3\1aV", '{"a":null}'),
+        (b"\0\0\0\3\1\xffV", "0000000301ff56"),
+        (b"\0\0\0\3\1a", "000000030161"),
+    ):
+        assert names["as_text"](Refused(own.Error("cut"), raw)) == text
+    assert names["as_text"]({}) == "{}"

@@ -22,7 +22,7 @@ HOW = (
 # What `make check` runs besides suites of tests.
 OTHERS = {"proofs", "docs", "lint", "mutants"}
 # The suites that need no proofs.
-ALONE = ("scripts", "model", "vendor", "vectors", "c", "python", "rust", "web", "broker")
+ALONE = ("scripts", "model", "vendor", "vectors", "c", "python", "rust", "languages", "web", "broker")
 
 
 @pytest.fixture(scope="module")

@@ -2,12 +2,10 @@
 //! its bytes are read as: a value, how many more bytes are needed, or an error. Arguments are
 //! ignored.
 //!
-//! Its tests are in `src/tests` and `src/exhausted.rt`; `stdout` has what it prints for `stdin`.
-//! `tests/wire` runs it on devices that fail, and compares it with the reference implementation.
+//! Its tests are in `src/tests`; `stdout` has what it prints for `stdin`. `tests/wire` runs it on devices that fail, and compares it
+//! with the reference implementation. `tests/memory` runs it with each allocation failing.
 #![tactic(auto)]
 
-#[cfg(test)]
-mod exhausted;
 mod fault;
 mod line;
 mod read;

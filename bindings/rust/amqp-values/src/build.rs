@@ -38,7 +38,7 @@ impl<'b> TableBuilder<'b> {
     }
 
     /// Makes an empty table after what a vector has. The vector grows as needed, and ends with the table once that is
-    /// [finished](Self::finish). Without that any bytes may be there.
+    /// [finished](Self::finish). Without that any bytes may follow what it had: truncate it. Needs the feature `std`.
     ///
     /// # Examples
     ///

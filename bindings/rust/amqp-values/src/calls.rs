@@ -132,9 +132,9 @@ pub(crate) fn warn(
     frame_max: u32,
     levels: u32,
 ) -> Result<amqpv_warnings, Error> {
-    // what isn't a value would have no warnings
-    checked(amqpv_read, bytes, flags | AMQPV_RABBITMQ, limits)?;
     let limits = Limits { depth: limits.depth.min(ALLOCATING_DEPTH), ..limits };
+    // what isn't a value, or nests deeper than is looked at, would have no warnings
+    checked(amqpv_read, bytes, flags | AMQPV_RABBITMQ, limits)?;
     let mut warnings = amqpv_warnings::default();
     // SAFETY: `bytes` can be read, `warnings` is borrowed alone, and the stack suffices for the depth
     match unsafe { amqpv_warn(&input(bytes, flags | AMQPV_STREAMS, limits), frame_max, levels, &mut warnings) } {

@@ -160,8 +160,9 @@ fn no_nesting_ends_a_thread() {
                 Some(ProblemKind::TooDeep)
             );
         }
-        let warnings = rabbitmq::warnings_in_table(&nested(most)[1..], limits, 0, u32::MAX).unwrap();
-        assert_eq!(warnings.too_deep, Some(1024 * 6 - 1));
+        let warned = |levels| rabbitmq::warnings_in_table(&nested(levels)[1..], limits, 0, u32::MAX);
+        assert_eq!(warned(1024).map(|it| (it.too_deep, it.empty_key)), Ok((None, Some(4))));
+        assert_eq!(problem(warned(1025)), Some((ProblemKind::TooDeep, 1024 * 6 - 1)));
     });
     worker.unwrap().join().expect("the thread ends well");
 }

@@ -1,4 +1,5 @@
-//! `ROWS`: what each `Program` writes for its input, and how many bytes stay in the reader.
+//! `ROWS`: what each `Program` writes for its input, and how many bytes stay in the reader. `stdin` and `stdout` have lines of each
+//! kind.
 
 use super::*;
 use std::test::Fail;
@@ -13,60 +14,6 @@ const MIXED: &[u8] = b"\n7a\n41000000027300\n560a\n550005\n5\nxy\n41ffffffff\n41
 
 /// What is run, what is read, what is written and how many bytes stay in the reader.
 const ROWS: &[(Program, &[u8], &str, usize)] = &[
-    // a line results in a line
-    (
-        Lines,
-        b"4100000003740756\n",
-        "value 4100000003740156 rest 0\n",
-        0,
-    ),
-    (
-        Lines,
-        b"4100000007410000000262ff01\n",
-        "value 4100000007410000000262ff rest 1\n",
-        0,
-    ),
-    (Lines, b"4201\n", "value 4201 rest 0\n", 0),
-    (Lines, b"41000000024900\n", "refused Eof\n", 0),
-    (Lines, b"41ffffffff\n", "more 4294967295\n", 0),
-    (Lines, b"\n", "more 1\n", 0),
-    (Lines, b"7a\n", "refused MapOpt\n", 0),
-    (Lines, b"41000000027300\n", "refused Eof\n", 0),
-    (Lines, b"560a\n", "value 56 rest 1\n", 0),
-    (Lines, b"550005\n", "value 730005 rest 0\n", 0),
-    (Lines, b"5\n", "not hex\n", 0),
-    (Lines, b"xy\n", "not hex\n", 0),
-    (Lines, b"490000002A\n", "value 490000002a rest 0\n", 0),
-    (
-        Lines,
-        b"46000000110161740101614600000006016256016256\n",
-        "value 460000000a01614600000003016256 rest 0\n",
-        0,
-    ),
-    (
-        Lines,
-        b"4100000003565656\n",
-        "value 4100000003565656 rest 0\n",
-        0,
-    ),
-    (
-        Lines,
-        b"4600000006016256016156\n",
-        "value 4600000006016156016256 rest 0\n",
-        0,
-    ),
-    (
-        Lines,
-        b"4600000006016156016256\n",
-        "value 4600000006016156016256 rest 0\n",
-        0,
-    ),
-    (
-        Lines,
-        b"4600000009016156016256016156\n",
-        "value 4600000006016156016256 rest 0\n",
-        0,
-    ),
     (Lines, b"7400\r\n", "value 7400 rest 0\n", 0),
     // lines result in lines, in order
     (

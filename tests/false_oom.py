@@ -164,7 +164,7 @@ def sources() -> Iterator[tuple[str, str]]:
     """Yields each source that is judged, by its name below crates/, and what it has."""
     for file in sorted(TOP.glob("crates/*/src/**/*.rt")):
         name = file.relative_to(TOP / "crates").as_posix()
-        if not name.startswith(LEFT_OUT) and not re.search(r"/src/tests[./]|/src/exhausted\.rt$", name):
+        if not name.startswith(LEFT_OUT) and not re.search(r"/src/tests[./]", name):
             yield name, file.read_text()
 
 

@@ -3,7 +3,7 @@
 `checks` has those runs, and `recommended` those of the C API with the header's default limit, on the stack that it
 names. The page's table has a column for x86-64, and one for aarch64.
 
-`python3 -m tests.model.nesting PROGRAM NAME..` prints what a level takes of each call, and the call besides. PROGRAM is
+`python3 -m tests.memory.stacks PROGRAM NAME..` prints what a level takes of each call, and the call besides. PROGRAM is
 test_calls, or nested.c as it was compiled, also with the words by which qemu runs it.
 """
 
