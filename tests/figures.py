@@ -6,7 +6,7 @@ from collections.abc import Iterator
 from pathlib import Path
 
 import picture
-from dependencies import TOP
+from dependencies import TOP, Crates
 
 HEADER, SPEED, INTEROP, CONTRIBUTING = "include/amqp_values.h", "docs/SPEED.md", "docs/INTEROP.md", "CONTRIBUTING.md"
 VERIFICATION, ANSWERS = "docs/VERIFICATION.md", "crates/test_calls/data/rust.calls"
@@ -221,8 +221,16 @@ def other_lengths() -> Iterator[str]:
             yield f"{VERIFICATION}: there are {words}: write that"
 
 
+def untold_libraries() -> Iterator[str]:
+    """Yields the toolchain's libraries that proved crates use and docs/VERIFICATION.md doesn't name, since their contracts are
+    believed."""
+    told, crates = {*re.findall(r"`(\w+)`", read(VERIFICATION))} | {"std"}, Crates()
+    for library in sorted({it for name in PROVED for it in crates.of_kit[name]} - told):
+        yield f"{VERIFICATION}: crates.txt names the library {library}: name it among what is trusted"
+
+
 def faults() -> Iterator[str]:
     """Yields what is repeated otherwise than it is made."""
     checks = [other_defaults, other_ratios, other_picture, long_pages, other_logics, tables_of_no_run, versions_by_hand]
-    for check in (*checks, other_versions, other_lengths):
+    for check in (*checks, other_versions, other_lengths, untold_libraries):
         yield from check()

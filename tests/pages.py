@@ -2,9 +2,9 @@
 """Checks the pages against the sources, and which source may use which: tests/pages.py
 
 What a page names exists: files, links, functions, definitions, clauses, targets of make, suites. Code that a page quotes is in
-a source file. No page, comment or message has a word of this project's own. docs/PROMISES.md names each clause of a public
-call. Each public function of a library has a mutant (tests/mutants.py). Each call that may run out of memory is made with much. A
-crate uses only what is below it, and no module one that uses it. No source makes up that memory ran out
+a source file. No page, comment or message has a word of this project's own. docs/PROMISES.md lists the file of each public
+call, which has a comment. Each public function of a library has a mutant (tests/mutants.py). Each call that may run out of memory
+is made with much. A crate uses only what is below it, and no module one that uses it. No source makes up that memory ran out
 (tests/false_oom.py). Numbers that are repeated are those of where they are made (tests/figures.py). Other suites run the
 commands that pages show.
 """
@@ -48,7 +48,7 @@ EXAMPLES = ("crates/examples/src/*.rt", "examples/c/*.c", "bindings/rust/amqp-va
 # What calls public functions, outside of the crates.
 CALLERS = """include/*.h c/*.c bindings/**/*.rs bindings/**/*.[chp]* examples/**/*.c tests/**/*.c tests/**/*.py
     crates/test_calls/data/*.calls""".split()
-# The crates whose public calls docs/PROMISES.md has, and whose functions have mutants.
+# The crates whose public calls docs/PROMISES.md is about, and whose functions have mutants.
 LIBRARIES = "amqp_value_core amq_protocol_types amqp_in_place amqp_json amqp_c amqp_c_alloc".split()
 # The functions and modules that can't have a mutant, and why.
 UNTRIED = {
@@ -230,7 +230,7 @@ def unlisted() -> Iterator[str]:
         yield from (f"{name}: '{it}' isn't in {other}: add it there, or take it out here" for it in sorted(lacks))
 
 
-# docs/PROMISES.md names each clause of a public call, and no other.
+# docs/PROMISES.md lists the file of each public call, whose comment says in words what its contract states.
 
 
 class Call(NamedTuple):
@@ -296,60 +296,25 @@ def words_of(text: str) -> list[str]:
     return [it[0].upper() + it[1:] for it in re.findall(rf"(?<!')\b{WORD}", text) if len(it) > 1]
 
 
-def rows(page: str) -> Iterator[tuple[str, set[str], str, list[str]]]:
-    """Yields each line of a page, the crates that its section names outside of tables, what names its calls, and its clauses.
-
-    The calls are in the row's first cell, or in that of a row above, if the table has a column of them; otherwise in the
-    paragraph above.
-    """
-    above, heads = "", list[str]()
-    for section in re.split(r"(?m)^(?=## )", page):
-        named = words(" ".join(QUOTED.findall(re.sub(r"(?m)^\|.*", "", section)))) & {*Crates().below}
-        for line in section.splitlines():
-            row = line[1:].removesuffix("|") if line.startswith("|") else ""
-            cells = [it.strip() for it in re.split(r"(?<!\\)\|", row)] if row else []
-            parts = [it for head, cell in zip(heads, cells) if head in ("Clause", "Contract") for it in cell.split(";")]
-            above = cells[0] if cells and heads[:1] == ["Call"] and cells[0] else above
-            yield line, named, above, parts
-            heads = cells and (heads or cells)
-            above = above if cells or not line.strip() else line
-
-
-def clauses_of(calls: Collection[Call], text: str) -> set[str]:
-    """The clauses of the functions that a text names."""
-    return {each for it in calls if it.name in re.findall(CALL, text) for each in it.clauses}
-
-
 def wrong_clauses() -> Iterator[str]:
-    """Yields the clauses of a row that what it is about doesn't have, and those of public calls that no section names.
-
-    "`call`, clause `name`" is a clause of that call. Otherwise a name is a clause of a function that the paragraph above
-    names, or of any if none of these has clauses with names; or it is a definition, function or type. The rows of a call
-    name all its clauses, and each call of the C API has a row.
-    """
-    below, told, of_calls = Crates(), dict[str, set[str]](), dict[tuple[str, str], set[str]]()
-    crates = {it: Crate(it) for it in below.below}
-    for number, (line, named, above, parts) in enumerate(rows(read(TOP / PROMISES)), 1):
-        calls = [it for name in named for it in crates[name].calls]
-        for name in named:
-            told.setdefault(name, set()).update(words(" ".join(QUOTED.findall(line))))
-            for call in re.findall(CALL, above) if parts else ():
-                of_calls.setdefault((name, call), set()).update(words(" ".join(QUOTED.findall(line))))
-        known = {it for name in below.needed(*named) for it in crates[name].defined}
-        known |= clauses_of(calls, above) or {it for name in named for it in crates[name].words}
-        for part in parts:
-            head, is_clause, rest = part.partition("clause")
-            own = clauses_of(calls, head) if is_clause else set[str]()
-            for it in re.findall(rf"`({WORD})`", part):
-                if it not in known or own and f"`{it}`" in rest and it not in own:
-                    yield f"{PROMISES}:{number}: what the row is about has no clause or definition {it}: correct it"
-    for name in LIBRARIES:
-        for call in (it for it in crates[name].calls if it.is_public):
-            # (the page names a law, not its clauses, and each call from C, whose clause may have no name)
-            is_law, is_of_c = "/laws.rt:" in call.at, call.name.startswith("amqpv_")
-            for it in [call.name] * (is_law or is_of_c) + call.clauses * (not is_law):
-                if it not in of_calls.get((name, call.name), told.get(name, ())):
-                    yield f"{call.at}: {PROMISES} lacks {it}, of {call.name}: name it in a section on {name}"
+    """Yields the clauses that docs/PROMISES.md explains and no call has, and public calls whose file it doesn't list, or that have
+    no comment."""
+    crates, page = {it: Crate(it) for it in Crates().below}, read(TOP / PROMISES)
+    clauses = {name for crate in crates.values() for call in crate.calls for name in call.clauses}
+    known = clauses | {name for crate in crates.values() for name in crate.defined}
+    table = page.partition("|Words|Clause|Meaning|\n")[2].partition("\n\n")[0]
+    for row in table.splitlines()[1:]:
+        for it in QUOTED.findall(row.split("|")[2]):
+            if it not in known:
+                yield f"{PROMISES}: no call has a clause {it}, and no source defines it: correct the row of {row.split('|')[1]}"
+    listed = [f"crates/{it}" for it in QUOTED.findall(page) if "/src" in it]
+    for call in (it for name in LIBRARIES for it in crates[name].calls if it.is_public):
+        name, _, line = call.at.partition(":")
+        if not any(name == it or name.startswith(f"{it}/") for it in listed) and not name.endswith("/laws.rt"):
+            yield f"{call.at}: {PROMISES} doesn't list this file, of {call.name}: add it where the contracts are"
+        before = [it.strip() for it in read(TOP / name).splitlines()[: int(line) - 1]]
+        if not [it for it in before if not it.startswith("#[")][-1].startswith("///"):
+            yield f"{call.at}: {call.name} has no comment: say in words what its contract states"
 
 
 def uncalled() -> Iterator[str]:

@@ -102,7 +102,21 @@ def wanted_in_stable() -> list[str]:
 def test_stable_has_all_of_header() -> None:
     wanted, stable = wanted_in_stable(), (HERE / "stable.c").read_text()
     assert wanted
-    assert [it for it in wanted if it not in stable] == []
+    assert [it for it in wanted if it not in stable] == [], "write these lines in tests/c/stable.c"
+
+
+# What habits.c and the examples try, and inline.c doesn't.
+ONLY_COMPILED = {"amqpv_table", "amqpv_enter"}
+
+
+def test_programs_have_each_inline_function() -> None:
+    """Those of users, whose names don't end in an underscore."""
+    text = HEADER.read_text() + HEADER.with_name("amqp_values_inline.h").read_text()
+    names = {*re.findall(r"(?m)^static inline [\w *]*?\b(amqpv_\w*[a-z0-9])\(", text)}
+    assert "amqpv_value" in names
+    for program, left_out in (("header.c", set[str]()), ("inline.c", ONLY_COMPILED)):
+        lacks = names - left_out - {*re.findall(r"\w+", (HERE / program).read_text())}
+        assert not lacks, f"call these in tests/c/{program}"
 
 
 @pytest.mark.parametrize("compiler", ("cc", "aarch64-linux-gnu-gcc"))

@@ -277,6 +277,7 @@ def test_words(inline: Program) -> None:
     results = {1 - n if n > 1 else n: it for n, it in enumerate(WORDS)}
     reasons = {number: TEXTS[name] for name, number in [*c_api.SYNTAX_ERRORS.items(), *c_api.MISMATCHES.items()]}
     reasons |= {0: "no reason"}
+    assert {*TEXTS} == {*c_api.SYNTAX_ERRORS, *c_api.MISMATCHES}, "number it in tests/c/c_api.py as in the header"
     assert len(reasons) == 1 + len(TEXTS)
     wanted = [
         f"{results.get(n, 'unknown result')}; {TYPES.get(chr(n % 256), ('unknown',))[0]}; "

@@ -157,7 +157,8 @@ def test_manual_has_the_prototypes(prefix: Path) -> None:
     text = (prefix / f"share/man/man3/{NAME}.3").read_text()
     found = re.findall(r'(?m)^\.Ft "?(.*?)"?\n\.Fn (\w+) (.*)$', text)
     shown = [(of, call, re.findall(r'"(.*?)"', parameters) or [parameters]) for of, call, parameters in found]
-    assert shown == declared("amqp_values.h") + declared("amqp_values_rabbitmq.h")
+    wanted = declared("amqp_values.h") + declared("amqp_values_rabbitmq.h")
+    assert shown == wanted, f"write these prototypes in packaging/{NAME}.3"
     calls = {it for names in CALLS.values() for it in names}
     assert calls < {call for _, call, _ in shown}
 
@@ -171,7 +172,7 @@ def test_manual_has_the_prototypes(prefix: Path) -> None:
 )
 def test_list_has_the_calls_of_the_header(name: str, pattern: str) -> None:
     calls = {it for names in CALLS.values() for it in names}
-    assert sorted(re.findall(pattern, (TOP / name).read_text())) == sorted(calls)
+    assert sorted(re.findall(pattern, (TOP / name).read_text())) == sorted(calls), f"{name} has a line for each call"
 
 
 # CMake

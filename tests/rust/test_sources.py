@@ -17,7 +17,8 @@ HEADER = TOP / "include/amqp_values.h"
 def test_declarations_are_made_from_the_header(processor: str) -> None:
     """The same for each processor."""
     found = assert_well(run([RUST / "declarations", f"{processor}-unknown-linux-gnu"]))
-    assert found == (RUST / "amqp-values-sys/src/bindings.rs").read_text()
+    stored = (RUST / "amqp-values-sys/src/bindings.rs").read_text()
+    assert found == stored, "bindings/rust/declarations prints what it must be"
 
 
 def test_duties_are_those_of_the_header() -> None:
