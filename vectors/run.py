@@ -27,7 +27,7 @@ def outcome(decode: Any, case: Any) -> str:
 
 
 if __name__ == "__main__":
-    codec, files = importlib.import_module(argv[1]), sorted(Path(__file__).parent.glob("*.json"))
+    codec, files = importlib.import_module(argv[1]), sorted(Path(__file__).parent.glob("cases/*.json"))
     for it in (it for file in files for it in json.loads(file.read_text()).get("cases", [])):
         if (child := os.fork()) == 0:
             signal.alarm(60)

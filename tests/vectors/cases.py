@@ -12,7 +12,7 @@ from tests.model.json_format import json_of
 
 VECTORS = TOP / "vectors"
 SCHEMA, IMPLEMENTATIONS = VECTORS / "schema.json", VECTORS / "implementations.json"
-FILES = sorted({*VECTORS.glob("*.json")} - {SCHEMA, IMPLEMENTATIONS})
+FILES = sorted(VECTORS.glob("cases/*.json"))
 # Where Debian has Go's packages, and Go's client among them.
 GO = Path("/usr/share/gocode")
 OF_GO = GO / "src/github.com/rabbitmq/amqp091-go"
