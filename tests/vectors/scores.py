@@ -8,11 +8,11 @@ from typing import NamedTuple
 
 from dependencies import TOP
 
-from tests.vectors.cases import CASES, IMPLEMENTATIONS, VECTORS, none_of
+from tests.vectors.cases import EVERY, IMPLEMENTATIONS, VECTORS, none_of
 
 PAGE = TOP / "docs/INTEROP.md"
 # The cases that a codec is given, in the order of their files. Of two that are the same in a table it is given one.
-GIVEN = {it.id: it.case for it in CASES if "repeats" not in it.case}
+GIVEN = {it.id: it.case for it in EVERY if "repeats" not in it.case}
 PROFILES = ("amqp", "rabbitmq")
 # The head of the page's table, and how many of the worst cases a row has: those that end the codec come first.
 HEAD = "| Codec | AMQP: read right | rejected | RabbitMQ: read right | rejected | crashes | cuts rejected | The worst |"

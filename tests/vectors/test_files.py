@@ -2,17 +2,22 @@
 
 import json
 import re
+import subprocess
+from collections import Counter
 from pathlib import Path
+from typing import Any
 
 import jsonschema
 import pytest
 from comparing import text_of
 from dependencies import TOP
+from families import layout
 
 from tests.model.json_format import json_of
 from tests.model.encoding import Unread, extent, read, write
 from tests.model.tables import VERSIONS, delivered, first_problem, parts
-from tests.vectors.cases import CASES, FILES, IDS, PROBLEMS, SCHEMA, VECTORS, Case, none_of
+from tests.rabbitmq.broker import PYTHON
+from tests.vectors.cases import CASES, DEEP, EVERY, FILES, PROBLEMS, SCHEMA, VECTORS, Case, none_of
 from tests.vectors.profiles import PROFILES, decision, flags_of, same
 
 pytestmark = pytest.mark.usefixtures("deep")
@@ -36,18 +41,17 @@ def test_schema_is_one() -> None:
 
 def test_each_case_is_stated_once() -> None:
     """No id comes twice, and no bytes in the same form."""
-    repeated = [it for at, it in enumerate(IDS) if it in IDS[:at]]
-    given = [(it.data, it.is_table) for it in CASES]
-    assert (repeated, [it.id for at, it in enumerate(CASES) if given[at] in given[:at]]) == ([], [])
+    ids, given = Counter(it.id for it in EVERY), Counter((it.data, it.is_table) for it in EVERY)
+    assert [it.id for it in EVERY if ids[it.id] > 1 or given[it.data, it.is_table] > 1] == []
 
 
 def test_flags() -> None:
     """A case has the flags of what its bytes have, in the order of their names, and README.md explains each flag."""
-    flags = {it.id: flags_of(it.data, it.is_table, it.result.get("rest", 0)) for it in CASES}
-    assert none_of([f"{it.id}: {flags[it.id]}" for it in CASES if it.case["flags"] != flags[it.id]]) == ""
+    flags = {it.id: flags_of(it.data, it.is_table, it.result.get("rest", 0)) for it in EVERY}
+    assert none_of([f"{it.id}: {flags[it.id]}" for it in EVERY if it.case["flags"] != flags[it.id]]) == ""
     listed = json.loads(SCHEMA.read_text())["definitions"]["flag"]["enum"]
     explained = re.findall(r"(?m)^\| `([a-z-]+)` \|", section("Flags"))
-    assert explained == listed
+    assert explained == listed and {*listed} == {flag for it in EVERY for flag in it.case["flags"]}
 
 
 def section(name: str) -> str:
@@ -61,7 +65,10 @@ def section(name: str) -> str:
 def test_expected(profile: str) -> None:
     """Each profile decides as its own reader does."""
     wrong = []
-    for it in CASES:
+    for it in EVERY:
+        if it.file == DEEP:
+            assert it.case["expected"][profile] == "undecided"
+            continue
         value = json.loads(text_of(it.result)) if "rest" in it.result else NO_VALUE
         found = decision(it.data, it.is_table, it.result.get("rest", 0), profile, value)
         wrong += [] if same(found, it.case["expected"][profile]) else [f"{it.id}: {found}"]
@@ -72,7 +79,7 @@ def test_expected_is_what_rabbitmq_does() -> None:
     """What its profile accepts RabbitMQ delivers, and for what its profile rejects it closes the connection."""
     wrong, word = [], {"reject": "closes", "undecided": ""}
     for it in CASES:
-        expected = it.case["expected"]["rabbitmq"]
+        expected: Any = it.case["expected"]["rabbitmq"]
         wanted = "delivers" if isinstance(expected, dict) else word.get(expected, "delivers")
         wrong += [it.id for did in it.case.get("rabbitmq", {}).values() if wanted and wanted not in did]
     assert none_of(wrong) == ""
@@ -80,11 +87,11 @@ def test_expected_is_what_rabbitmq_does() -> None:
 
 def test_repeats() -> None:
     """A case names another that is the same in a table, and no two that don't are the same."""
-    by_id = {it.id: it for it in CASES}
-    for it in CASES:
+    by_id = {it.id: it for it in EVERY}
+    for it in EVERY:
         first = by_id[it.case.get("repeats", it.id)]
         assert first.headers == it.headers and "repeats" not in first.case, it.id
-    given = [it.headers for it in CASES if "repeats" not in it.case]
+    given = [it.headers for it in EVERY if "repeats" not in it.case]
     assert len({*given}) == len(given)
 
 
@@ -93,9 +100,18 @@ def test_canonical_is_same_where_it_is() -> None:
     assert none_of([it.id for it in CASES if it.case.get("canonical") == it.encoding.hex()]) == ""
 
 
+def test_families(tmp_path: Path) -> None:
+    """The regular files are those that families.py writes, and every file has its layout."""
+    subprocess.run([PYTHON, "-B", VECTORS / "families.py", tmp_path], check=True)
+    written = sorted(tmp_path.glob("*.json"))
+    assert written and [it.name for it in written if it.read_text() != (VECTORS / "cases" / it.name).read_text()] == []
+    found = {it: json.loads(it.read_text()) for it in FILES}
+    assert [it.name for it in FILES if layout(**found[it]) != it.read_text()] == []
+
+
 def test_pages_have_the_number_of_cases() -> None:
-    assert f"These are {len(CASES)} encodings" in (VECTORS / "README.md").read_text()
-    assert f"`vectors/` has {len(CASES)} cases" in (TOP / "CHANGELOG.md").read_text()
+    assert f"These are {len(EVERY)} encodings" in (VECTORS / "README.md").read_text()
+    assert f"`vectors/` has {len(EVERY)} cases" in (TOP / "CHANGELOG.md").read_text()
 
 
 def outcome(data: bytes) -> tuple[object, bytes | None]:
