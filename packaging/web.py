@@ -34,7 +34,7 @@ HEADER, INLINE = TOP / "include/amqp_values.h", TOP / "include/amqp_values_inlin
 NUMBER = re.compile(r"AMQPV_(\w+) = (-?\d+|'.')")
 TAG = re.compile(r"case (?:AMQPV_(\w+)|'(.)'):|return \"(\w+)\"")
 DATA = TOP / "crates/amqp_show/data"
-CAPTURED = TOP / "vectors/real-world.json"
+CAPTURED = TOP / "vectors/cases/real-world.json"
 # The module whose addresses have 64 bits, and the one whose have 32.
 WIDE, NARROW = (TOP / "generated/wasm" / it for it in ("amqp_c.wasm", "amqp_c-32.wasm"))
 

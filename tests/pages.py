@@ -38,7 +38,7 @@ BINDINGS = """examples/**/*.[ch] bindings/**/*.rs bindings/python/**/*.[chp]* pa
     Makefile vectors/*.py vectors/schema.json""".split()
 NOT_OURS = set(
     """git nm ryu venv BCC FetchContent add_subdirectory CC_aarch64_unknown_linux_gnu inf mine MINE PYTHONPATH UseNumber time_t memmove memset HANDLES Compare CompareResult Default SerializeFn readTable
-    writeTable amqp_ IsBounded length_of_text ctypes TryFrom AMQ_PROTOCOL_TYPES crates/arguments/src/main.rt""".split()
+    writeTable amqp_ IsBounded length_of_text ctypes TryFrom AMQ_PROTOCOL_TYPES crates/arguments/src/main.rt codecs""".split()
 )
 # The folders from which a page may name a file.
 FOLDERS = ("", "crates/", "crates/*/", "bindings/rust/*/", "generated/", "vectors/")

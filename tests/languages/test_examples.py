@@ -1,8 +1,8 @@
 """The examples of README.md and the guides that return the count of a message's first death agree, in each language.
 
 There is one in Rattle, and there are several in C, Rust and Python. All get the same headers, tables without their type tag:
-those of vectors/real-world.json, which a broker and its clients sent, and some in which a key comes twice, that are malformed, or
-that nest as deep as the limits allow. An example is taken from its page as it is.
+those of vectors/cases/real-world.json, which a broker and its clients sent, and some in which a key comes twice, that are
+malformed, or that nest as deep as the limits allow. An example is taken from its page as it is.
 """
 
 import re

@@ -10,7 +10,7 @@ from dependencies import TOP
 from tests.model.encoding import TYPES, field
 
 # Tables as brokers and clients sent them.
-CAPTURED = TOP / "vectors/real-world.json"
+CAPTURED = TOP / "vectors/cases/real-world.json"
 # The default limit of bytes.
 FRAME = 2**20
 LAST_DATE = 253402207200

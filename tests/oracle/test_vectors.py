@@ -13,6 +13,6 @@ pytestmark = pytest.mark.needs("codecs")
 def test_vectors(request: pytest.FixtureRequest, is_writing: bool) -> None:
     option = request.config.getoption
     source = TOP / "vectors/adapters/rust.rs"
-    program = build(option("--crate"), option("--packages"), source, "vectors").program
+    program, nom = build(option("--crate"), option("--packages"), source, "vectors")
     found = run("adapters.rust", [PYTHON], {"PATH": "/usr/bin:/bin", "RUST_ADAPTER": str(program)})
-    assert_scores("amq-protocol-types 10.6.3", found, is_writing)
+    assert_scores("amq-protocol-types 10.6.3", f"rustc, nom {nom.partition('.')[0]}", found, is_writing)

@@ -1,4 +1,4 @@
-"""`CASES`: each `Case` of vectors/, and what this library and RabbitMQ must make of it, for this suite and others."""
+"""`CASES`: the `Case`s of vectors/, and what this library and RabbitMQ must make of it, for this suite and others."""
 
 import json
 import re
@@ -12,7 +12,7 @@ from tests.model.json_format import json_of
 
 VECTORS = TOP / "vectors"
 SCHEMA, IMPLEMENTATIONS = VECTORS / "schema.json", VECTORS / "implementations.json"
-FILES = sorted({*VECTORS.glob("*.json")} - {SCHEMA, IMPLEMENTATIONS})
+FILES, DEEP = sorted(VECTORS.glob("cases/*.json")), VECTORS / "cases/depth.json"
 # Where Debian has Go's packages, and Go's client among them.
 GO = Path("/usr/share/gocode")
 OF_GO = GO / "src/github.com/rabbitmq/amqp091-go"
@@ -103,8 +103,9 @@ def written(value: Any) -> str:
     return json.dumps(value, ensure_ascii=False, sort_keys=True, separators=(",", ":"))
 
 
-CASES = [Case(file, it, bytes_of(it)) for file in FILES for it in json.loads(file.read_text())["cases"]]
-IDS = [it.id for it in CASES]
+# All cases, and those that aren't so deep that the model of tests/model lacks stack.
+EVERY = [Case(file, it, bytes_of(it)) for file in FILES for it in json.loads(file.read_text())["cases"]]
+CASES = [it for it in EVERY if it.file != DEEP]
 
 
 def none_of(wrong: list[str]) -> str:

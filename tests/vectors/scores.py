@@ -8,24 +8,22 @@ from typing import NamedTuple
 
 from dependencies import TOP
 
-from tests.vectors.cases import CASES, IMPLEMENTATIONS, VECTORS, none_of
+from tests.vectors.cases import EVERY, IMPLEMENTATIONS, VECTORS, none_of
 
 PAGE = TOP / "docs/INTEROP.md"
-KINDS = {it.id: str(it.case["kind"]) for it in CASES}
-EXPECTED = {"must-accept": "as stated", "must-reject": "rejects", "implementation-defined": "as stated"}
-# The columns of the page's table.
-COLUMNS = [
-    *(("must-accept", it) for it in ("as stated", "rejects", "otherwise", "crashes")),
-    *(("must-reject", it) for it in ("rejects", "otherwise", "crashes")),
-]
-# The head of that table, and how many of the worst cases a row has: those that end the codec come first.
-HEAD = "| Codec | read as stated | rejected | read otherwise | crashed | malformed: rejected | read | crashed | The worst |"
-SHOWN, WORST = 3, ["crashes", "otherwise", "rejects"]
+# The cases that a codec is given, in the order of their files. Of two that are the same in a table it is given one.
+GIVEN = {it.id: it.case for it in EVERY if "repeats" not in it.case}
+PROFILES = ("amqp", "rabbitmq")
+# The head of the page's table, and how many of the worst cases a row has: those that end the codec come first.
+HEAD = "| Codec | AMQP: read right | rejected | RabbitMQ: read right | rejected | crashes | cuts rejected | The worst |"
+SHOWN, WORST = 3, ["crashes", "otherwise", "rejects", "as stated"]
 
 
 class Outcome(NamedTuple):
-    """What a codec made of a case, and what it read if that is otherwise."""
+    """The verdict of each profile on a codec in a case, what the codec did, and what it read if that is otherwise."""
 
+    amqp: str
+    rabbitmq: str
     word: str
     detail: str = ""
 
@@ -33,29 +31,55 @@ class Outcome(NamedTuple):
         return f"{self.word}: {self.detail}" if self.word == "otherwise" else self.word
 
 
-def run(module: str, words: list[str], env: Mapping[str, str]) -> dict[str, Outcome]:
-    """The outcome of each case, as the runner prints it for a codec."""
+class Run(NamedTuple):
+    """What the runner prints of a codec: the outcome of each case, and whether the cuts of a case were all rejected."""
+
+    outcomes: dict[str, Outcome]
+    cuts: dict[str, Outcome]
+
+
+def run(module: str, words: list[str], env: Mapping[str, str]) -> Run:
+    """Runs the vectors over a codec. The status has to be that of its outcomes in the profile of RabbitMQ."""
     done = subprocess.run(
-        [*words, "-B", VECTORS / "run.py", module], env=env, cwd=VECTORS, capture_output=True, text=True, timeout=600
+        [*words, "-B", VECTORS / "run.py", module, "--all"],
+        env=env,
+        cwd=VECTORS,
+        capture_output=True,
+        text=True,
+        timeout=600,
     )
-    assert done.returncode == 0, done.stderr[-2000:]
-    found = {}
+    found: dict[str, Outcome] = {}
+    cuts: dict[str, Outcome] = {}
     for line in done.stdout.splitlines():
-        id, kind, word, *detail = line.split("\t")
-        assert (kind, id in found) == (KINDS[id], False), line
-        found[id] = Outcome(word, *detail)
-    assert found.keys() == KINDS.keys()
-    return found
+        id, *said = line.split("\t")
+        known = found if id not in found else cuts
+        assert id not in known, line
+        known[id] = Outcome(*said)
+    assert found.keys() == GIVEN.keys(), done.stderr[-2000:]
+    is_failing = any(it.rabbitmq == "wrong" for it in (*found.values(), *cuts.values()))
+    assert done.returncode == is_failing, done.stderr[-2000:]
+    return Run(found, cuts)
 
 
-def row(name: str, found: Mapping[str, Outcome]) -> str:
-    """The row of a codec: counts of outcomes, and the ids of the worst."""
-    counts = [sum(KINDS[id] == kind and it.word == word for id, it in found.items()) for kind, word in COLUMNS]
-    wrong = [
-        id for id, it in found.items() if KINDS[id] in ("must-accept", "must-reject") and it.word != EXPECTED[KINDS[id]]
-    ]
-    worst = sorted(wrong, key=lambda id: WORST.index(found[id].word))
-    return " | ".join([f"| {name}", *map(str, counts), ", ".join(f"`{it}`" for it in spread(worst)) or "none"]) + " |"
+def accepts(id: str, profile: str) -> bool:
+    return GIVEN[id]["expected"][profile] not in ("reject", "undecided")
+
+
+def row(name: str, found: Run) -> str:
+    """The row of a codec: how many cases it reads or rejects as each profile has it, and the ids of the worst."""
+    counts = []
+    for profile in PROFILES:
+        for is_read in (True, False):
+            verdicts = [getattr(it, profile) for id, it in found.outcomes.items() if accepts(id, profile) == is_read]
+            right = verdicts.count("right")
+            counts.append(f"{right} of {right + verdicts.count('wrong')}")
+    counts.append(str(sum(it.word == "crashes" for it in found.outcomes.values())))
+    right = sum(it.rabbitmq == "right" for it in found.cuts.values())
+    is_whole = all(it.word != "crashes" for it in found.cuts.values())
+    counts.append(f"{right} of {len(found.cuts)}" if is_whole else "crashes")
+    wrong = [id for id, it in found.outcomes.items() if it.rabbitmq == "wrong"]
+    worst = sorted(wrong, key=lambda id: WORST.index(found.outcomes[id].word))
+    return " | ".join([f"| {name}", *counts, ", ".join(f"`{it}`" for it in spread(worst)) or "none"]) + " |"
 
 
 def spread(ids: list[str]) -> list[str]:
@@ -66,9 +90,9 @@ def spread(ids: list[str]) -> list[str]:
     return [*chosen.values()][:SHOWN]
 
 
-def wrong_row(name: str, found: Mapping[str, Outcome], is_writing: bool) -> str:
+def wrong_row(name: str, wanted: str, is_writing: bool) -> str:
     """What is wrong with the page's row of a codec, which may be written anew."""
-    text, wanted = PAGE.read_text(), row(name, found)
+    text = PAGE.read_text()
     known = re.search(rf"(?m)^\| {re.escape(name)} \|.*$", text[text.index(HEAD) :])
     if known and known[0] == wanted:
         return ""
@@ -82,34 +106,44 @@ def wrong_row(name: str, found: Mapping[str, Outcome], is_writing: bool) -> str:
     return ""
 
 
-def wrong_implementations(name: str, found: Mapping[str, Outcome], is_writing: bool) -> str:
-    """What is wrong with the outcomes of a codec in implementations.json: those that aren't as the kind has it."""
-    stored = json.loads(IMPLEMENTATIONS.read_text()) if IMPLEMENTATIONS.exists() else {"format": 1, "outcomes": {}}
+def expected(id: str) -> str:
+    """What implementations.json leaves out: the outcome that is the result of a case."""
+    return "as stated" if "rest" in GIVEN[id]["result"] else "rejects"
+
+
+def wrong_implementations(name: str, toolchain: str, found: Mapping[str, Outcome], is_writing: bool) -> str:
+    """What is wrong with a codec in implementations.json: its toolchain, or the outcomes that aren't the result of a case."""
+    stored = json.loads(IMPLEMENTATIONS.read_text())
     before: dict[str, dict[str, str]] = stored["outcomes"]
-    wanted = {id: it.text() for id, it in found.items() if it.word != EXPECTED[KINDS[id]]}
+    wanted = {id: it.text() for id, it in found.items() if it.word != expected(id)}
     known = {id: it[name] for id, it in before.items() if name in it}
-    if known == wanted:
+    if known == wanted and stored["codecs"].get(name) == toolchain:
         return ""
     if not is_writing:
         others = sorted(id for id in {*known, *wanted} if known.get(id) != wanted.get(id))
-        return (
-            f"{name}: {others[:5]} aren't as {IMPLEMENTATIONS.name} has them, as {others[0]}: {wanted.get(others[0])}"
-        )
-    merged = {id: {**{other: it for other, it in before.get(id, {}).items() if other != name}} for id in KINDS}
-    for id, said in wanted.items():
-        merged[id][name] = said
-    write({id: dict(sorted(it.items())) for id, it in merged.items() if it})
+        said = [f"{id}: {wanted.get(id)}" for id in others[:5]]
+        return f"{IMPLEMENTATIONS.name} has another toolchain than {toolchain} or other outcomes of {name} than {said}"
+    merged = {id: {other: it for other, it in before.get(id, {}).items() if other != name} for id in GIVEN}
+    for id, text in wanted.items():
+        merged[id][name] = text
+    codecs = dict(sorted((stored["codecs"] | {name: toolchain}).items()))
+    write(codecs, {id: dict(sorted(it.items())) for id, it in merged.items() if it})
     return ""
 
 
-def write(outcomes: Mapping[str, Mapping[str, str]]) -> None:
-    lines = [f"    {json.dumps(id)}: {json.dumps(it)}" for id, it in outcomes.items()]
-    IMPLEMENTATIONS.write_text('{\n  "format": 1,\n  "outcomes": {\n' + ",\n".join(lines) + "\n  }\n}\n")
+def write(codecs: Mapping[str, str], outcomes: Mapping[str, Mapping[str, str]]) -> None:
+    lines = [
+        ",\n".join(f"    {json.dumps(id)}: {json.dumps(it)}" for id, it in found.items())
+        for found in (codecs, outcomes)
+    ]
+    parts = ['  "format": 2', f'  "codecs": {{\n{lines[0]}\n  }}', f'  "outcomes": {{\n{lines[1]}\n  }}']
+    IMPLEMENTATIONS.write_text("{\n" + ",\n".join(parts) + "\n}\n")
 
 
-def assert_scores(name: str, found: Mapping[str, Outcome], is_writing: bool) -> None:
+def assert_scores(name: str, toolchain: str, found: Run, is_writing: bool) -> None:
     """A codec's scores are as they are stored, and it agrees on the cases that say so."""
-    disagreeing = [it.id for it in CASES if name in it.case["derived"] and found[it.id].word != "as stated"]
-    stored = wrong_row(name, found, is_writing), wrong_implementations(name, found, is_writing)
-    for wrong in (*stored, none_of(disagreeing)):
+    outcomes = found.outcomes
+    disagreeing = [id for id, it in GIVEN.items() if name in it["derived"] and outcomes[id].word != "as stated"]
+    stored = wrong_implementations(name, toolchain, outcomes, is_writing)
+    for wrong in (wrong_row(name, row(name, found), is_writing), stored, none_of(disagreeing)):
         assert not wrong, wrong

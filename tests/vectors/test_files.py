@@ -2,21 +2,30 @@
 
 import json
 import re
+import subprocess
+from collections import Counter
 from pathlib import Path
+from typing import Any
 
 import jsonschema
 import pytest
+from comparing import text_of
 from dependencies import TOP
+from families import layout
 
 from tests.model.json_format import json_of
 from tests.model.encoding import Unread, extent, read, write
 from tests.model.tables import VERSIONS, delivered, first_problem, parts
-from tests.vectors.cases import CASES, FILES, IDS, PROBLEMS, SCHEMA, VECTORS, Case, none_of
+from tests.rabbitmq.broker import PYTHON
+from tests.vectors.cases import CASES, DEEP, EVERY, FILES, PROBLEMS, SCHEMA, VECTORS, Case, none_of
+from tests.vectors.profiles import PROFILES, decision, flags_of, same
 
 pytestmark = pytest.mark.usefixtures("deep")
 # No limit on depth.
 ANY_DEPTH = 10_000
-MOST_LINES = {".py": 40, ".rs": 40, ".go": 62}
+MOST_LINES = {".py": 40, ".rs": 40, ".go": 63}
+# What is equal to no value of a case.
+NO_VALUE = {"$": 0}
 
 
 @pytest.mark.parametrize("file", FILES, ids=lambda it: str(it.stem))
@@ -32,14 +41,77 @@ def test_schema_is_one() -> None:
 
 def test_each_case_is_stated_once() -> None:
     """No id comes twice, and no bytes in the same form."""
-    repeated = [it for at, it in enumerate(IDS) if it in IDS[:at]]
-    given = [(it.data, it.is_table) for it in CASES]
-    assert (repeated, [it.id for at, it in enumerate(CASES) if given[at] in given[:at]]) == ([], [])
+    ids, given = Counter(it.id for it in EVERY), Counter((it.data, it.is_table) for it in EVERY)
+    assert [it.id for it in EVERY if ids[it.id] > 1 or given[it.data, it.is_table] > 1] == []
+
+
+def test_flags() -> None:
+    """A case has the flags of what its bytes have, in the order of their names, and README.md explains each flag."""
+    flags = {it.id: flags_of(it.data, it.is_table, it.result.get("rest", 0)) for it in EVERY}
+    assert none_of([f"{it.id}: {flags[it.id]}" for it in EVERY if it.case["flags"] != flags[it.id]]) == ""
+    listed = json.loads(SCHEMA.read_text())["definitions"]["flag"]["enum"]
+    explained = re.findall(r"(?m)^\| `([a-z-]+)` \|", section("Flags"))
+    assert explained == listed and {*listed} == {flag for it in EVERY for flag in it.case["flags"]}
+
+
+def section(name: str) -> str:
+    """A section of README.md."""
+    _, found, text = (VECTORS / "README.md").read_text().partition(f"\n### {name}\n")
+    assert found
+    return re.split(r"\n##", text)[0]
+
+
+@pytest.mark.parametrize("profile", PROFILES)
+def test_expected(profile: str) -> None:
+    """Each profile decides as its own reader does."""
+    wrong = []
+    for it in EVERY:
+        if it.file == DEEP:
+            assert it.case["expected"][profile] == "undecided"
+            continue
+        value = json.loads(text_of(it.result)) if "rest" in it.result else NO_VALUE
+        found = decision(it.data, it.is_table, it.result.get("rest", 0), profile, value)
+        wrong += [] if same(found, it.case["expected"][profile]) else [f"{it.id}: {found}"]
+    assert none_of(wrong) == ""
+
+
+def test_expected_is_what_rabbitmq_does() -> None:
+    """What its profile accepts RabbitMQ delivers, and for what its profile rejects it closes the connection."""
+    wrong, word = [], {"reject": "closes", "undecided": ""}
+    for it in CASES:
+        expected: Any = it.case["expected"]["rabbitmq"]
+        wanted = "delivers" if isinstance(expected, dict) else word.get(expected, "delivers")
+        wrong += [it.id for did in it.case.get("rabbitmq", {}).values() if wanted and wanted not in did]
+    assert none_of(wrong) == ""
+
+
+def test_repeats() -> None:
+    """A case names another that is the same in a table, and no two that don't are the same."""
+    by_id = {it.id: it for it in EVERY}
+    for it in EVERY:
+        first = by_id[it.case.get("repeats", it.id)]
+        assert first.headers == it.headers and "repeats" not in first.case, it.id
+    given = [it.headers for it in EVERY if "repeats" not in it.case]
+    assert len({*given}) == len(given)
+
+
+def test_canonical_is_same_where_it_is() -> None:
+    """`same` stands where the canonical encoding is that of the case."""
+    assert none_of([it.id for it in CASES if it.case.get("canonical") == it.encoding.hex()]) == ""
+
+
+def test_families(tmp_path: Path) -> None:
+    """The regular files are those that families.py writes, and every file has its layout."""
+    subprocess.run([PYTHON, "-B", VECTORS / "families.py", tmp_path], check=True)
+    written = sorted(tmp_path.glob("*.json"))
+    assert written and [it.name for it in written if it.read_text() != (VECTORS / "cases" / it.name).read_text()] == []
+    found = {it: json.loads(it.read_text()) for it in FILES}
+    assert [it.name for it in FILES if layout(**found[it]) != it.read_text()] == []
 
 
 def test_pages_have_the_number_of_cases() -> None:
-    assert f"These are {len(CASES)} encodings" in (VECTORS / "README.md").read_text()
-    assert f"`vectors/` has {len(CASES)} cases" in (TOP / "CHANGELOG.md").read_text()
+    assert f"These are {len(EVERY)} encodings" in (VECTORS / "README.md").read_text()
+    assert f"`vectors/` has {len(EVERY)} cases" in (TOP / "CHANGELOG.md").read_text()
 
 
 def outcome(data: bytes) -> tuple[object, bytes | None]:
@@ -73,6 +145,8 @@ def test_model_of_rabbitmq(version: str) -> None:
     """The model predicts what RabbitMQ does with each case, and by which entry of a repeated key it routes."""
     wrong = []
     for it in CASES:
+        if "rabbitmq" not in it.case:
+            continue
         is_taken = extent(it.headers[:5]) == len(it.headers) and not first_problem(it.headers, depth=ANY_DEPTH)
         back = delivered(version, it.headers) if is_taken else None
         keys = [key for key, _ in parts(it.headers)] if is_taken else []
@@ -83,6 +157,7 @@ def test_model_of_rabbitmq(version: str) -> None:
 
 
 def test_length_of_programs() -> None:
-    """The runner and the adapters are short, as is said of them; Go takes more lines."""
-    programs = [VECTORS / "run.py", *(VECTORS / "adapters").glob("*.*")]
-    assert not [it.name for it in programs if len(it.read_text().splitlines()) > MOST_LINES[it.suffix]]
+    """The adapters are short; Go takes more lines."""
+    assert not [
+        it.name for it in (VECTORS / "adapters").glob("*.*") if len(it.read_text().splitlines()) > MOST_LINES[it.suffix]
+    ]

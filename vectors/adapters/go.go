@@ -1,4 +1,5 @@
-// Prints the table on standard input, as program.py reads it, by amqp091-go: as the properties of a server.
+// Prints the table on standard input, as program.py reads it, by amqp091-go: as the properties of a server. It is built with
+// CGO_ENABLED=0: with cgo it needs more memory, and other cases crash.
 package main
 
 import (
