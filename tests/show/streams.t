@@ -81,3 +81,28 @@ no_type_tag_stream_json
   $ echo 00000007 0161 7401 0162 56 | xxd -r -p | amqp_show --stream --json
   2> amqp_show: "-": offset 0: a type tag is expected; 00 is none
   [1]
+
+stream_of_lines
+  $ printf '7401\n4600000003016156\n56\n' | amqp_show --hex --stream --json
+  true
+  {"a":null}
+  null
+
+stream_of_lines_cut
+  $ printf '460000000401617401\n46000000040161\n460000000401627401\n' | amqp_show --hex --stream --json
+  {"a":true}
+  2> amqp_show: "-": line 2 ends inside a value, while other lines are whole values
+  [2]
+
+stream_of_lines_cut_at_first
+  $ printf '46000000040161\n460000000401627401\n' | amqp_show --hex --stream --json
+  2> amqp_show: "-": line 1 ends inside a value, while other lines are whole values
+  [2]
+
+stream_of_wrapped_lines
+  $ printf '4600000003016156\n4600000008016173\n0001016256740156\n56\n' | amqp_show --hex --stream --json
+  {"a":null}
+  {"a":{"$ShortInt":1},"b":null}
+  true
+  null
+  null

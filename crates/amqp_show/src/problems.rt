@@ -160,8 +160,8 @@ fn value_in_container<'a>(
     Some((type_of(there)?, there))
 }
 
-// The key at the beginning of a pair.
-fn key_of(pair: &[u8]) -> &[u8] {
+/// The key at the beginning of a pair.
+pub fn key_of(pair: &[u8]) -> &[u8] {
     match pair {
         [len, after @ ..] => after.get(..usize::from(*len)).unwrap_or(after),
         [] => &[],

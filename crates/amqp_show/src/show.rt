@@ -7,8 +7,8 @@ ghost use Rattle.amqp_in_place.specs.ProblemResults.{FindsValue};
 use crate::arguments::{Form, Settings};
 use crate::check::push_check;
 use crate::decode::show_json;
-use crate::fault::{Result, Status};
-use crate::hexadecimal::is_hexadecimal;
+use crate::fault::{Fault, Result, Status};
+use crate::hexadecimal::{NotHexadecimal, is_hexadecimal};
 use crate::input::{BLOCK, Input};
 use crate::messages::{bytes_text, complain, push_outcome, push_remark};
 use crate::parts::{Note, Part, parts_of, type_of};
@@ -49,31 +49,59 @@ fn show_first(
     screen: &mut Screen,
     file: &str,
     input: &mut Input,
-    settings: Settings,
+    mut settings: Settings,
 ) -> Result<Status> {
     if let Some(hint) = hint(input, settings)? {
         complain(rt, file, hint)?;
         return Ok(Status::Rejected);
     }
-    let is_table = is_untagged_table(input, settings)?;
-    let bytes = input.next_value(settings.limits.frame)?;
-    let len = bytes.len();
-    let status = show_value(rt, screen, file, bytes, settings)?;
-    screen.print(rt)?;
-    if is_table {
+    let most = settings.limits.frame as usize;
+    let is_read = settings.is_table || type_of(input.up_to(1)?).is_some();
+    if !is_read && begins_table(input.up_to(most)?) {
         complain(
             rt,
             file,
-            "the input seems to be a table without its type tag; --table reads it",
+            "read as a table without its type tag, as with --table",
         )?;
+        settings.is_table = true;
+        input.put(b'F')?;
     }
-    if status == Status::Read && input.up_to(len.saturating_add(1))?.len() > len {
+    let len = input.next_value(settings.limits.frame)?.len();
+    // (what follows may be no hexadecimal, which is reported after the value)
+    let ahead = input.up_to(len.saturating_add(1)).map(|bytes| bytes.len());
+    check_line(input, len, settings)?;
+    let status = show_value(rt, screen, file, input.up_to(len)?, settings)?;
+    screen.print(rt)?;
+    if status == Status::Read && ahead? > len {
         let hint = if settings.is_table { "" } else { MORE_VALUES };
         let offset = settings.offset(len);
         let why = format!(in rt.alloc(); "more bytes follow, from offset {offset}{hint}")?;
         complain(rt, file, why.as_str())?;
     }
     Ok(status)
+}
+
+// Whether the line of hexadecimal at which a value of so many bytes begins isn't a part of it, but a value by itself,
+// or the line after it is one.
+fn check_line(input: &Input, len: usize, settings: Settings) -> Result<()> {
+    match input.line() {
+        Some((line, end, after)) if end == len && !after.is_empty() => {
+            Err(Fault::NotHexadecimal(NotHexadecimal::Lines(line)))
+        }
+        Some((line, end, after)) if end < len && is_whole(after, settings) => {
+            Err(Fault::NotHexadecimal(NotHexadecimal::LineCut(line)))
+        }
+        _ => Ok(()),
+    }
+}
+
+// Whether all of the bytes are one value.
+fn is_whole(bytes: &[u8], settings: Settings) -> bool {
+    if settings.is_table {
+        let read = read_table_in_place(bytes, settings.limits);
+        return matches!(read, Ok((_, rest)) if rest.is_empty());
+    }
+    matches!(read_in_place(bytes, settings.limits), Ok((_, rest)) if rest.is_empty())
 }
 
 // What an input is instead that doesn't begin with a value.
@@ -99,14 +127,20 @@ fn hint(input: &mut Input, settings: Settings) -> Result<Option<&'static str>> {
     })
 }
 
-// Whether the whole input is a table without its type tag, but isn't read as one.
-fn is_untagged_table(input: &mut Input, settings: Settings) -> Result<bool> {
-    if settings.is_table || !matches!(input.up_to(1)?, [0]) {
-        return Ok(false);
-    }
-    let bytes = input.up_to(settings.limits.frame as usize)?;
-    let read = read_table_in_place(bytes, settings.limits);
-    Ok(matches!(read, Ok((_, rest)) if rest.is_empty()))
+// Whether bytes that don't begin with a value begin with a table without its type tag: one of the length that
+// there is, or one whose first value has a type tag, as far as it is there.
+fn begins_table(bytes: &[u8]) -> bool {
+    let [0, b, c, d, body @ ..] = bytes else {
+        return false;
+    };
+    let len = u32::from_be_bytes([0, *b, *c, *d]) as usize;
+    let value = match body {
+        [count, after @ ..] => after.get(usize::from(*count)..).unwrap_or(&[]),
+        [] => &[],
+    };
+    len == body.len()
+        || (len > 0 && type_of(value).is_some())
+        || (len > body.len() && value.is_empty())
 }
 
 // Shows the values of a stream up to the first that is rejected. What is added to the screen is
@@ -118,16 +152,25 @@ fn show_stream(
     mut input: Input,
     mut settings: Settings,
 ) -> Result<Status> {
+    // whether each line of hexadecimal was a value, and how many bytes the last had
+    let (mut are_values, mut last) = (true, 0);
     for _ in 0..u64::MAX {
         if screen.len() >= BLOCK || !input.has_next() {
             screen.print(rt)?;
         }
-        let bytes = input.next_value(settings.limits.frame)?;
-        if bytes.is_empty() {
+        let len = input.next_value(settings.limits.frame)?.len();
+        if len == 0 {
             break;
         }
-        let len = bytes.len();
-        let status = show_value(rt, screen, file, bytes, settings)?;
+        if let Some((line, end, after)) = input.line() {
+            let is_cut = are_values && last > 0 && last != end || is_whole(after, settings);
+            if end < len && is_cut {
+                return Err(Fault::NotHexadecimal(NotHexadecimal::LineCut(line)));
+            }
+            are_values = are_values && end == len;
+            last = end;
+        }
+        let status = show_value(rt, screen, file, input.up_to(len)?, settings)?;
         if status == Status::Rejected {
             return Ok(status);
         }
