@@ -162,15 +162,15 @@ dump_of_tshark
 
 lines_of_tables
   $ printf '00000003016156\n000000030162ff\n' | amqp_show --hex --table --check rabbitmq
-  2> amqp_show: "-": line 1 is a whole value, and another line follows: give it one line
+  2> amqp_show: "-": line 1 is a whole value, and another line follows: --lines reads a value from each
   [2]
 
 lines_after_a_comment
   $ printf '# two values\n\n7401\n# the second\n7400\n' | amqp_show --hex
-  2> amqp_show: "-": line 3 is a whole value, and another line follows: give it one line
+  2> amqp_show: "-": line 3 is a whole value, and another line follows: --lines reads a value from each
   [2]
 
 lines_of_which_the_first_is_cut
   $ printf '46000000040161\n460000000401627401\n' | amqp_show --hex
-  2> amqp_show: "-": line 1 ends inside a value, while other lines are whole values
+  2> amqp_show: "-": line 1 ends inside a value, while other lines are whole values: --lines reads each by itself
   [2]

@@ -106,6 +106,7 @@ no_type_tag_stream
   "\u0000" (not decoded)
   ! offset 0: a type tag is expected; 00 is none
   = at 0: malformed
+  2> amqp_show: "-": the input seems to be tables without their type tags; --table reads them
   [1]
 
 type_tag_with_table

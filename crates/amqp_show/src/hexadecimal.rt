@@ -2,6 +2,7 @@
 //! side, with `0x` or `\x` right before them or nothing; between bytes may be white space, `,`,
 //! `:`, and comments from `#` to the end of the line.
 
+use std::alloc::AllocError;
 use thiserror::Error;
 
 /// Why a text isn't hexadecimal.
@@ -35,10 +36,10 @@ pub enum NotHexadecimal {
     #[error("a dump of tshark: `cut -c 7-53 FILE | amqp_show --hex` reads its bytes, of which a packet's headers are the first")]
     Tshark,
     /// More lines follow one that is a value.
-    #[error("line {0} is a whole value, and another line follows: give it one line")]
+    #[error("line {0} is a whole value, and another line follows: --lines reads a value from each")]
     Lines(u64),
     /// A line ends inside a value, while others end with one.
-    #[error("line {0} ends inside a value, while other lines are whole values")]
+    #[error("line {0} ends inside a value, while other lines are whole values: --lines reads each by itself")]
     LineCut(u64),
     /// It is a dump of hexdump -C, whose offsets would be taken for bytes.
     #[error("a dump of hexdump -C: `cut -c 11-58 FILE | amqp_show --hex` reads it")]
@@ -70,11 +71,11 @@ pub struct Decoder {
 }
 
 impl Decoder {
-    /// Nothing yet.
-    pub fn new() -> Self {
+    /// Nothing yet of a text that begins at this line.
+    pub fn new(line: u64) -> Self {
         Decoder {
             state: State::Between,
-            line: 1,
+            line,
             column: 0,
         }
     }
@@ -168,15 +169,37 @@ fn with_offsets(text: &[u8]) -> Option<NotHexadecimal> {
 fn number(digits: &[u8], base: u64) -> u64 {
     let mut number = 0u64;
     for digit in digits {
-        let digit = value_of(*digit).map_or(u64::MAX, u64::from);
-        number = number.saturating_mul(base).saturating_add(digit);
+        let digit = value_of(*digit)
+            .map(u64::from)
+            .filter(|digit| *digit < base);
+        number = number
+            .saturating_mul(base)
+            .saturating_add(digit.unwrap_or(u64::MAX));
     }
     number
 }
 
+/// Adds the bytes that a line spells to others, or returns why it spells none.
+pub fn push_bytes(
+    bytes: &mut Vec<u8>,
+    text: &[u8],
+    line: u64,
+) -> Result<Option<NotHexadecimal>, AllocError> {
+    let mut decoder = Decoder::new(line);
+    for character in text {
+        match decoder.take(*character) {
+            Ok(Some(byte)) => bytes.push(byte)?,
+            Ok(None) => {}
+            Err(fault) => return Ok(Some(fault)),
+        }
+    }
+    // (what isn't finished at the end of a line never is)
+    Ok(decoder.take(b'\n').err())
+}
+
 /// Whether the bytes are themselves a text that spells some.
 pub fn is_hexadecimal(text: &[u8]) -> bool {
-    let mut decoder = Decoder::new();
+    let mut decoder = Decoder::new(1);
     let mut has_bytes = false;
     for character in text {
         match decoder.take(*character) {

@@ -3,8 +3,8 @@
 
 use crate::fault::{Fault, Result};
 use crate::hexadecimal::{Decoder, NotHexadecimal, dump_of};
-use amq_protocol_types::parsing::SliceInput;
 use amq_protocol_types::parsing::header::value_len;
+use amq_protocol_types::parsing::{SliceInput, SplitInput};
 use std::alloc::AllocError;
 use std::collections::VecDeque;
 use std::fs::File;
@@ -58,7 +58,7 @@ impl Input {
         };
         Ok(Input {
             source,
-            decoder: is_hexadecimal.then(Decoder::new),
+            decoder: is_hexadecimal.then_some(Decoder::new(1)),
             block: vec![in rt.alloc(); 0; BLOCK]?,
             bytes: Vec::new(rt.alloc()),
             start: 0,
@@ -83,8 +83,8 @@ impl Input {
         Ok(())
     }
 
-    // The bytes that were read and aren't done with.
-    fn there(&self) -> &[u8] {
+    /// The bytes that were read and aren't done with.
+    pub fn there(&self) -> &[u8] {
         self.bytes.get(self.start..).unwrap_or(&[])
     }
 
@@ -111,10 +111,30 @@ impl Input {
         Ok(there.get(..len).unwrap_or(there))
     }
 
-    /// Whether the next value is there, so that it needn't be awaited.
-    pub fn has_next(&self) -> bool {
+    /// Whether the next value is there, after a type tag that is put before it, so that it needn't be awaited.
+    pub fn has_next(&self, tag: &[u8]) -> bool {
         let there = self.there();
-        !there.is_empty() && value_len(SliceInput::new(there)) <= there.len()
+        let len = there.len().saturating_add(tag.len());
+        !there.is_empty() && value_len(SplitInput::new(tag, there)) <= len
+    }
+
+    /// How many bytes the next line has with its end, or so many that it has more than `most`.
+    pub fn line_len(&mut self, most: usize) -> Result<usize> {
+        let mut from = 0;
+        for _ in 0..u64::MAX {
+            let there = self.there();
+            let len = there.len();
+            let line = there.get(from..).unwrap_or(&[]);
+            if let Some(end) = line.iter().position(|c| *c == b'\n') {
+                return Ok(from.saturating_add(end).saturating_add(1));
+            }
+            self.fill(len.saturating_add(1))?;
+            if len > most || self.there().len() == len {
+                return Ok(len);
+            }
+            from = len;
+        }
+        Ok(from)
     }
 
     /// Is done with that many bytes.

@@ -23,23 +23,37 @@ use std::alloc::{AllocError, Global};
 
 const MORE_VALUES: &str = "; --stream shows values one after another";
 
+/// What is said of a table that has a type tag.
+pub const HAS_TAG: &str = "the input seems to have a type tag; without --table it is read";
+
+/// What is said of bytes that are read as a table.
+pub const AS_TABLE: &str = "read as a table without its type tag, as with --table";
+
+const ARE_TABLES: &str = "the input seems to be tables without their type tags; --table reads them";
+
 /// Shows the value at the beginning of a file, or each of a stream.
 pub fn show_file(rt: &HostRuntime, file: &str, settings: Settings) -> Result<Status> {
     let mut input = Input::open(rt, file, settings.hex)?;
-    if settings.is_table {
-        input.put(b'F')?;
-    }
-    let mut screen = Screen::new(rt.alloc(), settings.colours);
-    if file != "-" && settings.form != Form::Json {
-        screen.push(file)?;
-        screen.push_line(":")?;
-    }
+    let mut screen = begin(rt, file, settings)?;
     if settings.is_stream {
         let shown = show_stream(rt, &mut screen, file, input, settings);
         screen.print(rt)?;
         return shown;
     }
+    if settings.is_table {
+        input.put(b'F')?;
+    }
     show_first(rt, &mut screen, file, &mut input, settings)
+}
+
+/// What is shown of a file first: its name, if it has one.
+pub fn begin(rt: &HostRuntime, file: &str, settings: Settings) -> Result<Screen> {
+    let mut screen = Screen::new(rt.alloc(), settings.colours);
+    if file != "-" && settings.form != Form::Json {
+        screen.push(file)?;
+        screen.push_line(":")?;
+    }
+    Ok(screen)
 }
 
 // Shows the value at the beginning of an input, and reports that more bytes follow; or reports what the
@@ -58,11 +72,7 @@ fn show_first(
     let most = settings.limits.frame as usize;
     let is_read = settings.is_table || type_of(input.up_to(1)?).is_some();
     if !is_read && begins_table(input.up_to(most)?) {
-        complain(
-            rt,
-            file,
-            "read as a table without its type tag, as with --table",
-        )?;
+        complain(rt, file, AS_TABLE)?;
         settings.is_table = true;
         input.put(b'F')?;
     }
@@ -108,11 +118,7 @@ fn is_whole(bytes: &[u8], settings: Settings) -> bool {
 fn hint(input: &mut Input, settings: Settings) -> Result<Option<&'static str>> {
     let most = settings.limits.frame;
     if settings.is_table {
-        // (after the type tag that was put there; if it began a length, that would be beyond the limits)
-        let has_tag = matches!(input.up_to(2)?, b"FF") && most < 0x4600_0000;
-        return Ok(has_tag.then_some(
-            "the input seems to have a type tag; without --table it is read",
-        ));
+        return Ok(has_tag(input.up_to(2)?, settings).then_some(HAS_TAG));
     }
     if type_of(input.up_to(1)?).is_some() {
         return Ok(None);
@@ -127,9 +133,15 @@ fn hint(input: &mut Input, settings: Settings) -> Result<Option<&'static str>> {
     })
 }
 
-// Whether bytes that don't begin with a value begin with a table without its type tag: one of the length that
-// there is, or one whose first value has a type tag, as far as it is there.
-fn begins_table(bytes: &[u8]) -> bool {
+/// Whether a table has a type tag after the one that was put there. (If it began a length, that would be beyond the
+/// limits.)
+pub fn has_tag(bytes: &[u8], settings: Settings) -> bool {
+    bytes.starts_with(b"FF") && settings.limits.frame < 0x4600_0000
+}
+
+//// Whether bytes that don't begin with a value begin with a table without its type tag: one of the length that
+/// there is, or one whose first value has a type tag, as far as it is there.
+pub fn begins_table(bytes: &[u8]) -> bool {
     let [0, b, c, d, body @ ..] = bytes else {
         return false;
     };
@@ -154,9 +166,13 @@ fn show_stream(
 ) -> Result<Status> {
     // whether each line of hexadecimal was a value, and how many bytes the last had
     let (mut are_values, mut last) = (true, 0);
+    let tag: &[u8] = if settings.is_table { b"F" } else { b"" };
     for _ in 0..u64::MAX {
-        if screen.len() >= BLOCK || !input.has_next() {
+        if screen.len() >= BLOCK || !input.has_next(tag) {
             screen.print(rt)?;
+        }
+        if settings.is_table && !input.up_to(1)?.is_empty() {
+            input.put(b'F')?;
         }
         let len = input.next_value(settings.limits.frame)?.len();
         if len == 0 {
@@ -172,16 +188,21 @@ fn show_stream(
         }
         let status = show_value(rt, screen, file, input.up_to(len)?, settings)?;
         if status == Status::Rejected {
+            if !settings.is_table && begins_table(input.there()) {
+                screen.print(rt)?;
+                complain(rt, file, ARE_TABLES)?;
+            }
             return Ok(status);
         }
         input.pass(len);
-        settings.start = settings.start.saturating_add(len as u64);
+        let len = len.saturating_sub(settings.left_out()) as u64;
+        settings.start = settings.start.saturating_add(len);
     }
     Ok(Status::Read)
 }
 
-// Shows the value of these bytes, or why it is rejected.
-fn show_value(
+/// Shows the value of these bytes, or why it is rejected.
+pub fn show_value(
     rt: &HostRuntime,
     screen: &mut Screen,
     file: &str,
