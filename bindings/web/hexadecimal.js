@@ -12,13 +12,29 @@ const DUMPS = [
         + "reads its bytes, of which a packet's headers are the first"],
     [/^0000 {3}/, "a dump of Wireshark: copy the bytes of the table as a hex stream, which --hex reads"],
     [/^00000000 {2}/, "a dump of hexdump -C: `cut -c 11-58 FILE | amqp_show --hex` reads it"],
+    [/^(?:[^\n]*\n){0,2}0000 {2}/, "a dump of tshark: `cut -c 7-53 FILE | amqp_show --hex` reads its bytes, of which "
+        + "a packet's headers are the first"],
 ];
+const OD = "a dump of od: `cut -sd ' ' -f 2- FILE | amqp_show --hex` reads it";
+const WORDS = "a dump of two-byte words, whose bytes od and hexdump swap: `od -An -v -tx1 FILE` makes one that --hex "
+    + "reads";
+
+// What a text is that begins with zeros, and whose second line begins with the number of bytes after them.
+function withOffsets(text) {
+    const [, zeros, words, next] = /^(0{4,})( [^\n]*)\n([^\n]*)/.exec(text) ?? [];
+    const count = Math.floor((words ?? "").replace(/[^\da-f]/gi, "").length / 2), end = next?.slice(0, zeros.length);
+    const isNext = count && end.length === zeros.length
+        && [[16, /^[\da-f]+$/i], [10, /^\d+$/], [8, /^[0-7]+$/]].some(([base, form]) =>
+            form.test(end) && parseInt(end, base) === count);
+    return isNext ? words.split(" ").some((it) => it.length > 2) ? WORDS : OD : null;
+}
 
 // Returns the bytes, or why there are none.
 export function readHexadecimal(text) {
     const dump = DUMPS.find(([begins]) => begins.test(text)), bytes = new Uint8Array(text.length >> 1);
-    if (dump) {
-        return { fault: dump[1] };
+    const fault = dump?.[1] ?? withOffsets(text);
+    if (fault) {
+        return { fault };
     }
     let at = 0, count = 0;
     const take = (pattern) => {

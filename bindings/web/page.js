@@ -2,10 +2,10 @@
 import { AMQPV } from "./header.js";
 import { readHexadecimal } from "./hexadecimal.js";
 import { Module } from "./module.js";
-import { read } from "./reading.js";
+import { beginsTable, read } from "./reading.js";
 import { readText } from "./text.js";
-import { failure, hexadecimal, indentation, jsonText, keyText, outcome, rabbitmqText, repeated, rowParts, treeLines,
-} from "./words.js";
+import { copies, failure, hexadecimal, indentation, jsonText, keyText, outcome, rabbitmqText, repeated, rowParts,
+    treeLines } from "./words.js";
 
 // The height of a line, and of the tallest element, in pixels; how many bytes of a string a row shows, how many are
 // typed, and how many a link has. For more levels a call's stack might not suffice.
@@ -139,20 +139,16 @@ function toggle(row) {
     fold();
 }
 
-// Reads the bytes, and shows what was read. What is no value, as a whole, may be a table without its type tag, and
-// what is no table one with it.
+// Reads the bytes, and shows what was read. What begins as a table without its type tag is read as one, unless it is to
+// be a value; what is to be a table may have its type tag.
 function show() {
     const { module } = now, form = $("form").value, isTable = form === "table";
     const limit = (id, most) => Math.max(0, Math.min(most, Math.trunc(Number($(id).value))));
     const how = { frame: limit("frame", 0xffffffff), depth: limit("depth", MOST_LEVELS) };
     Object.assign(now, { closed: new Set(), row: 0, byte: -1, width: innerWidth > 800 ? 16 : 8 });
     try {
-        const first = read(module, now.bytes, { ...how, isTable });
-        const mayBeOther = first.code === AMQPV.UNKNOWN_TAG || first.code !== AMQPV.OK && isTable;
-        const other = mayBeOther && read(module, now.bytes, { ...how, isTable: !isTable });
-        const isOther = mayBeOther && other.count === other.data.length && other.rows.tag[1] === AMQPV.TABLE
-            && other.code === AMQPV.OK;
-        now.reading = isOther && form === "any" ? other : first;
+        const isOther = isTable ? now.bytes[0] === AMQPV.TABLE && now.bytes[1] === 0 : beginsTable(module, now.bytes);
+        now.reading = read(module, now.bytes, { ...how, isTable: isTable || isOther && form === "any" });
         now.bytes.length ? tell(isOther && form !== "any" ? OTHER[Number(isTable)] : "") : complain("");
     } catch (error) {
         module.renew();
@@ -192,12 +188,14 @@ function complain(why) {
 // Says what came of reading.
 function tell(note) {
     const { reading, reading: { rows, shift, code, count, data, rabbitmq, isCanonical } } = now;
-    const again = repeated(reading), [at, why] = failure(reading) ?? [], said = rabbitmqText(reading);
+    const again = repeated(reading), copied = copies(reading), [at, why] = failure(reading) ?? [];
+    const said = rabbitmqText(reading);
     const notes = [
         now.how,
         shift && $("form").value === "any" ? "read as a table without its type tag" : "",
         note,
         rabbitmq ? jump(said, Math.max(0, rabbitmq.offset - shift)) : said,
+        copied && jump(copied[1], rows.start[copied[0]] - shift),
         again && jump(again[1], rows.start[again[0]] - shift),
         code === AMQPV.OK && count < data.length ? `more bytes follow, from offset ${count - shift}` : "",
         why ? "" : isCanonical ? "canonical" : "not canonical"];
@@ -351,5 +349,5 @@ function start() {
 
 start();
 // For the console, and for tests.
-globalThis.amqp = { compile, failure, hexadecimal, jsonText, now, outcome, partOf, put, rabbitmqText, read,
+globalThis.amqp = { beginsTable, compile, failure, hexadecimal, jsonText, now, outcome, partOf, put, rabbitmqText, read,
     readHexadecimal, readText, repeated, treeLines };

@@ -130,6 +130,16 @@ function markRepeated({ data, rows }) {
     }
 }
 
+// Whether bytes that are no value begin as a table without its type tag, as amqp_show decides it: one of the length
+// that there is, or one whose first value has a type tag, as far as it is there.
+export function beginsTable(module, bytes) {
+    const [first, , , , count = 0] = bytes, value = bytes.subarray(5 + count), rest = bytes.length - 4;
+    const size = rest < 0 ? 0 : new DataView(bytes.buffer, bytes.byteOffset).getUint32(0);
+    module.load(new Uint8Array());
+    return first === 0 && rest >= 0 && (size === rest || size > rest && !value.length
+        || size > 0 && value.length > 0 && Boolean(module.number([value[0]])));
+}
+
 // Reads the value at the start of some bytes, or the table without its type tag, within limits. Offsets count from
 // `data`, which has that type tag, `shift` bytes before the others.
 export function read(module, bytes, { isTable = false, frame = AMQPV.MAX_BYTES, depth = AMQPV.MAX_DEPTH } = {}) {

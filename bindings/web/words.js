@@ -147,18 +147,33 @@ export function outcome({ code, count, shift, failed }) {
             : code === AMQPV.MORE ? `truncated; more bytes needed: ${count}` : "malformed";
 }
 
-// Those that were tried.
-const VERSIONS = "RabbitMQ 3.10.8 and 4.0.5";
+// Those that were tried; and the most bytes of headers and of arguments, without the type tag, that fit their frames.
+const VERSIONS = "RabbitMQ 3.10.8 and 4.0.5", HEADERS = 131058, ARGUMENTS = 131064;
 
 // Whether RabbitMQ closes the connection, and why; nothing of truncated bytes.
 export function rabbitmqText(reading) {
-    const { code, rabbitmq } = reading;
-    if (!rabbitmq) {
+    const { code, rabbitmq, count, shift } = reading, size = count - 1;
+    if (!rabbitmq && code === AMQPV.OK && size > HEADERS) {
+        return `${VERSIONS} close the connection: without its type tag the ${shift ? "table" : "value"} has ${size} `
+            + `bytes; a frame of the usual 131072 takes ${HEADERS} as headers without other properties, and `
+            + `${ARGUMENTS} as arguments of a queue without a name`;
+    } else if (!rabbitmq) {
         return code === AMQPV.MORE ? "" : `${VERSIONS} accept it`;
     }
     const [at, why] = problemText(reading, rabbitmq);
     return isBeyondLimits(rabbitmq) ? "not checked for RabbitMQ beyond the limits"
         : `${VERSIONS} close the connection: offset ${at}: ${why}`;
+}
+
+// Of the first CC or BCC of headers that is no array the row and a line, or null.
+export function copies(reading) {
+    const { code, rows, shift } = reading, seen = new Set(), row = rows.parent.findIndex((it, row) => {
+        const key = it === 1 && row && rows.isPair(row) ? keyText(reading, row) : "", isNew = key && !seen.has(key);
+        seen.add(key);
+        return isNew && rows.tag[row] !== AMQPV.ARRAY && /^"B?CC"$/.test(key);
+    });
+    return row < 0 || code !== AMQPV.OK ? null : [row, `offset ${rows.start[row] - shift}: the key `
+        + `${keyText(reading, row)} has no array; in headers RabbitMQ closes the channel (406) for it`];
 }
 
 // Of the first key that comes again in its table the row and a line, or null.

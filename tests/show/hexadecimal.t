@@ -126,3 +126,51 @@ line_of_a_log
   $ echo 12:34 headers=460000 | amqp_show --hex
   2> amqp_show: "-": line 1, column 7: a byte of two hexadecimal digits is expected
   [2]
+
+dump_of_od
+  $ amqp_show --hex --table <<'END'
+  > 000000 00 00 00 15 01 61 53 00 00 00 09 61 62 63 64 65
+  > 000010 66 67 68 69 01 62 56
+  > 000017
+  > END
+  2> amqp_show: "-": a dump of od: `cut -sd ' ' -f 2- FILE | amqp_show --hex` reads it
+  [2]
+
+dump_of_od_in_octal
+  $ printf '0000000 74 01\n0000002\n' | amqp_show --hex
+  2> amqp_show: "-": a dump of od: `cut -sd ' ' -f 2- FILE | amqp_show --hex` reads it
+  [2]
+
+dump_of_words
+  $ printf '000000 0000 1500\n000004\n' | amqp_show --hex
+  2> amqp_show: "-": a dump of two-byte words, whose bytes od and hexdump swap: `od -An -v -tx1 FILE` makes one that --hex reads
+  [2]
+
+words_without_offsets
+  $ printf '0000 0003\n0161 56\n' | amqp_show --hex --table
+  FieldTable
+    "a": Void
+  = a table of 7 bytes
+
+dump_of_tshark
+  $ amqp_show --hex --table <<'END'
+  > 0000  00 00 00 15 01 61 53 00 00 00 09 61 62 63 64 65
+  > 0010  66 67 68 69 01 62 56
+  > END
+  2> amqp_show: "-": a dump of tshark: `cut -c 7-53 FILE | amqp_show --hex` reads its bytes, of which a packet's headers are the first
+  [2]
+
+lines_of_tables
+  $ printf '00000003016156\n000000030162ff\n' | amqp_show --hex --table --check rabbitmq
+  2> amqp_show: "-": line 1 is a whole value, and another line follows: --lines reads a value from each
+  [2]
+
+lines_after_a_comment
+  $ printf '# two values\n\n7401\n# the second\n7400\n' | amqp_show --hex
+  2> amqp_show: "-": line 3 is a whole value, and another line follows: --lines reads a value from each
+  [2]
+
+lines_of_which_the_first_is_cut
+  $ printf '46000000040161\n460000000401627401\n' | amqp_show --hex
+  2> amqp_show: "-": line 1 ends inside a value, while other lines are whole values: --lines reads each by itself
+  [2]

@@ -80,4 +80,60 @@ stream_of_json
 no_type_tag_stream_json
   $ echo 00000007 0161 7401 0162 56 | xxd -r -p | amqp_show --stream --json
   2> amqp_show: "-": offset 0: a type tag is expected; 00 is none
+  2> amqp_show: "-": the input seems to be tables without their type tags; --table reads them
   [1]
+
+stream_of_lines
+  $ printf '7401\n4600000003016156\n56\n' | amqp_show --hex --stream --json
+  true
+  {"a":null}
+  null
+
+stream_of_lines_cut
+  $ printf '460000000401617401\n46000000040161\n460000000401627401\n' | amqp_show --hex --stream --json
+  {"a":true}
+  2> amqp_show: "-": line 2 ends inside a value, while other lines are whole values: --lines reads each by itself
+  [2]
+
+stream_of_lines_cut_at_first
+  $ printf '46000000040161\n460000000401627401\n' | amqp_show --hex --stream --json
+  2> amqp_show: "-": line 1 ends inside a value, while other lines are whole values: --lines reads each by itself
+  [2]
+
+stream_of_wrapped_lines
+  $ printf '4600000003016156\n4600000008016173\n0001016256740156\n56\n' | amqp_show --hex --stream --json
+  {"a":null}
+  {"a":{"$ShortInt":1},"b":null}
+  true
+  null
+  null
+
+stream_of_tables
+  $ echo 00000003 0161 56 00000000 00000004 0162 7401 | xxd -r -p | amqp_show --table --stream
+  FieldTable
+    "a": Void
+  = at 0: a table of 7 bytes
+  FieldTable
+  = at 7: a table of 4 bytes
+  FieldTable
+    "b": Boolean true
+  = at 11: a table of 8 bytes
+
+stream_of_tables_malformed
+  $ echo 00000000 00000003 0161 7a 00000000 | xxd -r -p | amqp_show --table --stream --json
+  {}
+  2> amqp_show: "-": offset 10: a type tag is expected; 7a is none, in "a"
+  [1]
+
+stream_of_tables_cut
+  $ echo 00000003 0161 56 0000 | xxd -r -p | amqp_show --table --stream --check rabbitmq
+  = at 0: RabbitMQ 4.0 accepts it
+  ! offset 9: the input ends inside the FieldTable
+  = at 7: RabbitMQ 4.0 closes the connection; warnings weren't looked for
+  [1]
+
+stream_of_tables_on_lines
+  $ printf '00000003016156\n000000030161\n0000000301617a\n' | amqp_show --table --stream --hex --json
+  {"a":null}
+  2> amqp_show: "-": line 2 ends inside a value, while other lines are whole values: --lines reads each by itself
+  [2]

@@ -70,17 +70,16 @@ table_at_limit
 
 no_type_tag
   $ echo 00000007 0161 7401 0162 56 | xxd -r -p | amqp_show
-  "\u0000" (not decoded)
-  ! offset 0: a type tag is expected; 00 is none
-  = malformed
-  2> amqp_show: "-": the input seems to be a table without its type tag; --table reads it
-  [1]
+  FieldTable
+    "a": Boolean true
+    "b": Void
+  = a table of 11 bytes
+  2> amqp_show: "-": read as a table without its type tag, as with --table
 
 no_type_tag_json
   $ echo 00000007 0161 7401 0162 56 | xxd -r -p | amqp_show --json
-  2> amqp_show: "-": offset 0: a type tag is expected; 00 is none
-  2> amqp_show: "-": the input seems to be a table without its type tag; --table reads it
-  [1]
+  {"a":true,"b":null}
+  2> amqp_show: "-": read as a table without its type tag, as with --table
 
 no_type_tag_of_more_than_255_bytes
   $ xxd -r -p <<'END' | amqp_show
@@ -88,27 +87,83 @@ no_type_tag_of_more_than_255_bytes
   > 303030303030303030303030303030303030303030303030303030303030303030303030303030303030303030303030303030303030303030303030303030303030303030303030303030303030303030303030303030303030303030303030303030303030303030303030303030303030303030303030303030303030
   > 303030303030303030303030303030303030303030303030303030303030303030303030303030303030303030303030303030303030303030303030303030303030303030303030303030303030303030303030303030303030303030303030303030303030303030303030303030303030303030303030303030303030
   > END
-  "\u0000" (not decoded)
-  ! offset 0: a type tag is expected; 00 is none
-  = malformed
-  2> amqp_show: "-": the input seems to be a table without its type tag; --table reads it
-  [1]
+  FieldTable
+    "a": LongString "000000000000000000000000000000000000000000000000000000000000000000000000000000000000000000000000000000000000000000000000000000000000000000000000000000000000000000000000000000000000000000000000000000000000000000000000000000000000000000000000000000000000"
+  = a table of 263 bytes
+  2> amqp_show: "-": read as a table without its type tag, as with --table
 
 no_type_tag_and_more
   $ echo 00000007 0161 7401 0162 56 56 | xxd -r -p | amqp_show
-  "\u0000" (not decoded)
-  ! offset 0: a type tag is expected; 00 is none
-  = malformed
-  [1]
+  FieldTable
+    "a": Boolean true
+    "b": Void
+  = a table of 11 bytes
+  2> amqp_show: "-": read as a table without its type tag, as with --table
+  2> amqp_show: "-": more bytes follow, from offset 11
 
 no_type_tag_stream
   $ echo 00000007 0161 7401 0162 56 | xxd -r -p | amqp_show --stream
   "\u0000" (not decoded)
   ! offset 0: a type tag is expected; 00 is none
   = at 0: malformed
+  2> amqp_show: "-": the input seems to be tables without their type tags; --table reads them
   [1]
 
 type_tag_with_table
   $ echo 46 00000007 0161 7401 0162 56 | xxd -r -p | amqp_show --table
   2> amqp_show: "-": the input seems to have a type tag; without --table it is read
+  [1]
+
+no_type_tag_key_not_utf8
+  $ echo 00000003 01ff 56 | xxd -r -p | amqp_show
+  FieldTable
+    "\xff": Void
+  ! offset 4: the key "\xff" isn't UTF-8
+  = malformed
+  2> amqp_show: "-": read as a table without its type tag, as with --table
+  [1]
+
+no_type_tag_malformed
+  $ echo 00000003 0461 56 | xxd -r -p | amqp_show --bytes
+       0  00000003            length 3
+       4  046156                "\u0004aV" (not decoded)
+  ! offset 4: the key of 4 bytes goes past the end of its table
+  = malformed
+  2> amqp_show: "-": read as a table without its type tag, as with --table
+  [1]
+
+no_type_tag_cut_after_the_length
+  $ echo 00000003 | xxd -r -p | amqp_show
+  FieldTable
+  ! offset 4: the input ends inside the FieldTable
+  = truncated; more bytes needed: 3
+  2> amqp_show: "-": read as a table without its type tag, as with --table
+  [1]
+
+no_type_tag_cut_in_the_key
+  $ echo 00000010 0461 62 | xxd -r -p | amqp_show --json
+  2> amqp_show: "-": read as a table without its type tag, as with --table
+  2> amqp_show: "-": offset 7: the input ends inside the FieldTable
+  [1]
+
+no_type_tag_cut_in_the_value
+  $ echo 00000010 0161 4900 | xxd -r -p | amqp_show
+  FieldTable
+    "a": LongInt 00 (1 of 4 bytes)
+  ! offset 8: the input ends inside the LongInt
+  = truncated; more bytes needed: 12
+  2> amqp_show: "-": read as a table without its type tag, as with --table
+  [1]
+
+no_type_tag_empty
+  $ echo 00000000 | xxd -r -p | amqp_show
+  FieldTable
+  = a table of 4 bytes
+  2> amqp_show: "-": read as a table without its type tag, as with --table
+
+no_type_tag_and_no_table
+  $ echo 00000000 0056 | xxd -r -p | amqp_show
+  "\u0000" (not decoded)
+  ! offset 0: a type tag is expected; 00 is none
+  = malformed
   [1]

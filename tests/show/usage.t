@@ -13,6 +13,7 @@ help
         --hex            Read hexadecimal text instead of bytes
         --table          Read, or encode, a table without its type tag
         --stream         Read values one after another, as they come
+        --lines          Read hexadecimal, with a value on each line
         --tree           Show a tree of values and types (the default)
         --bytes          Show each part with its offset and its bytes
         --json           Show JSON, on a line for each value
@@ -33,6 +34,8 @@ help
       echo 4600000007016174010162 | amqp_show --hex --bytes
     How many values a file has, one after another:
       amqp_show --stream --json values.bin | wc -l
+    The tables, one on each line, for which RabbitMQ closes the connection:
+      amqp_show --lines --table --check rabbitmq tables.txt | grep closes
     JSON to bytes for a test:
       echo '{"a":true,"b":{"$LongInt":5}}' | amqp_show --encode
 

@@ -21,7 +21,8 @@ const [inputs, how, bits] = arguments, {amqp} = globalThis;
 const module = (amqp.modules ??= {})[bits] ??= amqp.compile(bits);
 return inputs.map((digits) => {
     const bytes = Uint8Array.from(digits.match(/../g) ?? [], (it) => parseInt(it, 16));
-    const reading = amqp.read(module, bytes, how), failed = amqp.failure(reading);
+    const isTable = how.isTable || amqp.beginsTable(module, bytes);
+    const reading = amqp.read(module, bytes, {...how, isTable}), failed = amqp.failure(reading);
     return {
         tree: amqp.treeLines(reading),
         parts: bytes.length > 5000 ? "" : Array.from(reading.data, (_, at) =>

@@ -100,9 +100,10 @@ def wanted(program: Path, given: Sequence[bytes], is_table: bool = False) -> Ite
         said = {it[0]: it for it in tree if it[0] in "*!="}
         notes = [found[1] for it in of_bytes if (found := NOTE.search(it))]
         text = next(texts) if said and "!" not in said else None
+        is_bare = tree[:1] == ["FieldTable"] and data[:1] != b"F"
         yield {} if not said else {
             "tree": tree_of(tree),
-            "parts": "" if len(data) > 5000 else parts_of(of_bytes, data, is_table),
+            "parts": "" if len(data) > 5000 else parts_of(of_bytes, data, is_bare),
             "repeated": said.get("*", ""),
             "failure": in_words(said.get("!", "")),
             "outcome": said["="],

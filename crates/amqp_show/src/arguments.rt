@@ -22,6 +22,7 @@ const FLAGS: &[(&str, &str)] = &[
     ("hex", "Read hexadecimal text instead of bytes"),
     ("table", "Read, or encode, a table without its type tag"),
     ("stream", "Read values one after another, as they come"),
+    ("lines", "Read hexadecimal, with a value on each line"),
     ("tree", "Show a tree of values and types (the default)"),
     ("bytes", "Show each part with its offset and its bytes"),
     ("json", "Show JSON, on a line for each value"),
@@ -39,6 +40,8 @@ Examples:
     echo 4600000007016174010162 | amqp_show --hex --bytes
   How many values a file has, one after another:
     amqp_show --stream --json values.bin | wc -l
+  The tables, one on each line, for which RabbitMQ closes the connection:
+    amqp_show --lines --table --check rabbitmq tables.txt | grep closes
   JSON to bytes for a test:
     echo '{\"a\":true,\"b\":{\"$LongInt\":5}}' | amqp_show --encode
 
@@ -130,10 +133,14 @@ pub struct Settings {
     pub hex: bool,
     /// The input is values one after another.
     pub is_stream: bool,
+    /// The input is lines of hexadecimal, each a value.
+    pub has_lines: bool,
     /// How a value is shown.
     pub form: Form,
     /// How many bytes of a stream are before the value.
     pub start: u64,
+    /// The line that the value is on, or 0.
+    pub line: u64,
     /// What isn't canonical is noted.
     pub is_canonical: bool,
     /// The output is a terminal that is to have colours.
@@ -149,8 +156,10 @@ impl Settings {
             is_table: matches.get_flag("table"),
             hex: matches.get_flag("hex"),
             is_stream: matches.get_flag("stream"),
+            has_lines: matches.get_flag("lines"),
             form: Form::from_matches(matches),
             start: 0,
+            line: 0,
             is_canonical: matches.get_flag("canonical"),
             colours,
             limits: Limits {
@@ -222,7 +231,7 @@ impl Relations {
     fn of_flag(name: &str) -> Relations {
         let (groups, conflicts, needs): (&[&str], &[&str], &[&str]) = match name {
             "hex" | "stream" => (&[], &["encode"], &[]),
-            "table" => (&[], &["stream"], &[]),
+            "lines" => (&[], &["encode", "stream"], &[]),
             "tree" | "bytes" => (&["form"], &[], &[]),
             "json" | "encode" => (&["form"], &["canonical"], &[]),
             "raw" => (&[], &[], &["encode"]),

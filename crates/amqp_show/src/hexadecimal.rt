@@ -2,6 +2,7 @@
 //! side, with `0x` or `\x` right before them or nothing; between bytes may be white space, `,`,
 //! `:`, and comments from `#` to the end of the line.
 
+use std::alloc::AllocError;
 use thiserror::Error;
 
 /// Why a text isn't hexadecimal.
@@ -25,6 +26,21 @@ pub enum NotHexadecimal {
     /// It is a dump of Wireshark, whose offsets would be taken for bytes.
     #[error("a dump of Wireshark: copy the bytes of the table as a hex stream, which --hex reads")]
     Wireshark,
+    /// It is a dump of od, whose offsets would be taken for bytes.
+    #[error("a dump of od: `cut -sd ' ' -f 2- FILE | amqp_show --hex` reads it")]
+    Od,
+    /// It is a dump of od -x or hexdump, which have offsets too, and the bytes of a word in another order.
+    #[error("a dump of two-byte words, whose bytes od and hexdump swap: `od -An -v -tx1 FILE` makes one that --hex reads")]
+    Words,
+    /// It is a dump of tshark, whose offsets would be taken for bytes.
+    #[error("a dump of tshark: `cut -c 7-53 FILE | amqp_show --hex` reads its bytes, of which a packet's headers are the first")]
+    Tshark,
+    /// More lines follow one that is a value.
+    #[error("line {0} is a whole value, and another line follows: --lines reads a value from each")]
+    Lines(u64),
+    /// A line ends inside a value, while others end with one.
+    #[error("line {0} ends inside a value, while other lines are whole values: --lines reads each by itself")]
+    LineCut(u64),
     /// It is a dump of hexdump -C, whose offsets would be taken for bytes.
     #[error("a dump of hexdump -C: `cut -c 11-58 FILE | amqp_show --hex` reads it")]
     Hexdump,
@@ -55,13 +71,18 @@ pub struct Decoder {
 }
 
 impl Decoder {
-    /// Nothing yet.
-    pub fn new() -> Self {
+    /// Nothing yet of a text that begins at this line.
+    pub fn new(line: u64) -> Self {
         Decoder {
             state: State::Between,
-            line: 1,
+            line,
             column: 0,
         }
+    }
+
+    /// The number of the line that ended last.
+    pub fn line(&self) -> u64 {
+        self.line.saturating_sub(1)
     }
 
     /// Whether nothing was read.
@@ -109,21 +130,76 @@ pub fn dump_of(text: &[u8]) -> Option<NotHexadecimal> {
         Some(NotHexadecimal::Wireshark)
     } else if text.starts_with(b"00000000  ") {
         Some(NotHexadecimal::Hexdump)
+    } else if has_line(text, b"0000  ") {
+        Some(NotHexadecimal::Tshark)
     } else {
-        None
+        with_offsets(text)
     }
 }
 
-// Whether one of the first two lines begins so.
+// Whether one of the first three lines begins so.
 fn has_line(text: &[u8], start: &[u8]) -> bool {
     text.split(|c| *c == b'\n')
-        .take(2)
+        .take(3)
         .any(|line| line.starts_with(start))
+}
+
+// Whether a text begins with zeros, and its second line with the number of bytes after them, as lines with offsets do.
+fn with_offsets(text: &[u8]) -> Option<NotHexadecimal> {
+    let mut lines = text.split(|c| *c == b'\n');
+    let (first, second) = (lines.next()?, lines.next()?);
+    let width = first.iter().take_while(|c| **c == b'0').count();
+    let (words, next) = (first.get(width..)?, second.get(..width)?);
+    let count = words.iter().filter(|c| c.is_ascii_hexdigit()).count() as u64 / 2;
+    let is_next = number(next, 16) == count
+        || number(next, 8) == count
+        || number(next, 10) == count;
+    if width < 4 || count == 0 || !words.starts_with(b" ") || !is_next {
+        return None;
+    }
+    let has_words = words.split(|c| *c == b' ').any(|word| word.len() > 2);
+    Some(if has_words {
+        NotHexadecimal::Words
+    } else {
+        NotHexadecimal::Od
+    })
+}
+
+// The number that digits denote, or a larger one if they are none.
+fn number(digits: &[u8], base: u64) -> u64 {
+    let mut number = 0u64;
+    for digit in digits {
+        let digit = value_of(*digit)
+            .map(u64::from)
+            .filter(|digit| *digit < base);
+        number = number
+            .saturating_mul(base)
+            .saturating_add(digit.unwrap_or(u64::MAX));
+    }
+    number
+}
+
+/// Adds the bytes that a line spells to others, or returns why it spells none.
+pub fn push_bytes(
+    bytes: &mut Vec<u8>,
+    text: &[u8],
+    line: u64,
+) -> Result<Option<NotHexadecimal>, AllocError> {
+    let mut decoder = Decoder::new(line);
+    for character in text {
+        match decoder.take(*character) {
+            Ok(Some(byte)) => bytes.push(byte)?,
+            Ok(None) => {}
+            Err(fault) => return Ok(Some(fault)),
+        }
+    }
+    // (what isn't finished at the end of a line never is)
+    Ok(decoder.take(b'\n').err())
 }
 
 /// Whether the bytes are themselves a text that spells some.
 pub fn is_hexadecimal(text: &[u8]) -> bool {
-    let mut decoder = Decoder::new();
+    let mut decoder = Decoder::new(1);
     let mut has_bytes = false;
     for character in text {
         match decoder.take(*character) {

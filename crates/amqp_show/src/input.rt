@@ -3,8 +3,10 @@
 
 use crate::fault::{Fault, Result};
 use crate::hexadecimal::{Decoder, NotHexadecimal, dump_of};
-use amq_protocol_types::parsing::SliceInput;
 use amq_protocol_types::parsing::header::value_len;
+use amq_protocol_types::parsing::{SliceInput, SplitInput};
+use std::alloc::AllocError;
+use std::collections::VecDeque;
 use std::fs::File;
 use std::io;
 use std::io::{ErrorKind, Read, Stdin};
@@ -35,9 +37,16 @@ pub struct Input {
     block: Vec<u8>,
     bytes: Vec<u8>,
     start: usize,
+    // How many bytes were before these, the type tags that were put there not among them.
+    before: usize,
+    // Of each line of hexadecimal that has bytes: how many bytes there are up to its end, and its number.
+    lines: VecDeque<(usize, u64)>,
     // What ends the bytes, if it is known.
     end: Option<Result<(), NotHexadecimal>>,
 }
+
+// How many bytes may be put before the others.
+const ROOM: usize = 16;
 
 impl Input {
     /// Opens a file, or the standard input if it is called `-`.
@@ -49,22 +58,33 @@ impl Input {
         };
         Ok(Input {
             source,
-            decoder: is_hexadecimal.then(Decoder::new),
+            decoder: is_hexadecimal.then_some(Decoder::new(1)),
             block: vec![in rt.alloc(); 0; BLOCK]?,
             bytes: Vec::new(rt.alloc()),
             start: 0,
+            before: ROOM,
+            lines: VecDeque::new(rt.alloc()),
             end: None,
         })
     }
 
-    /// Puts a byte before those that are read.
+    /// Puts a byte before the next one.
     pub fn put(&mut self, byte: u8) -> Result<()> {
+        if self.start > 0 {
+            self.start -= 1;
+            if let Some(there) = self.bytes.get_mut(self.start) {
+                *there = byte;
+            }
+            return Ok(());
+        }
         self.bytes.extend_from_slice(&[byte])?;
+        self.bytes.rotate_right(self.bytes.len().min(1));
+        self.before = self.before.saturating_sub(1);
         Ok(())
     }
 
-    // The bytes that were read and aren't done with.
-    fn there(&self) -> &[u8] {
+    /// The bytes that were read and aren't done with.
+    pub fn there(&self) -> &[u8] {
         self.bytes.get(self.start..).unwrap_or(&[])
     }
 
@@ -91,15 +111,56 @@ impl Input {
         Ok(there.get(..len).unwrap_or(there))
     }
 
-    /// Whether the next value is there, so that it needn't be awaited.
-    pub fn has_next(&self) -> bool {
+    /// Whether the next value is there, after a type tag that is put before it, so that it needn't be awaited.
+    pub fn has_next(&self, tag: &[u8]) -> bool {
         let there = self.there();
-        !there.is_empty() && value_len(SliceInput::new(there)) <= there.len()
+        let len = there.len().saturating_add(tag.len());
+        !there.is_empty() && value_len(SplitInput::new(tag, there)) <= len
+    }
+
+    /// How many bytes the next line has with its end, or so many that it has more than `most`.
+    pub fn line_len(&mut self, most: usize) -> Result<usize> {
+        let mut from = 0;
+        for _ in 0..u64::MAX {
+            let there = self.there();
+            let len = there.len();
+            let line = there.get(from..).unwrap_or(&[]);
+            if let Some(end) = line.iter().position(|c| *c == b'\n') {
+                return Ok(from.saturating_add(end).saturating_add(1));
+            }
+            self.fill(len.saturating_add(1))?;
+            if len > most || self.there().len() == len {
+                return Ok(len);
+            }
+            from = len;
+        }
+        Ok(from)
     }
 
     /// Is done with that many bytes.
     pub fn pass(&mut self, count: usize) {
         self.start = self.start.saturating_add(count);
+        let at = self.before.saturating_add(self.start);
+        for _line in 0..self.lines.len() {
+            if self.lines.front().is_none_or(|(end, _)| *end > at) {
+                return;
+            }
+            self.lines.pop_front();
+        }
+    }
+
+    /// Of the line of hexadecimal that the next byte is in, if it has come to its end: its number, how many of the
+    /// next bytes are in it, and the bytes of the line after it.
+    pub fn line(&self) -> Option<(u64, usize, &[u8])> {
+        let at = self.before.saturating_add(self.start);
+        let mut lines = self.lines.iter().skip_while(|(end, _)| *end <= at);
+        let (end, line) = lines.next()?;
+        let there = self.there();
+        let first = end.saturating_sub(at);
+        let second = lines
+            .next()
+            .map_or(there.len(), |(end, _)| end.saturating_sub(at));
+        Some((*line, first, there.get(first..second).unwrap_or(&[])))
     }
 
     // Reads on until there are that many bytes, or the input ends.
@@ -113,7 +174,9 @@ impl Input {
                 Some(Err(fault)) => return Err(Fault::NotHexadecimal(fault)),
                 None => {}
             }
-            self.bytes.drain(..self.start.min(self.bytes.len()));
+            let passed = self.start.min(self.bytes.len());
+            self.bytes.drain(..passed);
+            self.before = self.before.saturating_add(passed);
             self.start = 0;
             match self.source.read(&mut self.block) {
                 Ok(count) => self.add(count)?,
@@ -146,7 +209,10 @@ impl Input {
         for character in read {
             match decoder.take(*character) {
                 Ok(Some(byte)) => self.bytes.extend_from_slice(&[byte])?,
-                Ok(None) => {}
+                Ok(None) => if *character == b'\n' {
+                    let end = self.before.saturating_add(self.bytes.len());
+                    note_line(&mut self.lines, end, decoder.line())?;
+                },
                 Err(fault) => {
                     self.end = Some(Err(fault));
                     return Ok(());
@@ -155,4 +221,17 @@ impl Input {
         }
         Ok(())
     }
+}
+
+// Adds the end of a line, unless it has no bytes.
+fn note_line(
+    lines: &mut VecDeque<(usize, u64)>,
+    end: usize,
+    number: u64,
+) -> Result<(), AllocError> {
+    let last = lines.back().map_or(ROOM, |(end, _)| *end);
+    if end > last {
+        lines.push_back((end, number))?;
+    }
+    Ok(())
 }

@@ -6,8 +6,8 @@
 //! ```text
 //! arguments   arguments                                    Settings
 //! a file      input, with --hex by hexadecimal             the bytes of a value
-//! the bytes   show, by parts and problems: tree, decode    Screen, Status
-//!             (to JSON), check (RabbitMQ)
+//! the bytes   show or lines, by parts and problems: tree,  Screen, Status
+//!             decode (to JSON), check (RabbitMQ)
 //! JSON        encode                                       the bytes, or digits
 //! Screen      screen; messages on standard error           what is printed
 //! ```
@@ -27,6 +27,7 @@ mod encode;
 mod fault;
 mod hexadecimal;
 mod input;
+mod lines;
 mod messages;
 mod parts;
 mod problems;
@@ -99,6 +100,8 @@ fn run_file(
 ) -> Result<Status> {
     let ran = if matches.get_flag("encode") {
         encode::encode_file(rt, file, matches.get_flag("raw"), settings)
+    } else if settings.has_lines {
+        lines::show_lines(rt, file, settings)
     } else {
         show::show_file(rt, file, settings)
     };

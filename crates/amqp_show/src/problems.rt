@@ -2,7 +2,7 @@
 //! connection, and where.
 
 use crate::arguments::{Form, Settings};
-use crate::messages::{bytes_text, quoted};
+use crate::messages::{bytes_text, place_text, quoted};
 use crate::parts::{Field, Part, type_of};
 use amq_protocol_types::AMQPType;
 use amq_protocol_types::parsing::SliceInput;
@@ -39,7 +39,8 @@ pub fn problem_text(
         Form::Tree | Form::Bytes => Ok(String::new(alloc)),
         Form::Json | Form::Check(_) => path_text(alloc, parts, place),
     }?;
-    format!(in alloc; "offset {}: {why}{path}", settings.offset(at))
+    let place = place_text(alloc, at, settings)?;
+    format!(in alloc; "{place}: {why}{path}")
 }
 
 /// Whether it is that the input ends inside the value.
@@ -136,7 +137,8 @@ pub fn key_text(
     settings: Settings,
 ) -> Result<String, AllocError> {
     let key = quoted(alloc, key_of(encoding.get(pair..).unwrap_or(&[])))?;
-    format!(in alloc; "offset {}: the key {key} {what}", settings.offset(pair))
+    let place = place_text(alloc, pair, settings)?;
+    format!(in alloc; "{place}: the key {key} {what}")
 }
 
 // The type of the value that begins at an offset, and its bytes up to the end of its container; `None` if
@@ -160,8 +162,8 @@ fn value_in_container<'a>(
     Some((type_of(there)?, there))
 }
 
-// The key at the beginning of a pair.
-fn key_of(pair: &[u8]) -> &[u8] {
+/// The key at the beginning of a pair.
+pub fn key_of(pair: &[u8]) -> &[u8] {
     match pair {
         [len, after @ ..] => after.get(..usize::from(*len)).unwrap_or(after),
         [] => &[],

@@ -7,8 +7,8 @@ ghost use Rattle.amqp_in_place.specs.ProblemResults.{FindsValue};
 use crate::arguments::{Form, Settings};
 use crate::check::push_check;
 use crate::decode::show_json;
-use crate::fault::{Result, Status};
-use crate::hexadecimal::is_hexadecimal;
+use crate::fault::{Fault, Result, Status};
+use crate::hexadecimal::{NotHexadecimal, is_hexadecimal};
 use crate::input::{BLOCK, Input};
 use crate::messages::{bytes_text, complain, push_outcome, push_remark};
 use crate::parts::{Note, Part, parts_of, type_of};
@@ -23,23 +23,37 @@ use std::alloc::{AllocError, Global};
 
 const MORE_VALUES: &str = "; --stream shows values one after another";
 
+/// What is said of a table that has a type tag.
+pub const HAS_TAG: &str = "the input seems to have a type tag; without --table it is read";
+
+/// What is said of bytes that are read as a table.
+pub const AS_TABLE: &str = "read as a table without its type tag, as with --table";
+
+const ARE_TABLES: &str = "the input seems to be tables without their type tags; --table reads them";
+
 /// Shows the value at the beginning of a file, or each of a stream.
 pub fn show_file(rt: &HostRuntime, file: &str, settings: Settings) -> Result<Status> {
     let mut input = Input::open(rt, file, settings.hex)?;
-    if settings.is_table {
-        input.put(b'F')?;
-    }
-    let mut screen = Screen::new(rt.alloc(), settings.colours);
-    if file != "-" && settings.form != Form::Json {
-        screen.push(file)?;
-        screen.push_line(":")?;
-    }
+    let mut screen = begin(rt, file, settings)?;
     if settings.is_stream {
         let shown = show_stream(rt, &mut screen, file, input, settings);
         screen.print(rt)?;
         return shown;
     }
+    if settings.is_table {
+        input.put(b'F')?;
+    }
     show_first(rt, &mut screen, file, &mut input, settings)
+}
+
+/// What is shown of a file first: its name, if it has one.
+pub fn begin(rt: &HostRuntime, file: &str, settings: Settings) -> Result<Screen> {
+    let mut screen = Screen::new(rt.alloc(), settings.colours);
+    if file != "-" && settings.form != Form::Json {
+        screen.push(file)?;
+        screen.push_line(":")?;
+    }
+    Ok(screen)
 }
 
 // Shows the value at the beginning of an input, and reports that more bytes follow; or reports what the
@@ -49,25 +63,26 @@ fn show_first(
     screen: &mut Screen,
     file: &str,
     input: &mut Input,
-    settings: Settings,
+    mut settings: Settings,
 ) -> Result<Status> {
     if let Some(hint) = hint(input, settings)? {
         complain(rt, file, hint)?;
         return Ok(Status::Rejected);
     }
-    let is_table = is_untagged_table(input, settings)?;
-    let bytes = input.next_value(settings.limits.frame)?;
-    let len = bytes.len();
-    let status = show_value(rt, screen, file, bytes, settings)?;
-    screen.print(rt)?;
-    if is_table {
-        complain(
-            rt,
-            file,
-            "the input seems to be a table without its type tag; --table reads it",
-        )?;
+    let most = settings.limits.frame as usize;
+    let is_read = settings.is_table || type_of(input.up_to(1)?).is_some();
+    if !is_read && begins_table(input.up_to(most)?) {
+        complain(rt, file, AS_TABLE)?;
+        settings.is_table = true;
+        input.put(b'F')?;
     }
-    if status == Status::Read && input.up_to(len.saturating_add(1))?.len() > len {
+    let len = input.next_value(settings.limits.frame)?.len();
+    // (what follows may be no hexadecimal, which is reported after the value)
+    let ahead = input.up_to(len.saturating_add(1)).map(|bytes| bytes.len());
+    check_line(input, len, settings)?;
+    let status = show_value(rt, screen, file, input.up_to(len)?, settings)?;
+    screen.print(rt)?;
+    if status == Status::Read && ahead? > len {
         let hint = if settings.is_table { "" } else { MORE_VALUES };
         let offset = settings.offset(len);
         let why = format!(in rt.alloc(); "more bytes follow, from offset {offset}{hint}")?;
@@ -76,15 +91,34 @@ fn show_first(
     Ok(status)
 }
 
+// Whether the line of hexadecimal at which a value of so many bytes begins isn't a part of it, but a value by itself,
+// or the line after it is one.
+fn check_line(input: &Input, len: usize, settings: Settings) -> Result<()> {
+    match input.line() {
+        Some((line, end, after)) if end == len && !after.is_empty() => {
+            Err(Fault::NotHexadecimal(NotHexadecimal::Lines(line)))
+        }
+        Some((line, end, after)) if end < len && is_whole(after, settings) => {
+            Err(Fault::NotHexadecimal(NotHexadecimal::LineCut(line)))
+        }
+        _ => Ok(()),
+    }
+}
+
+// Whether all of the bytes are one value.
+fn is_whole(bytes: &[u8], settings: Settings) -> bool {
+    if settings.is_table {
+        let read = read_table_in_place(bytes, settings.limits);
+        return matches!(read, Ok((_, rest)) if rest.is_empty());
+    }
+    matches!(read_in_place(bytes, settings.limits), Ok((_, rest)) if rest.is_empty())
+}
+
 // What an input is instead that doesn't begin with a value.
 fn hint(input: &mut Input, settings: Settings) -> Result<Option<&'static str>> {
     let most = settings.limits.frame;
     if settings.is_table {
-        // (after the type tag that was put there; if it began a length, that would be beyond the limits)
-        let has_tag = matches!(input.up_to(2)?, b"FF") && most < 0x4600_0000;
-        return Ok(has_tag.then_some(
-            "the input seems to have a type tag; without --table it is read",
-        ));
+        return Ok(has_tag(input.up_to(2)?, settings).then_some(HAS_TAG));
     }
     if type_of(input.up_to(1)?).is_some() {
         return Ok(None);
@@ -99,14 +133,26 @@ fn hint(input: &mut Input, settings: Settings) -> Result<Option<&'static str>> {
     })
 }
 
-// Whether the whole input is a table without its type tag, but isn't read as one.
-fn is_untagged_table(input: &mut Input, settings: Settings) -> Result<bool> {
-    if settings.is_table || !matches!(input.up_to(1)?, [0]) {
-        return Ok(false);
-    }
-    let bytes = input.up_to(settings.limits.frame as usize)?;
-    let read = read_table_in_place(bytes, settings.limits);
-    Ok(matches!(read, Ok((_, rest)) if rest.is_empty()))
+/// Whether a table has a type tag after the one that was put there. (If it began a length, that would be beyond the
+/// limits.)
+pub fn has_tag(bytes: &[u8], settings: Settings) -> bool {
+    bytes.starts_with(b"FF") && settings.limits.frame < 0x4600_0000
+}
+
+//// Whether bytes that don't begin with a value begin with a table without its type tag: one of the length that
+/// there is, or one whose first value has a type tag, as far as it is there.
+pub fn begins_table(bytes: &[u8]) -> bool {
+    let [0, b, c, d, body @ ..] = bytes else {
+        return false;
+    };
+    let len = u32::from_be_bytes([0, *b, *c, *d]) as usize;
+    let value = match body {
+        [count, after @ ..] => after.get(usize::from(*count)..).unwrap_or(&[]),
+        [] => &[],
+    };
+    len == body.len()
+        || (len > 0 && type_of(value).is_some())
+        || (len > body.len() && value.is_empty())
 }
 
 // Shows the values of a stream up to the first that is rejected. What is added to the screen is
@@ -118,27 +164,45 @@ fn show_stream(
     mut input: Input,
     mut settings: Settings,
 ) -> Result<Status> {
+    // whether each line of hexadecimal was a value, and how many bytes the last had
+    let (mut are_values, mut last) = (true, 0);
+    let tag: &[u8] = if settings.is_table { b"F" } else { b"" };
     for _ in 0..u64::MAX {
-        if screen.len() >= BLOCK || !input.has_next() {
+        if screen.len() >= BLOCK || !input.has_next(tag) {
             screen.print(rt)?;
         }
-        let bytes = input.next_value(settings.limits.frame)?;
-        if bytes.is_empty() {
+        if settings.is_table && !input.up_to(1)?.is_empty() {
+            input.put(b'F')?;
+        }
+        let len = input.next_value(settings.limits.frame)?.len();
+        if len == 0 {
             break;
         }
-        let len = bytes.len();
-        let status = show_value(rt, screen, file, bytes, settings)?;
+        if let Some((line, end, after)) = input.line() {
+            let is_cut = are_values && last > 0 && last != end || is_whole(after, settings);
+            if end < len && is_cut {
+                return Err(Fault::NotHexadecimal(NotHexadecimal::LineCut(line)));
+            }
+            are_values = are_values && end == len;
+            last = end;
+        }
+        let status = show_value(rt, screen, file, input.up_to(len)?, settings)?;
         if status == Status::Rejected {
+            if !settings.is_table && begins_table(input.there()) {
+                screen.print(rt)?;
+                complain(rt, file, ARE_TABLES)?;
+            }
             return Ok(status);
         }
         input.pass(len);
-        settings.start = settings.start.saturating_add(len as u64);
+        let len = len.saturating_sub(settings.left_out()) as u64;
+        settings.start = settings.start.saturating_add(len);
     }
     Ok(Status::Read)
 }
 
-// Shows the value of these bytes, or why it is rejected.
-fn show_value(
+/// Shows the value of these bytes, or why it is rejected.
+pub fn show_value(
     rt: &HostRuntime,
     screen: &mut Screen,
     file: &str,
