@@ -106,16 +106,17 @@ def wrong_row(name: str, wanted: str, is_writing: bool) -> str:
     return ""
 
 
-def expected(id: str) -> str:
-    """What implementations.json leaves out: the outcome that is the result of a case."""
-    return "as stated" if "rest" in GIVEN[id]["result"] else "rejects"
+def is_listed(id: str, it: Outcome) -> bool:
+    """Whether implementations.json has an outcome: one that no profile expects, and that isn't the result of the case."""
+    of_result = "as stated" if "rest" in GIVEN[id]["result"] else "rejects"
+    return it.word != of_result and "right" not in (it.amqp, it.rabbitmq)
 
 
 def wrong_implementations(name: str, toolchain: str, found: Mapping[str, Outcome], is_writing: bool) -> str:
-    """What is wrong with a codec in implementations.json: its toolchain, or the outcomes that aren't the result of a case."""
+    """What is wrong with a codec in implementations.json: its toolchain, or its outcomes that are listed."""
     stored = json.loads(IMPLEMENTATIONS.read_text())
     before: dict[str, dict[str, str]] = stored["outcomes"]
-    wanted = {id: it.text() for id, it in found.items() if it.word != expected(id)}
+    wanted = {id: it.text() for id, it in found.items() if is_listed(id, it)}
     known = {id: it[name] for id, it in before.items() if name in it}
     if known == wanted and stored["codecs"].get(name) == toolchain:
         return ""

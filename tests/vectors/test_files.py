@@ -17,7 +17,7 @@ from tests.model.json_format import json_of
 from tests.model.encoding import Unread, extent, read, write
 from tests.model.tables import VERSIONS, delivered, first_problem, parts
 from tests.rabbitmq.broker import PYTHON
-from tests.vectors.cases import CASES, DEEP, EVERY, FILES, PROBLEMS, SCHEMA, VECTORS, Case, none_of
+from tests.vectors.cases import CASES, DEEP, EVERY, FILES, IMPLEMENTATIONS, PROBLEMS, SCHEMA, VECTORS, Case, none_of
 from tests.vectors.profiles import PROFILES, decision, flags_of, same
 
 pytestmark = pytest.mark.usefixtures("deep")
@@ -107,6 +107,23 @@ def test_families(tmp_path: Path) -> None:
     assert written and [it.name for it in written if it.read_text() != (VECTORS / "cases" / it.name).read_text()] == []
     found = {it: json.loads(it.read_text()) for it in FILES}
     assert [it.name for it in FILES if layout(**found[it]) != it.read_text()] == []
+
+
+def test_bugs_of_codecs() -> None:
+    """CODECS.md has each codec that is scored, and a codec that fails the cases named there by the profile of RabbitMQ."""
+    stored, by_id = json.loads(IMPLEMENTATIONS.read_text()), {it.id: it for it in EVERY}
+    sections = re.split(r"(?m)^## ", (VECTORS / "CODECS.md").read_text())[1:]
+    codecs, wrong = set(), []
+    for it in sections:
+        name, *versions = re.findall(r"[^ \n]+", it.split("\n")[0].replace(" and ", " "))
+        codecs |= {f"{name} {version}" for version in versions}
+        for id in re.findall(r"`([a-z0-9]+(?:-[a-z0-9]+)+)`", it):
+            listed = any(f"{name} {version}" in stored["outcomes"].get(id, {}) for version in versions)
+            # (what a profile expects, or is the result of the case, isn't listed)
+            of_result = "accept" if "rest" in by_id[id].result else "reject"
+            is_agreed = all(each in (of_result, "undecided") for each in by_id[id].case["expected"].values())
+            wrong += [f"{name}: {id}"] if is_agreed and not listed else []
+    assert (codecs, wrong) == ({*stored["codecs"]}, [])
 
 
 def test_pages_have_the_number_of_cases() -> None:
