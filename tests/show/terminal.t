@@ -90,8 +90,6 @@ full_help
 
 closed
   $ echo 7401 | xxd -r -p | amqp_show --stream --json | true
-  [2]
 
 closed_encode
   $ printf 'true' | amqp_show --encode --raw | true
-  [2]

@@ -32,6 +32,7 @@ mod messages;
 mod parts;
 mod problems;
 mod screen;
+mod shape;
 mod show;
 mod tree;
 
@@ -59,6 +60,8 @@ fn exit_code(outcome: &Result<Status>) -> ExitCode
 {
     match outcome {
         Ok(status) => ExitCode::from(status.code()),
+        // (as other programs whose output nobody reads any more)
+        Err(Fault::Closed) => ExitCode::from(Status::Read.code()),
         Err(_) => ExitCode::from(Status::Mistake.code()),
     }
 }
@@ -87,6 +90,9 @@ fn run_files(rt: &HostRuntime, matches: &ArgMatches<'_>) -> Result<Status> {
     let mut status = Status::Read;
     for file in matches.get_strs("FILE").unwrap_or(&["-"]) {
         status = status.and(run_file(rt, *file, matches, settings)?);
+    }
+    if status == Status::Warned && !matches.get_flag("strict") {
+        return Ok(Status::Read);
     }
     Ok(status)
 }
