@@ -3,7 +3,9 @@
 import { AMQPV, NAMES } from "./header.js";
 import { AGAIN, BARE, CUT, REST, isContainer, isCounted, isTruncated } from "./reading.js";
 
-const UNPRINTABLE = /["\\\u0000-\u001f\u007f-\u009f\u061c\u200e\u200f\u202a-\u202e\u2066-\u2069]/g;
+// Control characters, and those that can't be seen or that turn the direction of the text around them.
+const UNPRINTABLE = new RegExp('["\\\\\\u0000-\\u001f\\u007f-\\u009f\\u00ad\\u034f\\u061c\\u115f\\u1160\\u17b4\\u17b5'
+    + "\\u180b-\\u180f\\u200b-\\u200f\\u2028-\\u202e\\u2060-\\u206f\\u3164\\ufeff\\uffa0\\ufff9-\\ufffb]", "g");
 const DIGITS = Array.from({ length: 256 }, (_, it) => it.toString(16).padStart(2, "0"));
 export const hexadecimal = (bytes) => Array.from(bytes, (it) => DIGITS[it]).join("");
 

@@ -25,6 +25,7 @@ help
         --max-bytes <N>  Reject values of more than N bytes [default: 1048576]
         --depth <N>      Reject containers that nest more than N deep, at most 1000 [default: 32]
         --skip <N>       Pass over the first N bytes of the input
+        --color <WHEN>   Use colours, by default on a terminal [default: auto] [possible values: auto, always, never]
     -h, --help           Print help
     -V, --version        Print version
 

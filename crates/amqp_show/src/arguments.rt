@@ -17,6 +17,8 @@ const DEEPEST: i64 = 1_000;
 // The peers of which it is known what they close the connection for.
 const PEERS: &[&str] = &["rabbitmq", "rabbitmq-3.10", "rabbitmq-4.0", "rabbitmq-4.3"];
 
+const COLOURS: &[&str] = &["auto", "always", "never"];
+
 // The options without a value.
 const FLAGS: &[(&str, &str)] = &[
     ("hex", "Read hexadecimal text instead of bytes"),
@@ -222,6 +224,7 @@ fn all_arguments<'a>(alloc: Global) -> Result<Vec<Arg<'a>>, AllocError> {
     arguments.push(max_bytes(alloc))?;
     arguments.push(depth(alloc))?;
     arguments.push(skip(alloc)?)?;
+    arguments.push(color(alloc))?;
     arguments.push(files(alloc))?;
     Ok(arguments)
 }
@@ -300,6 +303,15 @@ fn skip<'a>(alloc: Global) -> Result<Arg<'a>, AllocError> {
         .help("Pass over the first N bytes of the input")
         .conflicts_with("encode")?
         .conflicts_with("lines")
+}
+
+fn color<'a>(alloc: Global) -> Arg<'a> {
+    Arg::new(alloc, "color")
+        .long("color")
+        .value_name("WHEN")
+        .value_parser(COLOURS)
+        .default_value("auto")
+        .help("Use colours, by default on a terminal")
 }
 
 fn files<'a>(alloc: Global) -> Arg<'a> {
