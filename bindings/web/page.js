@@ -2,7 +2,7 @@
 import { AMQPV } from "./header.js";
 import { readHexadecimal } from "./hexadecimal.js";
 import { Module } from "./module.js";
-import { beginsTable, read } from "./reading.js";
+import { read, shapeOf } from "./reading.js";
 import { readText } from "./text.js";
 import { copies, failure, hexadecimal, indentation, jsonText, keyText, outcome, rabbitmqText, repeated, rowParts,
     treeLines } from "./words.js";
@@ -10,8 +10,14 @@ import { copies, failure, hexadecimal, indentation, jsonText, keyText, outcome, 
 // The height of a line, and of the tallest element, in pixels; how many bytes of a string a row shows, how many are
 // typed, and how many a link has. For more levels a call's stack might not suffice.
 const HEIGHT = 22, TALLEST = 8e6, MOST_SHOWN = 300, MOST_TYPED = 65536, MOST_LINKED = 500000, MOST_LEVELS = 1000;
-// What is said of bytes that are the other, by whether they are taken for a table without its type tag.
+// What is said of bytes that are read as something else, by how many are put before them; and of those that are the
+// other, by whether they are taken for a table without its type tag.
+const READ_AS = { 1: "read as a table without its type tag",
+    5: "read as a table's body, without its type tag and length" };
 const OTHER = ["the input seems to be a table without its type tag", "the input seems to have a type tag"];
+// How a capture of packets begins, and what is said of it.
+const CAPTURE = /^(?:d4c3b2a1|4d3cb2a1|0a0d0d0a)$/;
+const OF_CAPTURE = "a capture of packets: copy the bytes of the table in Wireshark as a hex stream, for --hex";
 // What is said of a module, by how many bits its addresses have.
 const ABOUT_MODULES = {
     64: "The bytes are read by WebAssembly with 64-bit addresses, which is the proved code as Rattle compiles it.",
@@ -140,15 +146,16 @@ function toggle(row) {
 }
 
 // Reads the bytes, and shows what was read. What begins as a table without its type tag is read as one, unless it is to
-// be a value; what is to be a table may have its type tag.
+// be a value, and so is a table's body; what is to be a table may have its type tag.
 function show() {
     const { module } = now, form = $("form").value, isTable = form === "table";
     const limit = (id, most) => Math.max(0, Math.min(most, Math.trunc(Number($(id).value))));
     const how = { frame: limit("frame", 0xffffffff), depth: limit("depth", MOST_LEVELS) };
     Object.assign(now, { closed: new Set(), row: 0, byte: -1, width: innerWidth > 800 ? 16 : 8 });
     try {
-        const isOther = isTable ? now.bytes[0] === AMQPV.TABLE && now.bytes[1] === 0 : beginsTable(module, now.bytes);
-        now.reading = read(module, now.bytes, { ...how, isTable: isTable || isOther && form === "any" });
+        const seems = shapeOf(module, now.bytes, { ...how, shape: isTable ? "table" : "value" });
+        const isOther = isTable ? now.bytes[0] === AMQPV.TABLE && now.bytes[1] === 0 : seems === "table";
+        now.reading = read(module, now.bytes, { ...how, shape: form === "value" ? "value" : seems });
         now.bytes.length ? tell(isOther && form !== "any" ? OTHER[Number(isTable)] : "") : complain("");
     } catch (error) {
         module.renew();
@@ -192,7 +199,7 @@ function tell(note) {
     const said = rabbitmqText(reading);
     const notes = [
         now.how,
-        shift && $("form").value === "any" ? "read as a table without its type tag" : "",
+        shift > ($("form").value === "table" ? 1 : 0) ? READ_AS[shift] : "",
         note,
         rabbitmq ? jump(said, Math.max(0, rabbitmq.offset - shift)) : said,
         copied && jump(copied[1], rows.start[copied[0]] - shift),
@@ -242,8 +249,10 @@ async function drop(event) {
         const bytes = new Uint8Array(await file.arrayBuffer());
         const text = new TextDecoder("latin1").decode(bytes), typed = readText(text);
         const isText = !/[\0-\x08\x0e-\x1f\x7f]/.test(text);
-        put(typed.bytes ?? (isText ? new Uint8Array() : bytes), file.name);
-        isText && typed.fault && complain(`${file.name}: ${typed.fault}`);
+        const isCapture = CAPTURE.test(hexadecimal(bytes.subarray(0, 4)));
+        const fault = isCapture ? OF_CAPTURE : isText ? typed.fault : "";
+        put(typed.bytes ?? (fault ? new Uint8Array() : bytes), file.name);
+        fault && complain(`${file.name}: ${fault}`);
     }
 }
 
@@ -349,5 +358,5 @@ function start() {
 
 start();
 // For the console, and for tests.
-globalThis.amqp = { beginsTable, compile, failure, hexadecimal, jsonText, now, outcome, partOf, put, rabbitmqText, read,
-    readHexadecimal, readText, repeated, treeLines };
+globalThis.amqp = { compile, failure, hexadecimal, jsonText, now, outcome, partOf, put, rabbitmqText, read,
+    readHexadecimal, readText, repeated, shapeOf, treeLines };

@@ -130,21 +130,40 @@ function markRepeated({ data, rows }) {
     }
 }
 
-// Whether bytes that are no value begin as a table without its type tag, as amqp_show decides it: one of the length
-// that there is, or one whose first value has a type tag, as far as it is there.
-export function beginsTable(module, bytes) {
-    const [first, , , , count = 0] = bytes, value = bytes.subarray(5 + count), rest = bytes.length - 4;
-    const size = rest < 0 ? 0 : new DataView(bytes.buffer, bytes.byteOffset).getUint32(0);
-    module.load(new Uint8Array());
-    return first === 0 && rest >= 0 && (size === rest || size > rest && !value.length
-        || size > 0 && value.length > 0 && Boolean(module.number([value[0]])));
+// Bytes after the type tag of a table, and after its length too if they are its body.
+function completed(bytes, shape) {
+    const length = bytes.length, tagged = [AMQPV.TABLE, length >>> 24, length >>> 16, length >>> 8, length];
+    const shift = { value: 0, table: 1, body: 5 }[shape], data = new Uint8Array(length + shift);
+    data.set(tagged.slice(0, shift));
+    data.set(bytes, shift);
+    return data;
 }
 
-// Reads the value at the start of some bytes, or the table without its type tag, within limits. Offsets count from
-// `data`, which has that type tag, `shift` bytes before the others.
-export function read(module, bytes, { isTable = false, frame = AMQPV.MAX_BYTES, depth = AMQPV.MAX_DEPTH } = {}) {
-    const shift = isTable ? 1 : 0, data = new Uint8Array(bytes.length + shift).fill(AMQPV.TABLE, 0, shift);
-    data.set(bytes, shift);
+// What bytes seem to be that are to be a value or a table: that, a table without its type tag (one of the length that
+// there is, or one whose first value has a type tag, as far as it is there), or its body, as amqp_show decides it.
+export function shapeOf(module, bytes, { shape = "value", frame = AMQPV.MAX_BYTES, depth = AMQPV.MAX_DEPTH } = {}) {
+    const [first, , , , count = 0] = bytes, value = bytes.subarray(5 + count), rest = bytes.length - 4;
+    const size = rest < 0 ? 0 : new DataView(bytes.buffer, bytes.byteOffset).getUint32(0), isTag = (it) => {
+        module.load(new Uint8Array());
+        return it !== undefined && Boolean(module.number([it]));
+    };
+    if (shape === "table" ? rest < 0 || size + 5 <= frame : first === undefined || isTag(first)) {
+        return shape;
+    } else if (shape === "value" && first === 0 && rest >= 0
+        && (size === rest || size > rest && !value.length || size > 0 && isTag(value[0]))) {
+        return "table";
+    } else if (bytes.length + 5 > frame) {
+        return shape;
+    }
+    const data = completed(bytes, "body");
+    module.load(data);
+    return module.read(frame, depth).code === AMQPV.OK ? "body" : shape;
+}
+
+// Reads the value at the start of some bytes, or the table without its type tag or its length, within limits. Offsets
+// count from `data`, which has these, `shift` bytes before the others.
+export function read(module, bytes, { shape = "value", frame = AMQPV.MAX_BYTES, depth = AMQPV.MAX_DEPTH } = {}) {
+    const data = completed(bytes, shape), shift = data.length - bytes.length;
     module.load(data);
     const { code, count, problem: failed } = module.read(frame, depth), isOk = code === AMQPV.OK;
     const rabbitmq = code === AMQPV.MORE ? null : module.read(frame, depth, AMQPV.RABBITMQ).problem;

@@ -3,7 +3,9 @@
 import { AMQPV, NAMES } from "./header.js";
 import { AGAIN, BARE, CUT, REST, isContainer, isCounted, isTruncated } from "./reading.js";
 
-const UNPRINTABLE = /["\\\u0000-\u001f\u007f-\u009f\u061c\u200e\u200f\u202a-\u202e\u2066-\u2069]/g;
+// Control characters, and those that can't be seen or that turn the direction of the text around them.
+const UNPRINTABLE = new RegExp('["\\\\\\u0000-\\u001f\\u007f-\\u009f\\u00ad\\u034f\\u061c\\u115f\\u1160\\u17b4\\u17b5'
+    + "\\u180b-\\u180f\\u200b-\\u200f\\u2028-\\u202e\\u2060-\\u206f\\u3164\\ufeff\\uffa0\\ufff9-\\ufffb]", "g");
 const DIGITS = Array.from({ length: 256 }, (_, it) => it.toString(16).padStart(2, "0"));
 export const hexadecimal = (bytes) => Array.from(bytes, (it) => DIGITS[it]).join("");
 
@@ -140,9 +142,12 @@ const isBeyondLimits = ({ kind }) => kind === AMQPV.TOO_DEEP || kind === AMQPV.T
 // The offset and the words of what is wrong, or null.
 export const failure = (reading) => reading.failed && problemText(reading, reading.failed);
 
+// What is read after so many bytes that were put before it.
+const SHAPES = { 0: "value", 1: "table", 5: "table's body" };
+
 // What reading resulted in.
 export function outcome({ code, count, shift, failed }) {
-    return code === AMQPV.OK ? `a ${shift ? "table" : "value"} of ${bytesText(count - shift)}`
+    return code === AMQPV.OK ? `a ${SHAPES[shift]} of ${bytesText(count - shift)}`
         : isBeyondLimits(failed) ? "beyond the limits"
             : code === AMQPV.MORE ? `truncated; more bytes needed: ${count}` : "malformed";
 }
@@ -154,7 +159,7 @@ const VERSIONS = "RabbitMQ 3.10.8 and 4.0.5", HEADERS = 131058, ARGUMENTS = 1310
 export function rabbitmqText(reading) {
     const { code, rabbitmq, count, shift } = reading, size = count - 1;
     if (!rabbitmq && code === AMQPV.OK && size > HEADERS) {
-        return `${VERSIONS} close the connection: without its type tag the ${shift ? "table" : "value"} has ${size} `
+        return `${VERSIONS} close the connection: without its type tag the ${SHAPES[shift]} has ${size} `
             + `bytes; a frame of the usual 131072 takes ${HEADERS} as headers without other properties, and `
             + `${ARGUMENTS} as arguments of a queue without a name`;
     } else if (!rabbitmq) {

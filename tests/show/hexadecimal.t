@@ -101,7 +101,7 @@ dump_of_wireshark
 without_hex
   $ echo 46 00000003 0161 56 | amqp_show
   2> amqp_show: "-": the input seems to be hexadecimal; --hex reads it
-  [1]
+  [2]
 
 half_of_hexadecimal
   $ echo 343600 | xxd -r -p | amqp_show
@@ -117,10 +117,13 @@ hexadecimal_that_is_a_value
 
 unfinished_hexadecimal
   $ echo 343630 | xxd -r -p | amqp_show
-  "4" (not decoded)
-  ! offset 0: a type tag is expected; 34 is none
-  = malformed
-  [1]
+  2> amqp_show: "-": the input seems to be hexadecimal; --hex reads it
+  [2]
+
+unfinished_line_of_hexadecimal
+  $ printf '00000003016\n' | amqp_show --table
+  2> amqp_show: "-": the input seems to be hexadecimal; --hex reads it
+  [2]
 
 line_of_a_log
   $ echo 12:34 headers=460000 | amqp_show --hex

@@ -29,10 +29,15 @@ json_texts
 json_without_encode
   $ echo '{"a":1}' | amqp_show --json
   2> amqp_show: "-": the input seems to be JSON; --encode reads it
-  [1]
+  [2]
 
 json_stream_repeated
   $ echo 56 4600000006 016156 016156 | xxd -r -p | amqp_show --stream --json
   null
   {"a":null,"a":null}
   2> amqp_show: "-": offset 9: the key "a" comes again; JSON parsers differ in which value they take
+
+json_without_encode_for_a_table
+  $ printf ' {"a":1}' | amqp_show --table --check rabbitmq
+  2> amqp_show: "-": the input seems to be JSON; --encode reads it
+  [2]

@@ -70,7 +70,7 @@ lines_check
   = line 3: RabbitMQ 3.10 closes the connection; warnings weren't looked for
   * line 4, offset 8: the key "a" comes again; the broker delivers both and routes by the first
   = line 4: RabbitMQ 3.10 accepts it, except as the warnings say
-  [1]
+  [4]
 
 lines_of_tables_without_table
   $ printf '00000003016156\n4600000000' | amqp_show --lines

@@ -130,7 +130,7 @@ stream_of_tables_cut
   = at 0: RabbitMQ 4.0 accepts it
   ! offset 9: the input ends inside the FieldTable
   = at 7: RabbitMQ 4.0 closes the connection; warnings weren't looked for
-  [1]
+  [4]
 
 stream_of_tables_on_lines
   $ printf '00000003016156\n000000030161\n0000000301617a\n' | amqp_show --table --stream --hex --json

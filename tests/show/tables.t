@@ -59,7 +59,7 @@ table_too_large
   $ echo 00000007 0161 7401 0162 56 | xxd -r -p | amqp_show --table --max-bytes 11
   ! offset 0: the table with its type tag has 12 bytes, more than --max-bytes 11 allows
   = beyond the limits
-  [1]
+  [3]
 
 table_at_limit
   $ echo 00000007 0161 7401 0162 56 | xxd -r -p | amqp_show --table --max-bytes 12
@@ -112,7 +112,7 @@ no_type_tag_stream
 type_tag_with_table
   $ echo 46 00000007 0161 7401 0162 56 | xxd -r -p | amqp_show --table
   2> amqp_show: "-": the input seems to have a type tag; without --table it is read
-  [1]
+  [2]
 
 no_type_tag_key_not_utf8
   $ echo 00000003 01ff 56 | xxd -r -p | amqp_show
@@ -165,5 +165,43 @@ no_type_tag_and_no_table
   $ echo 00000000 0056 | xxd -r -p | amqp_show
   "\u0000" (not decoded)
   ! offset 0: a type tag is expected; 00 is none
+  = malformed
+  [1]
+
+body
+  $ echo 0161 56 0162 7401 | xxd -r -p | amqp_show
+  FieldTable
+    "a": Void
+    "b": Boolean true
+  = a table's body of 7 bytes
+  2> amqp_show: "-": read as a table's body, without its type tag and length
+
+body_by_bytes
+  $ echo 0361 6263 56 | amqp_show --hex --table --bytes
+       0  03                    key length 3
+       1  616263                key "abc"
+       4  56                    type tag V, Void
+  = a table's body of 5 bytes
+  2> amqp_show: "-": read as a table's body, without its type tag and length
+
+body_checked
+  $ echo 0361 6263 56 0161 5500 01 | amqp_show --hex --check rabbitmq
+  ! offset 7: RabbitMQ doesn't know the type tag U (ShortInt), in "a"
+  = RabbitMQ 4.0 closes the connection; warnings weren't looked for
+  2> amqp_show: "-": read as a table's body, without its type tag and length
+  [4]
+
+body_on_a_line
+  $ printf '00000000\n03616263740001615601\n036162637400016156\n' | amqp_show --lines --table --json
+  {}
+  {"abc":false,"a":null}
+  2> amqp_show: "-": line 2, offset 0: the table with its type tag has 56713832 bytes, more than --max-bytes 1048576 allows
+  2> amqp_show: "-": line 3: read as a table's body, without its type tag and length
+  [3]
+
+no_body
+  $ echo 0161 56 0162 7401 01 | xxd -r -p | amqp_show
+  "\u0001" (not decoded)
+  ! offset 0: a type tag is expected; 01 is none
   = malformed
   [1]

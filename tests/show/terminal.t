@@ -90,8 +90,32 @@ full_help
 
 closed
   $ echo 7401 | xxd -r -p | amqp_show --stream --json | true
-  [2]
 
 closed_encode
   $ printf 'true' | amqp_show --encode --raw | true
+
+dumb_terminal
+  $ echo 4600000003016156 | xxd -r -p | TERM=dumb amqp_show >/dev/tty
+  FieldTable
+    "a": Void
+  = a value of 8 bytes
+
+colours_always
+  $ echo 4600000003016156 | xxd -r -p | NO_COLOR=1 amqp_show --color=always
+  FieldTable
+    \x1b[36m"a"\x1b[0m: Void (esc)
+  = a value of 8 bytes
+
+colours_never
+  $ echo 4600000003016156 | xxd -r -p | amqp_show --color=never >/dev/tty
+  FieldTable
+    "a": Void
+  = a value of 8 bytes
+
+colours_otherwise
+  $ amqp_show --color=yes
+  2> error: invalid value 'yes' for '--color <WHEN>'
+  2>   [possible values: auto, always, never]
+  2>
+  2> For more information, try '--help'.
   [2]

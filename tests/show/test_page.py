@@ -51,7 +51,9 @@ def odd_inputs() -> Iterator[bytes]:
         for tag in b"SxAF":
             value = bytes([tag]) + length.to_bytes(4, "big")
             yield from (value, field(b"A", value), field(b"F", b"\1k" + value), field(b"F", b"\1k" + value)[:-1])
-    characters = "".join(map(chr, [*range(0x700), *range(0x1FF0, 0x2100), 0xFEFF, 0x1F407])).encode()
+    first = (0, 0x700), (0x1150, 0x1170), (0x17B0, 0x1820), (0x1FF0, 0x2100), (0x3160, 0x3168)
+    more = (0xFEFD, 0xFF02), (0xFF9D, 0xFFA3), (0xFFF8, 0xFFFE), (0x1F407, 0x1F408)
+    characters = "".join(chr(it) for low, high in first + more for it in range(low, high)).encode()
     yield from (field(b"S", characters), field(b"S", characters + b"\xff"), field(b"x", bytes(range(256))))
     for at in range(0, len(characters), 250):
         key = characters[at : at + 250].decode(errors="ignore").encode()

@@ -1,6 +1,7 @@
 """What amqp_show writes while a stream is read: no line waits for a value that hasn't come."""
 
 import os
+import pty
 import select
 import subprocess
 from pathlib import Path
@@ -27,3 +28,16 @@ def test_lines_before_more_comes(program: Path) -> None:
             assert shown == lines
         process.stdin.close()
         assert process.stdout.read() == b""
+
+
+def test_a_terminal_is_waited_for(program: Path) -> None:
+    """Standard error says so, as long as nothing is typed."""
+    ours, theirs = pty.openpty()
+    pipe = subprocess.PIPE
+    with subprocess.Popen([str(program), "--hex"], stdin=theirs, stdout=pipe, stderr=pipe) as process:
+        assert process.stdout and process.stderr
+        assert process.stderr.readline() == b"amqp_show: reading standard input\n"
+        os.write(ours, b"7401\n\4")
+        assert process.stdout.read() == b"Boolean true\n= a value of 2 bytes\n"
+    os.close(theirs)
+    os.close(ours)

@@ -20,9 +20,12 @@ help
         --encode         Read JSON, and write its encoding in hexadecimal
         --raw            With --encode: write the bytes themselves
         --canonical      Mark what isn't canonical, in a tree or parts
+        --strict         Have warnings, also that more bytes follow, be a failure
         --check <PEER>   Show why a peer closes the connection, or else warnings [possible values: rabbitmq, rabbitmq-3.10, rabbitmq-4.0, rabbitmq-4.3]
         --max-bytes <N>  Reject values of more than N bytes [default: 1048576]
         --depth <N>      Reject containers that nest more than N deep, at most 1000 [default: 32]
+        --skip <N>       Pass over the first N bytes of the input
+        --color <WHEN>   Use colours, by default on a terminal [default: auto] [possible values: auto, always, never]
     -h, --help           Print help
     -V, --version        Print version
 
@@ -52,8 +55,11 @@ help
   A line that begins with ! shows the first error and its offset, one with * a warning,
   since readers differ on what is there, and one with = the result.
 
-  Exit status: 0 if each value was read, 1 if a value or JSON was rejected or is truncated, 2 after
-  a mistake in the arguments or the hexadecimal, or if a file can't be read or the output written.
+  Exit status: 0 if each value was read, also if nobody reads the output any more; 1 if a value or
+  JSON was rejected or is truncated; 2 after a mistake in the arguments or the input, or if a file
+  can't be read or the output written; 3 if a value is beyond the limits; 4 if RabbitMQ closes the
+  connection; 5 if --strict is given and there are warnings. Of several it is the first of 2, 1, 4,
+  3 and 5.
 
 version
   $ amqp_show --version

@@ -234,3 +234,15 @@ long_payload_by_bytes
       20  00000008              length 8
       24  0102030405060708      0102030405060708
   = a value of 32 bytes
+
+characters_that_cannot_be_seen
+  $ xxd -r -p <<'END' | amqp_show
+  > 46 0000003b 0a782de2808b64656174685609782dc2ad6465617468560a782defbbbf6465617468560a782de280a86465617468560a782de385a4646561746856
+  > END
+  FieldTable
+    "x-\u200bdeath": Void
+    "x-\u00addeath": Void
+    "x-\ufeffdeath": Void
+    "x-\u2028death": Void
+    "x-\u3164death": Void
+  = a value of 64 bytes

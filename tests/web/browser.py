@@ -21,8 +21,8 @@ const [inputs, how, bits] = arguments, {amqp} = globalThis;
 const module = (amqp.modules ??= {})[bits] ??= amqp.compile(bits);
 return inputs.map((digits) => {
     const bytes = Uint8Array.from(digits.match(/../g) ?? [], (it) => parseInt(it, 16));
-    const isTable = how.isTable || amqp.beginsTable(module, bytes);
-    const reading = amqp.read(module, bytes, {...how, isTable}), failed = amqp.failure(reading);
+    const shape = amqp.shapeOf(module, bytes, {...how, shape: how.isTable ? "table" : "value"});
+    const reading = amqp.read(module, bytes, {...how, shape}), failed = amqp.failure(reading);
     return {
         tree: amqp.treeLines(reading),
         parts: bytes.length > 5000 ? "" : Array.from(reading.data, (_, at) =>

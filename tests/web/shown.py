@@ -61,11 +61,11 @@ def tree_of(lines: Sequence[str]) -> list[str]:
     return [it for it in lines if it[0] not in "*!="]
 
 
-def parts_of(lines: Sequence[str], data: bytes, is_table: bool) -> str:
-    """The first letter of the part that each byte is of, or of `after`, which is of none."""
+def parts_of(lines: Sequence[str], data: bytes, shift: int) -> str:
+    """The first letter of the part that each byte is of, or of `after`, which is of none. Before the bytes so many are put."""
     parts = [(int(found[1]), found[2]) for line in lines if (found := PART.fullmatch(line))]
-    whole, letters = b"F" * is_table + data, ["a"] * len(data)
-    end = min(max(1, extent(whole)), len(whole)) - is_table
+    whole, letters = (b"F" + len(data).to_bytes(4, "big"))[:shift] + data, ["a"] * len(data)
+    end = min(max(1, extent(whole)), len(whole)) - shift
     for (at, what), (stop, _) in zip(parts, [*parts[1:], (end, "")]):
         kind = next(kind for kind, words in KINDS.items() if words.match(what))
         letters[at:stop] = kind[0] * (stop - at)
@@ -100,10 +100,10 @@ def wanted(program: Path, given: Sequence[bytes], is_table: bool = False) -> Ite
         said = {it[0]: it for it in tree if it[0] in "*!="}
         notes = [found[1] for it in of_bytes if (found := NOTE.search(it))]
         text = next(texts) if said and "!" not in said else None
-        is_bare = tree[:1] == ["FieldTable"] and data[:1] != b"F"
+        is_body, is_bare = "body" in said.get("=", ""), tree[:1] == ["FieldTable"] and data[:1] != b"F"
         yield {} if not said else {
             "tree": tree_of(tree),
-            "parts": "" if len(data) > 5000 else parts_of(of_bytes, data, is_bare),
+            "parts": "" if len(data) > 5000 else parts_of(of_bytes, data, 5 if is_body else int(is_bare)),
             "repeated": said.get("*", ""),
             "failure": in_words(said.get("!", "")),
             "outcome": said["="],

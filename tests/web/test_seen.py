@@ -408,6 +408,11 @@ def test_what_bytes_seem_to_be(browser: Browser) -> None:
     notes = [table, f"{RABBITMQ} accept it"]
     key = 'offset 4: the key "\\xff" isn\'t UTF-8'
     assert outcome(browser, "00000003 01 ff 56") == ["malformed", key, *notes]
+    body = ["read as a table's body, without its type tag and length", f"{RABBITMQ} accept it", "canonical"]
+    assert outcome(browser, "01 61 56 01 62 56") == ["a table's body of 6 bytes", "", *body]
+    expect(browser, drawn, ["FieldTable", '  "a": Void', '  "b": Void'])
+    browser.choose("form", "table")
+    assert outcome(browser, "03 61 62 63 56") == ["a table's body of 5 bytes", "", *body]
     browser.choose("form", "value")
     assert outcome(browser, "00000003 01 61 56")[:2] == ["malformed", "offset 0: a type tag is expected; 00 is none"]
     assert "seems to be a table" in browser.text("notes")
@@ -455,6 +460,8 @@ def test_a_dropped_text_that_is_something_else(browser: Browser) -> None:
     """Has the hint of amqp_show, and nothing is said of RabbitMQ."""
     texts = {it.given: FAULT.search(it.wants.error.decode()) for it in HEXADECIMAL}
     hints = {text: found[1] for text, found in texts.items() if found}
+    capture = "a capture of packets: copy the bytes of the table in Wireshark as a hex stream, for --hex"
+    hints[bytes.fromhex("d4c3b2a102000400")] = capture
     hints[b'{"a": 1}'] = "the input seems to be JSON; amqp_show --encode reads it"
     assert len([it for it in hints.values() if it.startswith("a dump of")]) >= 5
     for text, hint in hints.items():

@@ -4,13 +4,13 @@ use Rattle.std.specs.Char.{is_control, encode_utf8, digit_char}
 use Rattle.std.specs.Int.{is_in_range}
 use Rattle.std.specs.Str.{chars}
 
--- a character that turns the direction of the text around it
-abbrev pub turns_text : ℕ → Bool
-turns_text c = c == 0x61C || (is_in_range 0x200E 0x200F c || (is_in_range 0x202A 0x202E c || is_in_range 0x2066 0x2069 c))
+-- a character that can't be seen, or that turns the direction of the text around it
+abbrev pub is_hidden : ℕ → Bool
+is_hidden c = c == 0xAD || (c == 0x34F || (c == 0x61C || (is_in_range 0x115F 0x1160 c || (is_in_range 0x17B4 0x17B5 c || (is_in_range 0x180B 0x180F c || (is_in_range 0x200B 0x200F c || (is_in_range 0x2028 0x202E c || (is_in_range 0x2060 0x206F c || (c == 0x3164 || (c == 0xFEFF || (c == 0xFFA0 || is_in_range 0xFFF9 0xFFFB c)))))))))))
 
--- a character that is shown: no control character, and none that turns the direction of text
+-- a character that is shown: no control character, and none that is hidden
 abbrev pub prints : ℕ → Bool
-prints c = not (is_control c || turns_text c)
+prints c = not (is_control c || is_hidden c)
 
 -- each character prints
 abbrev pub all_print : List ℕ → Bool

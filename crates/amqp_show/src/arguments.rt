@@ -17,6 +17,8 @@ const DEEPEST: i64 = 1_000;
 // The peers of which it is known what they close the connection for.
 const PEERS: &[&str] = &["rabbitmq", "rabbitmq-3.10", "rabbitmq-4.0", "rabbitmq-4.3"];
 
+const COLOURS: &[&str] = &["auto", "always", "never"];
+
 // The options without a value.
 const FLAGS: &[(&str, &str)] = &[
     ("hex", "Read hexadecimal text instead of bytes"),
@@ -29,6 +31,10 @@ const FLAGS: &[(&str, &str)] = &[
     ("encode", "Read JSON, and write its encoding in hexadecimal"),
     ("raw", "With --encode: write the bytes themselves"),
     ("canonical", "Mark what isn't canonical, in a tree or parts"),
+    (
+        "strict",
+        "Have warnings, also that more bytes follow, be a failure",
+    ),
 ];
 
 const EXAMPLES: &str = "\
@@ -58,8 +64,11 @@ tested by hand, and does the same; 3.11 to 3.13, 4.1 and 4.2 weren't tested.
 A line that begins with ! shows the first error and its offset, one with * a warning,
 since readers differ on what is there, and one with = the result.
 
-Exit status: 0 if each value was read, 1 if a value or JSON was rejected or is truncated, 2 after
-a mistake in the arguments or the hexadecimal, or if a file can't be read or the output written.";
+Exit status: 0 if each value was read, also if nobody reads the output any more; 1 if a value or
+JSON was rejected or is truncated; 2 after a mistake in the arguments or the input, or if a file
+can't be read or the output written; 3 if a value is beyond the limits; 4 if RabbitMQ closes the
+connection; 5 if --strict is given and there are warnings. Of several it is the first of 2, 1, 4,
+3 and 5.";
 
 /// A version of RabbitMQ that was tried.
 #[derive(Clone, Copy, PartialEq, Eq)]
@@ -129,6 +138,8 @@ impl Form {
 pub struct Settings {
     /// The input is a table without its type tag, or encoding gives one.
     pub is_table: bool,
+    /// It is without its length too.
+    pub is_body: bool,
     /// The input is hexadecimal.
     pub hex: bool,
     /// The input is values one after another.
@@ -137,7 +148,7 @@ pub struct Settings {
     pub has_lines: bool,
     /// How a value is shown.
     pub form: Form,
-    /// How many bytes of a stream are before the value.
+    /// How many bytes of the input are before the value.
     pub start: u64,
     /// The line that the value is on, or 0.
     pub line: u64,
@@ -154,11 +165,12 @@ impl Settings {
     pub fn from_matches(matches: &ArgMatches<'_>, colours: bool) -> Settings {
         Settings {
             is_table: matches.get_flag("table"),
+            is_body: false,
             hex: matches.get_flag("hex"),
             is_stream: matches.get_flag("stream"),
             has_lines: matches.get_flag("lines"),
             form: Form::from_matches(matches),
-            start: 0,
+            start: matches.get_one::<u64>("skip").unwrap_or(0),
             line: 0,
             is_canonical: matches.get_flag("canonical"),
             colours,
@@ -171,12 +183,20 @@ impl Settings {
 
     /// What is read.
     pub fn name(&self) -> &'static str {
-        if self.is_table { "table" } else { "value" }
+        match self.left_out() {
+            0 => "value",
+            1 => "table",
+            _ => "table's body",
+        }
     }
 
-    /// How many bytes of a value's encoding the input is without: a table's type tag.
+    /// How many bytes of a value's encoding the input is without: a table's type tag, and its length.
     pub fn left_out(&self) -> usize {
-        usize::from(self.is_table)
+        if self.is_body {
+            5
+        } else {
+            usize::from(self.is_table)
+        }
     }
 
     /// The offset in the input of what is at an offset of the value's encoding.
@@ -203,6 +223,8 @@ fn all_arguments<'a>(alloc: Global) -> Result<Vec<Arg<'a>>, AllocError> {
     arguments.push(check(alloc)?)?;
     arguments.push(max_bytes(alloc))?;
     arguments.push(depth(alloc))?;
+    arguments.push(skip(alloc)?)?;
+    arguments.push(color(alloc))?;
     arguments.push(files(alloc))?;
     Ok(arguments)
 }
@@ -271,6 +293,25 @@ fn depth<'a>(alloc: Global) -> Arg<'a> {
         .value_parser(value_parser!(u32).range(0..=DEEPEST))
         .default_value("32")
         .help("Reject containers that nest more than N deep, at most 1000")
+}
+
+fn skip<'a>(alloc: Global) -> Result<Arg<'a>, AllocError> {
+    Arg::new(alloc, "skip")
+        .long("skip")
+        .value_name("N")
+        .value_parser(value_parser!(u64))
+        .help("Pass over the first N bytes of the input")
+        .conflicts_with("encode")?
+        .conflicts_with("lines")
+}
+
+fn color<'a>(alloc: Global) -> Arg<'a> {
+    Arg::new(alloc, "color")
+        .long("color")
+        .value_name("WHEN")
+        .value_parser(COLOURS)
+        .default_value("auto")
+        .help("Use colours, by default on a terminal")
 }
 
 fn files<'a>(alloc: Global) -> Arg<'a> {

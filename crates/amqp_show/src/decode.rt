@@ -7,7 +7,7 @@ use crate::arguments::Settings;
 use crate::fault::{Fault, Result, Status};
 use crate::messages::complain;
 use crate::parts::parts_of;
-use crate::problems::{key_text, problem_text};
+use crate::problems::{key_text, problem_text, status_of};
 use crate::screen::Screen;
 use amq_protocol_types::stream::Limits;
 use amqp_in_place::rabbitmq::warnings;
@@ -24,18 +24,24 @@ pub fn show_json(
     bytes: &[u8],
     settings: Settings,
 ) -> Result<Status> {
-    let (status, why) = match push_json(rt.alloc(), screen, bytes, settings.limits) {
-        Ok(()) => (Status::Read, repeated_text(rt.alloc(), bytes, settings)?),
-        Err(DecodeError::Refused(_)) => (
-            Status::Rejected,
-            failure_text(rt.alloc(), bytes, settings)?,
-        ),
+    let (alloc, limits) = (rt.alloc(), settings.limits);
+    let (status, why) = match push_json(alloc, screen, bytes, limits) {
+        Ok(()) => match repeated_text(alloc, bytes, settings)? {
+            None => return Ok(Status::Read),
+            Some(why) => (Status::Warned, why),
+        },
+        Err(DecodeError::Refused(_)) => match first_problem(bytes, Rules::Reading, limits) {
+            None => return Ok(Status::Rejected),
+            Some(problem) => {
+                let parts = parts_of(alloc, bytes, limits.depth)?;
+                let why = problem_text(alloc, bytes, parts.as_slice(), problem, settings)?;
+                (status_of(problem), why)
+            }
+        },
         Err(DecodeError::OutOfMemory) => return Err(Fault::OutOfMemory),
     };
-    if let Some(why) = why {
-        screen.print(rt)?;
-        complain(rt, file, why.as_str())?;
-    }
+    screen.print(rt)?;
+    complain(rt, file, why.as_str())?;
     Ok(status)
 }
 
@@ -68,17 +74,4 @@ fn repeated_text(
     };
     let what = "comes again; JSON parsers differ in which value they take";
     Ok(Some(key_text(alloc, bytes, pair, what, settings)?))
-}
-
-// Why the value is rejected.
-fn failure_text(
-    alloc: Global,
-    bytes: &[u8],
-    settings: Settings,
-) -> Result<Option<String>, AllocError> {
-    let Some(problem) = first_problem(bytes, Rules::Reading, settings.limits) else {
-        return Ok(None);
-    };
-    let parts = parts_of(alloc, bytes, settings.limits.depth)?;
-    Ok(Some(problem_text(alloc, bytes, parts.as_slice(), problem, settings)?))
 }

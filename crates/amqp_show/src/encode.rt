@@ -142,6 +142,7 @@ fn write_encoding(
     print_encoding(rt, wanted, is_raw)?;
     if let Some(why) = repeated {
         complain(rt, file, why.as_str())?;
+        return Ok(Status::Warned);
     }
     Ok(Status::Read)
 }

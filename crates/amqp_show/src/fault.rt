@@ -11,6 +11,12 @@ use thiserror::Error;
 pub enum Status {
     /// Each value was read.
     Read,
+    /// Each was, and readers may differ on one.
+    Warned,
+    /// One is beyond the limits.
+    Beyond,
+    /// RabbitMQ closes the connection for one.
+    Closes,
     /// One was rejected, or is truncated.
     Rejected,
     /// A mistake in the arguments, input that can't be read, output that can't be written, or out of
@@ -20,7 +26,7 @@ pub enum Status {
 
 impl Status {
     ghost use Rattle.std.specs.Prelude.{◌≡◌, max};
-    ghost use Rattle.amqp_show.specs.Output.{code_of};
+    ghost use Rattle.amqp_show.specs.Output.{code_of, rank_of, is_read};
 
     /// The exit status of the program.
     pub fn code(self) -> u8
@@ -30,17 +36,41 @@ impl Status {
             Status::Read => 0,
             Status::Rejected => 1,
             Status::Mistake => 2,
+            Status::Beyond => 3,
+            Status::Closes => 4,
+            Status::Warned => 5,
         }
+    }
+
+    // From the best to the worst.
+    fn rank(self) -> u8
+        ensures { result ≡ rank_of self }
+    {
+        match self {
+            Status::Read => 0,
+            Status::Warned => 1,
+            Status::Beyond => 2,
+            Status::Closes => 3,
+            Status::Rejected => 4,
+            Status::Mistake => 5,
+        }
+    }
+
+    /// Whether each value was read.
+    pub fn is_read(self) -> bool
+        ensures { result ≡ is_read self }
+    {
+        matches!(self, Status::Read | Status::Warned)
     }
 
     /// The worse of two.
     pub fn and(self, other: Status) -> Status
-        ensures { code_of result ≡ max (code_of self) (code_of other) }
+        ensures { rank_of result ≡ max (rank_of self) (rank_of other) }
     {
-        match (self, other) {
-            (Status::Mistake, _) | (_, Status::Mistake) => Status::Mistake,
-            (Status::Rejected, _) | (_, Status::Rejected) => Status::Rejected,
-            (Status::Read, Status::Read) => Status::Read,
+        if self.rank() < other.rank() {
+            other
+        } else {
+            self
         }
     }
 }
@@ -57,6 +87,9 @@ pub enum Fault {
     /// The file isn't hexadecimal.
     #[error("{0}")]
     NotHexadecimal(NotHexadecimal),
+    /// The input ends before what --skip passes over does.
+    #[error("the input ends within the {0} bytes that --skip passes over")]
+    Short(u64),
     /// Nobody reads the output any more.
     #[error("nobody reads the output")]
     Closed,
@@ -90,7 +123,10 @@ impl Fault {
 
     /// Whether the next file may still be shown.
     pub fn is_of_file(&self) -> bool {
-        matches!(self, Fault::Input(_) | Fault::NotHexadecimal(_))
+        matches!(
+            self,
+            Fault::Input(_) | Fault::NotHexadecimal(_) | Fault::Short(_)
+        )
     }
 }
 

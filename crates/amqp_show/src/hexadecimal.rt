@@ -197,17 +197,17 @@ pub fn push_bytes(
     Ok(decoder.take(b'\n').err())
 }
 
-/// Whether the bytes are themselves a text that spells some.
+/// Whether the bytes are themselves a text that spells some, also if a digit is missing at its end.
 pub fn is_hexadecimal(text: &[u8]) -> bool {
     let mut decoder = Decoder::new(1);
     let mut has_bytes = false;
-    for character in text {
+    for character in text.trim_ascii_end() {
         match decoder.take(*character) {
             Ok(byte) => has_bytes |= byte.is_some(),
             Err(_) => return false,
         }
     }
-    has_bytes && decoder.finish().is_ok()
+    has_bytes
 }
 
 // The state after the next character, and the byte that it completes; `None` if it can't come.

@@ -163,6 +163,23 @@ impl Input {
         Some((*line, first, there.get(first..second).unwrap_or(&[])))
     }
 
+    /// Is done with that many of the first bytes.
+    pub fn skip(&mut self, count: u64) -> Result<()> {
+        let mut left = count;
+        for _ in 0..u64::MAX {
+            let some = left.min(BLOCK as u64) as usize;
+            if some == 0 {
+                break;
+            }
+            if self.up_to(some)?.len() < some {
+                return Err(Fault::Short(count));
+            }
+            self.pass(some);
+            left = left.saturating_sub(some as u64);
+        }
+        Ok(())
+    }
+
     // Reads on until there are that many bytes, or the input ends.
     fn fill(&mut self, count: usize) -> Result<()> {
         for _ in 0..u64::MAX {

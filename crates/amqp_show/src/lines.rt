@@ -6,7 +6,8 @@ use crate::hexadecimal::{dump_of, push_bytes};
 use crate::input::{BLOCK, Input};
 use crate::messages::complain;
 use crate::screen::Screen;
-use crate::show::{AS_TABLE, HAS_TAG, begin, begins_table, has_tag, show_value};
+use crate::shape::{Seems, before, is_plain, shape_of};
+use crate::show::{begin, show_value};
 use amq_protocol_types::parsing::SliceInput;
 use amq_protocol_types::parsing::header::value_len;
 
@@ -67,23 +68,25 @@ fn show_line(
     if bytes.is_empty() {
         return Ok(Status::Read);
     }
-    if !settings.is_table && begins_table(bytes.as_slice()) {
-        complain_of_line(rt, screen, file, AS_TABLE, settings)?;
-        settings.is_table = true;
+    if !is_plain(bytes.as_slice(), settings) {
+        let seems = shape_of(rt.alloc(), bytes.as_slice(), settings)?;
+        if let Some(what) = seems.text() {
+            complain_of_line(rt, screen, file, what, settings)?;
+        }
+        if let Seems::Other(_) = seems {
+            return Ok(Status::Mistake);
+        }
+        settings = seems.settings(settings);
     }
-    if settings.is_table {
-        bytes.extend_from_slice(b"F")?;
-        bytes.rotate_right(bytes.len().min(1));
-    }
-    let bytes = bytes.as_slice();
-    if has_tag(bytes, settings) {
-        complain_of_line(rt, screen, file, HAS_TAG, settings)?;
-        return Ok(Status::Rejected);
-    }
+    let mut all = Vec::new(rt.alloc());
+    let before = before(bytes.len());
+    all.extend_from_slice(before.get(..settings.left_out()).unwrap_or(&[]))?;
+    all.extend_from_slice(bytes.as_slice())?;
+    let bytes = all.as_slice();
     let len = value_len(SliceInput::new(bytes)).max(1);
     let value = bytes.get(..len).unwrap_or(bytes);
     let status = show_value(rt, screen, file, value, settings)?;
-    if status == Status::Read && len < bytes.len() {
+    if status.is_read() && len < bytes.len() {
         complain_of_line(rt, screen, file, "more bytes follow the value", settings)?;
         return Ok(Status::Rejected);
     }

@@ -32,6 +32,7 @@ mod messages;
 mod parts;
 mod problems;
 mod screen;
+mod shape;
 mod show;
 mod tree;
 
@@ -42,6 +43,7 @@ use fault::{Fault, Result, Status};
 use messages::{complain, say};
 use screen::{Screen, is_terminal};
 use std::env;
+use std::io::IsTerminal;
 use std::process::ExitCode;
 
 fn main(rt: HostRuntime) -> ExitCode {
@@ -59,6 +61,8 @@ fn exit_code(outcome: &Result<Status>) -> ExitCode
 {
     match outcome {
         Ok(status) => ExitCode::from(status.code()),
+        // (as other programs whose output nobody reads any more)
+        Err(Fault::Closed) => ExitCode::from(Status::Read.code()),
         Err(_) => ExitCode::from(Status::Mistake.code()),
     }
 }
@@ -83,10 +87,13 @@ fn run(rt: &HostRuntime) -> Result<Status> {
 
 // Shows each file, or encodes its JSON.
 fn run_files(rt: &HostRuntime, matches: &ArgMatches<'_>) -> Result<Status> {
-    let settings = Settings::from_matches(matches, is_terminal(rt) && allows_colours(rt));
+    let settings = Settings::from_matches(matches, has_colours(rt, matches));
     let mut status = Status::Read;
     for file in matches.get_strs("FILE").unwrap_or(&["-"]) {
         status = status.and(run_file(rt, *file, matches, settings)?);
+    }
+    if status == Status::Warned && !matches.get_flag("strict") {
+        return Ok(Status::Read);
     }
     Ok(status)
 }
@@ -98,6 +105,9 @@ fn run_file(
     matches: &ArgMatches<'_>,
     settings: Settings,
 ) -> Result<Status> {
+    if file == "-" && rt.stdin().is_terminal() {
+        say(rt, "reading standard input")?;
+    }
     let ran = if matches.get_flag("encode") {
         encode::encode_file(rt, file, matches.get_flag("raw"), settings)
     } else if settings.has_lines {
@@ -134,10 +144,19 @@ fn show_usage(rt: &HostRuntime, error: &clap::Error) -> Result<Status> {
     Ok(Status::Read)
 }
 
-// Whether there may be colours. A variable `NO_COLOR` that isn't empty is a wish for no colours.
-fn allows_colours(rt: &HostRuntime) -> bool {
-    match env::var(rt, "NO_COLOR") {
-        Ok(text) => text.is_empty(),
-        Err(_) => true,
+// Whether there are colours: as --color says, or on a terminal that has them, unless a variable `NO_COLOR` isn't empty.
+fn has_colours(rt: &HostRuntime, matches: &ArgMatches<'_>) -> bool {
+    match matches.get_str("color") {
+        Some("always") => true,
+        Some("never") => false,
+        _ => is_terminal(rt) && !is_variable(rt, "TERM", "dumb") && is_variable(rt, "NO_COLOR", ""),
+    }
+}
+
+// Whether a variable has a value, of which it has none if it isn't set.
+fn is_variable(rt: &HostRuntime, name: &str, value: &str) -> bool {
+    match env::var(rt, name) {
+        Ok(text) => text.as_str() == value,
+        Err(_) => value.is_empty(),
     }
 }

@@ -1,7 +1,11 @@
 //! `problem_text`: the message of a `Problem`, which says why a value is rejected, or closes a
 //! connection, and where.
 
+ghost use Rattle.std.specs.Prelude.{IsFalse};
+ghost use Rattle.amqp_show.specs.Output.{is_read};
+
 use crate::arguments::{Form, Settings};
+use crate::fault::Status;
 use crate::messages::{bytes_text, place_text, quoted};
 use crate::parts::{Field, Part, type_of};
 use amq_protocol_types::AMQPType;
@@ -53,6 +57,16 @@ pub fn is_beyond_limits(problem: Problem) -> bool {
     matches!(problem.kind, ProblemKind::TooDeep | ProblemKind::TooLarge)
 }
 
+/// The status of a value that has it.
+pub fn status_of(problem: Problem) -> Status
+    ensures { IsFalse (is_read result) }
+{
+    if is_beyond_limits(problem) {
+        return Status::Beyond;
+    }
+    Status::Rejected
+}
+
 fn truncated_text(alloc: Global, innermost: &[u8]) -> Result<String, AllocError> {
     match type_of(innermost) {
         Some(amqp_type) => format!(in alloc; "the input ends inside the {amqp_type}"),
@@ -92,7 +106,7 @@ fn too_deep_text(alloc: Global, settings: Settings) -> Result<String, AllocError
 }
 
 fn too_large_text(alloc: Global, value: &[u8], settings: Settings) -> Result<String, AllocError> {
-    let with_tag = if settings.is_table {
+    let with_tag = if settings.is_table && !settings.is_body {
         " with its type tag"
     } else {
         ""

@@ -6,7 +6,7 @@ ghost use Rattle.std.specs.Char.{digit_char};
 ghost use Rattle.std.specs.Io.KnownBytes.{Appends, Keeps};
 ghost use Rattle.std.specs.Bool.{OnTrue};
 ghost use Rattle.std.specs.Str.{chars};
-ghost use Rattle.amqp_show.specs.Screens.{IsShowable, prints, all_print, turns_text};
+ghost use Rattle.amqp_show.specs.Screens.{IsShowable, prints, all_print, is_hidden};
 
 use crate::fault::Fault;
 use std::alloc::{AllocError, Global};
@@ -207,7 +207,7 @@ pub fn is_terminal(rt: &HostRuntime) -> bool {
 fn does_print(c: char) -> bool
     ensures { result ≡ prints c }
 {
-    !c.is_control() && !turns(c)
+    !c.is_control() && !is_hidden(c)
 }
 
 // Whether each character of the words does.
@@ -222,11 +222,13 @@ fn all_print(words: &str) -> bool
     true
 }
 
-// Whether the character turns the direction of the text around it.
-fn turns(c: char) -> bool
-    ensures { result ≡ turns_text c }
+// Whether the character can't be seen, or turns the direction of the text around it.
+fn is_hidden(c: char) -> bool
+    ensures { result ≡ is_hidden c }
 {
-    matches!(c, '\u{61c}' | '\u{200e}'..='\u{200f}' | '\u{202a}'..='\u{202e}' | '\u{2066}'..='\u{2069}')
+    matches!(c, '\u{ad}' | '\u{34f}' | '\u{61c}' | '\u{115f}'..='\u{1160}' | '\u{17b4}'..='\u{17b5}'
+        | '\u{180b}'..='\u{180f}' | '\u{200b}'..='\u{200f}' | '\u{2028}'..='\u{202e}' | '\u{2060}'..='\u{206f}'
+        | '\u{3164}' | '\u{feff}' | '\u{ffa0}' | '\u{fff9}'..='\u{fffb}')
 }
 
 // The digit of a number below 16.

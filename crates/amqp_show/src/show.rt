@@ -1,19 +1,21 @@
 //! `show_file`: shows the value at the beginning of a file, or each value of a stream, by `tree`,
 //! `decode` or `check`.
 
-ghost use Rattle.std.specs.Prelude.{◌≡◌, ◌↔◌, IfOk};
+ghost use Rattle.std.specs.Prelude.{◌↔◌, IfOk, IsTrue};
+ghost use Rattle.amqp_show.specs.Output.{is_read};
 ghost use Rattle.amqp_in_place.specs.ProblemResults.{FindsValue};
 
 use crate::arguments::{Form, Settings};
 use crate::check::push_check;
 use crate::decode::show_json;
 use crate::fault::{Fault, Result, Status};
-use crate::hexadecimal::{NotHexadecimal, is_hexadecimal};
+use crate::hexadecimal::NotHexadecimal;
 use crate::input::{BLOCK, Input};
 use crate::messages::{bytes_text, complain, push_outcome, push_remark};
-use crate::parts::{Note, Part, parts_of, type_of};
-use crate::problems::{is_beyond_limits, is_truncated, key_text, problem_text};
+use crate::parts::{Note, Part, parts_of};
+use crate::problems::{is_beyond_limits, is_truncated, key_text, problem_text, status_of};
 use crate::screen::{Colour, Screen};
+use crate::shape::{Seems, before, begins_table, is_plain, shape_of};
 use crate::tree::{show_parts, show_tree};
 use amq_protocol_types::parsing::{Err, Needed};
 use amqp_in_place::{
@@ -23,25 +25,17 @@ use std::alloc::{AllocError, Global};
 
 const MORE_VALUES: &str = "; --stream shows values one after another";
 
-/// What is said of a table that has a type tag.
-pub const HAS_TAG: &str = "the input seems to have a type tag; without --table it is read";
-
-/// What is said of bytes that are read as a table.
-pub const AS_TABLE: &str = "read as a table without its type tag, as with --table";
-
 const ARE_TABLES: &str = "the input seems to be tables without their type tags; --table reads them";
 
 /// Shows the value at the beginning of a file, or each of a stream.
 pub fn show_file(rt: &HostRuntime, file: &str, settings: Settings) -> Result<Status> {
     let mut input = Input::open(rt, file, settings.hex)?;
+    input.skip(settings.start)?;
     let mut screen = begin(rt, file, settings)?;
     if settings.is_stream {
         let shown = show_stream(rt, &mut screen, file, input, settings);
         screen.print(rt)?;
         return shown;
-    }
-    if settings.is_table {
-        input.put(b'F')?;
     }
     show_first(rt, &mut screen, file, &mut input, settings)
 }
@@ -65,16 +59,21 @@ fn show_first(
     input: &mut Input,
     mut settings: Settings,
 ) -> Result<Status> {
-    if let Some(hint) = hint(input, settings)? {
-        complain(rt, file, hint)?;
-        return Ok(Status::Rejected);
+    let begin = if settings.is_table { 4 } else { 1 };
+    if !is_plain(input.up_to(begin)?, settings) {
+        let bytes = input.up_to(settings.limits.frame as usize)?;
+        let seems = shape_of(rt.alloc(), bytes, settings)?;
+        if let Some(what) = seems.text() {
+            complain(rt, file, what)?;
+        }
+        if let Seems::Other(_) = seems {
+            return Ok(Status::Mistake);
+        }
+        settings = seems.settings(settings);
     }
-    let most = settings.limits.frame as usize;
-    let is_read = settings.is_table || type_of(input.up_to(1)?).is_some();
-    if !is_read && begins_table(input.up_to(most)?) {
-        complain(rt, file, AS_TABLE)?;
-        settings.is_table = true;
-        input.put(b'F')?;
+    let before = before(input.there().len());
+    for byte in before.iter().take(settings.left_out()).rev() {
+        input.put(*byte)?;
     }
     let len = input.next_value(settings.limits.frame)?.len();
     // (what follows may be no hexadecimal, which is reported after the value)
@@ -82,11 +81,12 @@ fn show_first(
     check_line(input, len, settings)?;
     let status = show_value(rt, screen, file, input.up_to(len)?, settings)?;
     screen.print(rt)?;
-    if status == Status::Read && ahead? > len {
+    if status.is_read() && ahead? > len {
         let hint = if settings.is_table { "" } else { MORE_VALUES };
         let offset = settings.offset(len);
         let why = format!(in rt.alloc(); "more bytes follow, from offset {offset}{hint}")?;
         complain(rt, file, why.as_str())?;
+        return Ok(Status::Warned);
     }
     Ok(status)
 }
@@ -95,6 +95,8 @@ fn show_first(
 // or the line after it is one.
 fn check_line(input: &Input, len: usize, settings: Settings) -> Result<()> {
     match input.line() {
+        // (the first line may have other bytes too)
+        _ if settings.start > 0 => Ok(()),
         Some((line, end, after)) if end == len && !after.is_empty() => {
             Err(Fault::NotHexadecimal(NotHexadecimal::Lines(line)))
         }
@@ -114,47 +116,6 @@ fn is_whole(bytes: &[u8], settings: Settings) -> bool {
     matches!(read_in_place(bytes, settings.limits), Ok((_, rest)) if rest.is_empty())
 }
 
-// What an input is instead that doesn't begin with a value.
-fn hint(input: &mut Input, settings: Settings) -> Result<Option<&'static str>> {
-    let most = settings.limits.frame;
-    if settings.is_table {
-        return Ok(has_tag(input.up_to(2)?, settings).then_some(HAS_TAG));
-    }
-    if type_of(input.up_to(1)?).is_some() {
-        return Ok(None);
-    }
-    let bytes = input.up_to(most as usize)?;
-    Ok(match bytes {
-        [b'{' | b'[', ..] if !settings.hex => Some("the input seems to be JSON; --encode reads it"),
-        _ if !settings.hex && is_hexadecimal(bytes) => Some(
-            "the input seems to be hexadecimal; --hex reads it",
-        ),
-        _ => None,
-    })
-}
-
-/// Whether a table has a type tag after the one that was put there. (If it began a length, that would be beyond the
-/// limits.)
-pub fn has_tag(bytes: &[u8], settings: Settings) -> bool {
-    bytes.starts_with(b"FF") && settings.limits.frame < 0x4600_0000
-}
-
-//// Whether bytes that don't begin with a value begin with a table without its type tag: one of the length that
-/// there is, or one whose first value has a type tag, as far as it is there.
-pub fn begins_table(bytes: &[u8]) -> bool {
-    let [0, b, c, d, body @ ..] = bytes else {
-        return false;
-    };
-    let len = u32::from_be_bytes([0, *b, *c, *d]) as usize;
-    let value = match body {
-        [count, after @ ..] => after.get(usize::from(*count)..).unwrap_or(&[]),
-        [] => &[],
-    };
-    len == body.len()
-        || (len > 0 && type_of(value).is_some())
-        || (len > body.len() && value.is_empty())
-}
-
 // Shows the values of a stream up to the first that is rejected. What is added to the screen is
 // printed once the next value has to be awaited.
 fn show_stream(
@@ -165,7 +126,8 @@ fn show_stream(
     mut settings: Settings,
 ) -> Result<Status> {
     // whether each line of hexadecimal was a value, and how many bytes the last had
-    let (mut are_values, mut last) = (true, 0);
+    let (mut are_values, mut last) = (settings.start == 0, 0);
+    let mut all = Status::Read;
     let tag: &[u8] = if settings.is_table { b"F" } else { b"" };
     for _ in 0..u64::MAX {
         if screen.len() >= BLOCK || !input.has_next(tag) {
@@ -187,18 +149,19 @@ fn show_stream(
             last = end;
         }
         let status = show_value(rt, screen, file, input.up_to(len)?, settings)?;
-        if status == Status::Rejected {
+        if !status.is_read() {
             if !settings.is_table && begins_table(input.there()) {
                 screen.print(rt)?;
                 complain(rt, file, ARE_TABLES)?;
             }
             return Ok(status);
         }
+        all = all.and(status);
         input.pass(len);
         let len = len.saturating_sub(settings.left_out()) as u64;
         settings.start = settings.start.saturating_add(len);
     }
-    Ok(Status::Read)
+    Ok(all)
 }
 
 /// Shows the value of these bytes, or why it is rejected.
@@ -224,7 +187,7 @@ fn show_text(
     settings: Settings,
 ) -> Result<Status>
     ensures { IfOk result (λ status.
-        (status ≡ Status.Read) ↔ FindsValue settings.limits bytes.now) }
+        IsTrue (is_read status) ↔ FindsValue settings.limits bytes.now) }
 {
     let alloc = rt.alloc();
     let problem = first_problem(bytes, Rules::Reading, settings.limits);
@@ -241,7 +204,8 @@ fn show_text(
     }?;
     push_result(alloc, screen, bytes, parts, problem, settings)?;
     Ok(match problem {
-        Some(_) => Status::Rejected,
+        Some(problem) => status_of(problem),
+        None if repeated(parts).is_some() => Status::Warned,
         None => Status::Read,
     })
 }
@@ -272,13 +236,18 @@ fn push_repeated(
     parts: &[Part<'_>],
     settings: Settings,
 ) -> Result<(), AllocError> {
-    let Some(part) = parts.iter().find(|part| part.note == Some(Note::Repeated)) else {
+    let Some(part) = repeated(parts) else {
         return Ok(());
     };
     let what = "comes again; readers differ in which value they take";
     // (the key's length is before it)
     let why = key_text(alloc, bytes, part.offset.saturating_sub(1), what, settings)?;
     push_remark(alloc, screen, Colour::Note, why.as_str())
+}
+
+// The first key that comes again in its table.
+fn repeated<'a>(parts: &'a [Part<'a>]) -> Option<&'a Part<'a>> {
+    parts.iter().find(|part| part.note == Some(Note::Repeated))
 }
 
 // What reading the bytes results in.
