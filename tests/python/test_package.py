@@ -669,4 +669,4 @@ def test_what_the_guide_sends_and_logs() -> None:
         (b"\0\0\0\3\1a", "000000030161"),
     ):
         assert names["as_text"](Refused(own.Error("cut"), raw)) == text
-    assert names["as_text"]({}) == "{}"
+    assert [names["as_text"](it) for it in (None, {"a": 1})] == ["None", "{'a': 1}"]
