@@ -38,7 +38,7 @@ def seconds_of(program: Path, words: str, data: bytes, most_bytes: int) -> float
     return float(used.ru_utime + used.ru_stime)
 
 
-@pytest.mark.parametrize("words", ("", "--bytes --canonical", "--json", "--check rabbitmq", "--stream"))
+@pytest.mark.parametrize("words", ("", "--bytes --canonical", "--json", "--plain", "--check rabbitmq", "--stream"))
 @pytest.mark.parametrize("name", LARGE)
 def test_large(program: Path, name: str, words: str) -> None:
     # (others may run too)

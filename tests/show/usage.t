@@ -16,6 +16,7 @@ help
         --tree           Show a tree of values and types (the default)
         --bytes          Show each part with its offset and its bytes
         --json           Show JSON, on a line for each value
+        --plain          Show JSON with plain numbers and dates, for jq
         --encode         Read JSON, and write its encoding in hexadecimal
         --raw            With --encode: write the bytes themselves
         --canonical      Mark what isn't canonical, in a tree or parts

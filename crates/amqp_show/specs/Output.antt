@@ -2,6 +2,7 @@
 use Rattle.std.specs.Prelude.{◌≡◌, ℕ, Result, Ok, Err, List, [], ◌∷◌, ◌++◌, string_bytes}
 use Rattle.amq_protocol_types.specs.declared.parsing.within.Limits.{Limits}
 use Rattle.amqp_json.specs.Conversions.{IsJsonOf}
+use Rattle.amqp_show.specs.Plain.{IsPlainOf}
 use Rattle.amqp_show.specs.Screens.{in_line}
 use Rattle.amqp_show.specs.declared.fault.Fault.{Fault}
 use Rattle.amqp_show.specs.declared.fault.Status.{Status}
@@ -21,6 +22,10 @@ pub record AddsText (old new : Screen) (more : List ℕ) : Type 0 where
 -- print is escaped
 abbrev pub AddsJsonLine : Limits → List ℕ → Screen → Screen → Type 0
 AddsJsonLine l s old new = (t : List ℕ) × (rest : List ℕ) × IsJsonOf l s t rest × AddsText old new (in_line t ++ 10 ∷ [])
+
+-- so of plain JSON
+abbrev pub AddsPlainLine : Limits → List ℕ → Screen → Screen → Type 0
+AddsPlainLine l s old new = (t : List ℕ) × IsPlainOf l s t × AddsText old new (in_line t ++ 10 ∷ [])
 
 -- 0 if each value was read, 1 if one was rejected, and 2 if the program couldn't do its work
 abbrev pub code_of : Status → ℕ

@@ -25,6 +25,7 @@ const FLAGS: &[(&str, &str)] = &[
     ("tree", "Show a tree of values and types (the default)"),
     ("bytes", "Show each part with its offset and its bytes"),
     ("json", "Show JSON, on a line for each value"),
+    ("plain", "Show JSON with plain numbers and dates, for jq"),
     ("encode", "Read JSON, and write its encoding in hexadecimal"),
     ("raw", "With --encode: write the bytes themselves"),
     ("canonical", "Mark what isn't canonical, in a tree or parts"),
@@ -102,6 +103,8 @@ pub enum Form {
     Bytes,
     /// As JSON, in a line.
     Json,
+    /// As JSON without the names of types, in a line.
+    Plain,
     /// By what RabbitMQ makes of it.
     Check(Version),
 }
@@ -113,11 +116,18 @@ impl Form {
         }
         if matches.get_flag("json") {
             Form::Json
+        } else if matches.get_flag("plain") {
+            Form::Plain
         } else if matches.get_flag("bytes") {
             Form::Bytes
         } else {
             Form::Tree
         }
+    }
+
+    /// Whether it is JSON of one of the two kinds.
+    pub fn is_json(self) -> bool {
+        matches!(self, Form::Json | Form::Plain)
     }
 }
 
@@ -224,7 +234,7 @@ impl Relations {
             "hex" | "stream" => (&[], &["encode"], &[]),
             "table" => (&[], &["stream"], &[]),
             "tree" | "bytes" => (&["form"], &[], &[]),
-            "json" | "encode" => (&["form"], &["canonical"], &[]),
+            "json" | "plain" | "encode" => (&["form"], &["canonical"], &[]),
             "raw" => (&[], &[], &["encode"]),
             _ => (&[], &[], &[]),
         };

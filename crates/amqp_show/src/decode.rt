@@ -1,12 +1,13 @@
-//! `show_json`: shows a value as JSON, for `--json`.
+//! `show_json`: shows a value as JSON, for `--json` and `--plain`.
 
 ghost use Rattle.std.specs.Prelude.{OnOk};
-ghost use Rattle.amqp_show.specs.Output.{AddsJsonLine};
+ghost use Rattle.amqp_show.specs.Output.{AddsJsonLine, AddsPlainLine};
 
-use crate::arguments::Settings;
+use crate::arguments::{Form, Settings};
 use crate::fault::{Fault, Result, Status};
 use crate::messages::complain;
 use crate::parts::parts_of;
+use crate::plain::plain_of_encoding;
 use crate::problems::{key_text, problem_text};
 use crate::screen::Screen;
 use amq_protocol_types::stream::Limits;
@@ -24,7 +25,12 @@ pub fn show_json(
     bytes: &[u8],
     settings: Settings,
 ) -> Result<Status> {
-    let (status, why) = match push_json(rt.alloc(), screen, bytes, settings.limits) {
+    let pushed = if settings.form == Form::Plain {
+        push_plain(rt.alloc(), screen, bytes, settings.limits)
+    } else {
+        push_json(rt.alloc(), screen, bytes, settings.limits)
+    };
+    let (status, why) = match pushed {
         Ok(()) => (Status::Read, repeated_text(rt.alloc(), bytes, settings)?),
         Err(DecodeError::Refused(_)) => (
             Status::Rejected,
@@ -49,6 +55,20 @@ fn push_json(
     ensures { OnOk result (AddsJsonLine limits bytes.now screen.old screen.new) }
 {
     let (json, _) = json_of_encoding(alloc, bytes, limits)?;
+    screen.push_line(json.as_str())?;
+    Ok(())
+}
+
+// Adds the plain JSON of the value at the start of the bytes, on a line.
+fn push_plain(
+    alloc: Global,
+    screen: &mut Screen,
+    bytes: &[u8],
+    limits: Limits,
+) -> Result<(), DecodeError>
+    ensures { OnOk result (AddsPlainLine limits bytes.now screen.old screen.new) }
+{
+    let json = plain_of_encoding(alloc, bytes, limits)?;
     screen.push_line(json.as_str())?;
     Ok(())
 }

@@ -7,7 +7,7 @@
 //! arguments   arguments                                    Settings
 //! a file      input, with --hex by hexadecimal             the bytes of a value
 //! the bytes   show, by parts and problems: tree, decode    Screen, Status
-//!             (to JSON), check (RabbitMQ)
+//!             (to JSON, or by plain), check (RabbitMQ)
 //! JSON        encode                                       the bytes, or digits
 //! Screen      screen; messages on standard error           what is printed
 //! ```
@@ -29,6 +29,7 @@ mod hexadecimal;
 mod input;
 mod messages;
 mod parts;
+mod plain;
 mod problems;
 mod screen;
 mod show;
