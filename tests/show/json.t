@@ -2,11 +2,11 @@
 
 json
   $ amqp_show --hex --json client_properties.hex x_death.hex queue_arguments.hex each_type.hex not_canonical.hex
-  {"capabilities":{"basic.nack":true,"publisher_confirms":true},"platform":"Rust","product":"lapin","version":"2.3.1"}
-  [{"count":2,"queue":"orders","reason":"expired","routing-keys":["new"],"time":{"$Timestamp":1700000000}}]
-  {"x-max-length":{"$LongInt":10000},"x-message-ttl":{"$LongUInt":60000},"x-queue-type":"quorum"}
-  [false,{"$ShortShortInt":-1},{"$ShortShortUInt":255},{"$ShortInt":-2},{"$ShortUInt":65534},{"$LongInt":-3},{"$LongUInt":4294967293},-4,{"$Float":1.5},-0.25,{"$DecimalValue":"31415e-2"},"say \"hi\"\n",{"$ByteArray":"009bff"},[],{},{"$Timestamp":1},null]
-  {"b":true,"a":{"$ShortInt":1},"a":1,"":null}
+  {"file":"client_properties.hex","value":{"capabilities":{"basic.nack":true,"publisher_confirms":true},"platform":"Rust","product":"lapin","version":"2.3.1"}}
+  {"file":"x_death.hex","value":[{"count":2,"queue":"orders","reason":"expired","routing-keys":["new"],"time":{"$Timestamp":1700000000}}]}
+  {"file":"queue_arguments.hex","value":{"x-max-length":{"$LongInt":10000},"x-message-ttl":{"$LongUInt":60000},"x-queue-type":"quorum"}}
+  {"file":"each_type.hex","value":[false,{"$ShortShortInt":-1},{"$ShortShortUInt":255},{"$ShortInt":-2},{"$ShortUInt":65534},{"$LongInt":-3},{"$LongUInt":4294967293},-4,{"$Float":1.5},-0.25,{"$DecimalValue":"31415e-2"},"say \"hi\"\n",{"$ByteArray":"009bff"},[],{},{"$Timestamp":1},null]}
+  {"file":"not_canonical.hex","value":{"b":true,"a":{"$ShortInt":1},"a":1,"":null}}
   2> amqp_show: "not_canonical.hex": offset 14: the key "a" comes again; JSON parsers differ in which value they take
 
 json_follow
@@ -36,6 +36,13 @@ json_stream_repeated
   null
   {"a":null,"a":null}
   2> amqp_show: "-": offset 9: the key "a" comes again; JSON parsers differ in which value they take
+
+plain_files
+  $ amqp_show --hex --plain queue_arguments.hex truncated.hex $'name\x1b[31m.hex'
+  {"file":"queue_arguments.hex","value":{"x-max-length":10000,"x-message-ttl":60000,"x-queue-type":"quorum"}}
+  {"file":"name\u001b[31m.hex","value":{"x-max-length":10000,"x-message-ttl":60000,"x-queue-type":"quorum"}}
+  2> amqp_show: "truncated.hex": offset 21: the input ends inside the LongInt, in "x-max-length"
+  [1]
 
 plain
   $ amqp_show --hex --plain each_type.hex

@@ -140,6 +140,8 @@ pub struct Settings {
     pub hex: bool,
     /// The input is values one after another.
     pub is_stream: bool,
+    /// There are several files.
+    pub has_files: bool,
     /// How a value is shown.
     pub form: Form,
     /// How many bytes of a stream are before the value.
@@ -159,6 +161,9 @@ impl Settings {
             is_table: matches.get_flag("table"),
             hex: matches.get_flag("hex"),
             is_stream: matches.get_flag("stream"),
+            has_files: matches
+                .get_strs("FILE")
+                .is_some_and(|files| files.len() > 1),
             form: Form::from_matches(matches),
             start: 0,
             is_canonical: matches.get_flag("canonical"),

@@ -14,10 +14,11 @@ use amq_protocol_types::stream::Limits;
 use amqp_in_place::rabbitmq::warnings;
 use amqp_in_place::{Rules, first_problem, is_canonical};
 use amqp_json::{DecodeError, json_of_encoding};
+use json::Writer;
 use std::alloc::{AllocError, Global};
 
-/// Shows the JSON of the value of these bytes, and reports a key that comes again; or reports why it is
-/// rejected.
+/// Shows the JSON of the value of these bytes, in an object with the file's name if there are several
+/// files, and reports a key that comes again; or reports why it is rejected.
 pub fn show_json(
     rt: &HostRuntime,
     screen: &mut Screen,
@@ -25,17 +26,20 @@ pub fn show_json(
     bytes: &[u8],
     settings: Settings,
 ) -> Result<Status> {
-    let pushed = if settings.form == Form::Plain {
-        push_plain(rt.alloc(), screen, bytes, settings.limits)
+    let alloc = rt.alloc();
+    let (begin, end) = if settings.has_files {
+        (named_text(alloc, file)?, "}")
     } else {
-        push_json(rt.alloc(), screen, bytes, settings.limits)
+        (String::new(alloc), "")
+    };
+    let pushed = if settings.form == Form::Plain {
+        push_plain(alloc, screen, begin.as_str(), bytes, end, settings.limits)
+    } else {
+        push_json(alloc, screen, begin.as_str(), bytes, end, settings.limits)
     };
     let (status, why) = match pushed {
-        Ok(()) => (Status::Read, repeated_text(rt.alloc(), bytes, settings)?),
-        Err(DecodeError::Refused(_)) => (
-            Status::Rejected,
-            failure_text(rt.alloc(), bytes, settings)?,
-        ),
+        Ok(()) => (Status::Read, repeated_text(alloc, bytes, settings)?),
+        Err(DecodeError::Refused(_)) => (Status::Rejected, failure_text(alloc, bytes, settings)?),
         Err(DecodeError::OutOfMemory) => return Err(Fault::OutOfMemory),
     };
     if let Some(why) = why {
@@ -45,31 +49,51 @@ pub fn show_json(
     Ok(status)
 }
 
-// Adds the JSON of the value at the start of the bytes, on a line.
+// The beginning of an object with a file's name and the value of its bytes.
+fn named_text(alloc: Global, file: &str) -> Result<String, AllocError> {
+    let mut writer = Writer::new(Vec::new(alloc));
+    writer.begin_object()?;
+    writer.key("file")?;
+    writer.string(file)?;
+    writer.key("value")?;
+    Ok(unsafe { String::from_utf8_unchecked(writer.into_inner()) })
+}
+
+// Adds the JSON of the value at the start of the bytes, between two texts on a line.
 fn push_json(
     alloc: Global,
     screen: &mut Screen,
+    begin: &str,
     bytes: &[u8],
+    end: &str,
     limits: Limits,
 ) -> Result<(), DecodeError>
-    ensures { OnOk result (AddsJsonLine limits bytes.now screen.old screen.new) }
+    ensures { OnOk result
+        (AddsJsonLine limits begin.now bytes.now end.now screen.old screen.new) }
 {
     let (json, _) = json_of_encoding(alloc, bytes, limits)?;
-    screen.push_line(json.as_str())?;
+    screen.push(begin)?;
+    screen.push(json.as_str())?;
+    screen.push_line(end)?;
     Ok(())
 }
 
-// Adds the plain JSON of the value at the start of the bytes, on a line.
+// Adds its plain JSON so.
 fn push_plain(
     alloc: Global,
     screen: &mut Screen,
+    begin: &str,
     bytes: &[u8],
+    end: &str,
     limits: Limits,
 ) -> Result<(), DecodeError>
-    ensures { OnOk result (AddsPlainLine limits bytes.now screen.old screen.new) }
+    ensures { OnOk result
+        (AddsPlainLine limits begin.now bytes.now end.now screen.old screen.new) }
 {
     let json = plain_of_encoding(alloc, bytes, limits)?;
-    screen.push_line(json.as_str())?;
+    screen.push(begin)?;
+    screen.push(json.as_str())?;
+    screen.push_line(end)?;
     Ok(())
 }
 
