@@ -19,6 +19,7 @@ help
         --plain          Show JSON with plain numbers and dates, for jq
         --encode         Read JSON, and write its encoding in hexadecimal
         --raw            With --encode: write the bytes themselves
+        --lines          With --encode: read, and write, on each line
         --canonical      Mark what isn't canonical, in a tree or parts
         --check <PEER>   Show why a peer closes the connection, or else warnings [possible values: rabbitmq, rabbitmq-3.10, rabbitmq-4.0, rabbitmq-4.3]
         --max-bytes <N>  Reject values of more than N bytes [default: 1048576]

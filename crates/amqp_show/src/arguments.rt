@@ -28,6 +28,7 @@ const FLAGS: &[(&str, &str)] = &[
     ("plain", "Show JSON with plain numbers and dates, for jq"),
     ("encode", "Read JSON, and write its encoding in hexadecimal"),
     ("raw", "With --encode: write the bytes themselves"),
+    ("lines", "With --encode: read, and write, on each line"),
     ("canonical", "Mark what isn't canonical, in a tree or parts"),
 ];
 
@@ -140,6 +141,8 @@ pub struct Settings {
     pub hex: bool,
     /// The input is values one after another.
     pub is_stream: bool,
+    /// The input has one on each line.
+    pub has_lines: bool,
     /// There are several files.
     pub has_files: bool,
     /// How a value is shown.
@@ -161,6 +164,7 @@ impl Settings {
             is_table: matches.get_flag("table"),
             hex: matches.get_flag("hex"),
             is_stream: matches.get_flag("stream"),
+            has_lines: matches.get_flag("lines"),
             has_files: matches
                 .get_strs("FILE")
                 .is_some_and(|files| files.len() > 1),
@@ -240,7 +244,7 @@ impl Relations {
             "table" => (&[], &["stream"], &[]),
             "tree" | "bytes" => (&["form"], &[], &[]),
             "json" | "plain" | "encode" => (&["form"], &["canonical"], &[]),
-            "raw" => (&[], &[], &["encode"]),
+            "raw" | "lines" => (&[], &[], &["encode"]),
             _ => (&[], &[], &[]),
         };
         Relations {

@@ -8,7 +8,7 @@
 //! a file      input, with --hex by hexadecimal             the bytes of a value
 //! the bytes   show, by parts and problems: tree, decode    Screen, Status
 //!             (to JSON, or by plain), check (RabbitMQ)
-//! JSON        encode                                       the bytes, or digits
+//! JSON        encode, with dates                           the bytes, or digits
 //! Screen      screen; messages on standard error           what is printed
 //! ```
 //!
@@ -22,6 +22,7 @@ ghost use Rattle.amqp_show.specs.Output.{code_of, status_after};
 
 mod arguments;
 mod check;
+mod dates;
 mod decode;
 mod encode;
 mod fault;
