@@ -248,3 +248,91 @@ encode_default_depth
   $ echo '[[[[[[[[[[[[[[[[[[[[[[[[[[[[[[[[[]]]]]]]]]]]]]]]]]]]]]]]]]]]]]]]]]' | amqp_show --encode
   2> amqp_show: "-": more than the 32 levels of --depth at byte 32: []]]]]]]]]]]]]]]]]]]]]]]]]]]]]
   [1]
+
+encode_dates
+  $ echo '[{"$Timestamp":"2026-12-01T12:00:00Z"},{"$Timestamp" : "1970-01-01T01:00:07+01:00" },{"$Timestamp":1}]' | amqp_show --encode
+  410000001b54000000006b0eb6c0540000000000000007540000000000000001
+
+encode_text_of_a_date
+  $ echo '{"Timestamp":"1970-01-01T00:00:00Z"}' | amqp_show --encode
+  46000000230954696d657374616d705300000014313937302d30312d30315430303a30303a30305a
+
+encode_date_of_month_13
+  $ echo '{"$Timestamp":"2026-13-01T12:00:00Z"}' | amqp_show --encode
+  2> amqp_show: "-": expected a Timestamp (an integer from 0 to 18446744073709551615, or a date as "2026-12-01T12:00:00Z") at byte 14; a date has a day, a time, and Z or an offset: "2026-13-01T12:00:00Z"}
+  [1]
+
+encode_date_without_offset
+  $ echo '{"$Timestamp":"2026-12-01T12:00:00"}' | amqp_show --encode
+  2> amqp_show: "-": expected a Timestamp (an integer from 0 to 18446744073709551615, or a date as "2026-12-01T12:00:00Z") at byte 14; a date has a day, a time, and Z or an offset: "2026-12-01T12:00:00"}
+  [1]
+
+encode_date_before_1970
+  $ echo '{"$Timestamp":"1969-12-31T23:59:59Z"}' | amqp_show --encode
+  2> amqp_show: "-": expected a Timestamp (an integer from 0 to 18446744073709551615, or a date as "2026-12-01T12:00:00Z") at byte 14; the date is before 1970: "1969-12-31T23:59:59Z"}
+  [1]
+
+encode_date_with_a_fraction
+  $ echo '{"$Timestamp":"2026-12-01T12:00:00.5Z"}' | amqp_show --encode
+  2> amqp_show: "-": expected a Timestamp (an integer from 0 to 18446744073709551615, or a date as "2026-12-01T12:00:00Z") at byte 14; a Timestamp has whole seconds: "2026-12-01T12:00:00.5Z"}
+  [1]
+
+encode_date_with_an_escape
+  $ echo '{"$Timestamp":"2026-12-01\u005412:00:00Z"}' | amqp_show --encode
+  2> amqp_show: "-": expected a Timestamp (an integer from 0 to 18446744073709551615, or a date as "2026-12-01T12:00:00Z") at byte 14; a date has a day, a time, and Z or an offset: "2026-12-01\u005412:00:00Z"}
+  [1]
+
+encode_error_after_a_date
+  $ echo '[{"$Timestamp":"2026-12-01T12:00:00Z"}, x, {"$Timestamp":"2026-12-01T12:00:00Z"}]' | amqp_show --encode
+  2> amqp_show: "-": not JSON: unexpected character at byte 40: x, {"$Timestamp":"2026-12-01T1
+  [1]
+
+encode_lines
+  $ amqp_show --encode --lines <<'END'
+  > {"a":true}
+  > [1,}
+  >
+  > {"$ShortInt":70000}
+  > {"a":1,"a":{"$Timestamp":"1970-01-01T00:00:05Z"}}
+  > END
+  460000000401617401
+  460000000b0161540000000000000005
+  2> amqp_show: "-": line 2: not JSON: unexpected character at byte 3: }
+  2> amqp_show: "-": line 4: expected a ShortInt (an integer from -32768 to 32767) at byte 13: 70000}
+  2> amqp_show: "-": line 5: the key "a" comes again at byte 7; only its last value is written
+  [1]
+
+encode_lines_table
+  $ printf '{}\r\n{"a":null}' | amqp_show --encode --lines --table
+  00000000
+  00000003016156
+
+encode_lines_raw
+  $ printf 'null\ntrue\n' | amqp_show --encode --lines --raw
+  Vt\x01 (esc) (no-eol)
+
+encode_lines_not_utf8
+  $ echo 22 ff 22 0a 31 | xxd -r -p | amqp_show --encode --lines
+  6c0000000000000001
+  2> amqp_show: "-": line 1: the text isn't UTF-8 at byte 1
+  [1]
+
+encode_lines_too_long
+  $ printf '"aaaaaaaaaaa"\nnull\n[null]\n' | amqp_show --encode --lines --max-bytes 1
+  56
+  2> amqp_show: "-": line 1: the text has more than 12 bytes, 12 times what --max-bytes 1 allows
+  2> amqp_show: "-": line 3: the value has 6 bytes, more than --max-bytes 1 allows
+  [1]
+
+encode_no_lines
+  $ printf '' | amqp_show --encode --lines
+
+lines_without_encode
+  $ amqp_show --lines
+  2> error: the following required arguments were not provided:
+  2>   --encode
+  2>
+  2> Usage: amqp_show --encode --lines [FILE]...
+  2>
+  2> For more information, try '--help'.
+  [2]

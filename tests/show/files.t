@@ -17,7 +17,7 @@ files
 
 files_json
   $ amqp_show --hex --json missing.hex queue_arguments.hex
-  {"x-max-length":{"$LongInt":10000},"x-message-ttl":{"$LongUInt":60000},"x-queue-type":"quorum"}
+  {"file":"queue_arguments.hex","value":{"x-max-length":{"$LongInt":10000},"x-message-ttl":{"$LongUInt":60000},"x-queue-type":"quorum"}}
   2> amqp_show: "missing.hex": can't be read: No such file or directory (os error 2)
   [2]
 

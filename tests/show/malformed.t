@@ -167,7 +167,7 @@ key_not_utf8
 
 json_of_malformed
   $ amqp_show --hex --json unknown_id.hex key_not_utf8.hex queue_arguments.hex
-  {"x-max-length":{"$LongInt":10000},"x-message-ttl":{"$LongUInt":60000},"x-queue-type":"quorum"}
+  {"file":"queue_arguments.hex","value":{"x-max-length":{"$LongInt":10000},"x-message-ttl":{"$LongUInt":60000},"x-queue-type":"quorum"}}
   2> amqp_show: "unknown_id.hex": offset 7: a type tag is expected; 7a is none, in [1]
   2> amqp_show: "key_not_utf8.hex": offset 9: the key "\xff\xfe" isn't UTF-8
   [1]

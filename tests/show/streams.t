@@ -14,10 +14,10 @@ stream_empty
 
 stream_json
   $ printf '56 6c 00000000000000 ff 74 01' | amqp_show --stream --json --hex queue_arguments.hex -
-  {"x-max-length":{"$LongInt":10000},"x-message-ttl":{"$LongUInt":60000},"x-queue-type":"quorum"}
-  null
-  255
-  true
+  {"file":"queue_arguments.hex","value":{"x-max-length":{"$LongInt":10000},"x-message-ttl":{"$LongUInt":60000},"x-queue-type":"quorum"}}
+  {"file":"-","value":null}
+  {"file":"-","value":255}
+  {"file":"-","value":true}
 
 stream_malformed
   $ echo 7401 4100000005 7401490000 7401 | xxd -r -p | amqp_show --stream

@@ -39,7 +39,7 @@ def seconds_of(program: Path, words: str, data: bytes, most_bytes: int) -> float
     return float(used.ru_utime + used.ru_stime)
 
 
-@pytest.mark.parametrize("words", ("", "--bytes --canonical", "--json", "--check rabbitmq", "--stream"))
+@pytest.mark.parametrize("words", ("", "--bytes --canonical", "--json", "--plain", "--check rabbitmq", "--stream"))
 @pytest.mark.parametrize("name", LARGE)
 def test_large(program: Path, name: str, words: str) -> None:
     # (others may run too)
@@ -50,6 +50,24 @@ def test_stream_in_constant_memory(program: Path) -> None:
     """A stream of 46 MB."""
     value = field(b"F", b"\1a" + b"I\0\0\0\5" + b"\1bt\1")
     assert seconds_of(program, "--stream --json", value * 2_900_000, MOST_BYTES_OF_STREAM)
+
+
+@pytest.mark.parametrize("words", ("--json", "--plain"))
+@pytest.mark.parametrize("letter", "AF")
+def test_stack_of_deep_values(program: Path, letter: str, words: str) -> None:
+    """As many levels as --depth allows take less than 0.25 MB of the stack."""
+    limit = partial(resource.setrlimit, resource.RLIMIT_STACK, (250_000, 250_000))
+    ended = run([str(program), "--depth", "1000", words], nested(letter, 1000, b"V"), preexec_fn=limit)
+    assert ended.status == 0 and ended.out.count(b"{" if letter == "F" else b"[") == 1000
+
+
+def test_lines_that_take_several_reads(program: Path) -> None:
+    """One of them has more bytes than --max-bytes allows: it is rejected, and the next is read."""
+    most = 12 * 2**20
+    counts = (3, 65_533, 65_534, 200_000, most - 1, 5)
+    ended = run([str(program), "--encode", "--lines"], b"\n".join(b'"' + b"a" * it + b'"' for it in counts))
+    assert ended.out.decode().split() == [field(b"S", b"a" * it).hex() for it in counts if it < most - 1]
+    assert b"line 5: the text has more than 12582912 bytes" in ended.error and ended.status == 1
 
 
 def lines_of(program: Path, words: str, data: bytes) -> list[str]:

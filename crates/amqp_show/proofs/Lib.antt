@@ -3,3 +3,4 @@ mod Screens
 mod Adding
 mod Covering
 mod Printing
+mod WritingPlain

@@ -2,6 +2,7 @@
 use Rattle.std.specs.Prelude.{◌≡◌, ℕ, Bool, true, false, Result, Ok, Err, List, [], ◌∷◌, ◌++◌, string_bytes}
 use Rattle.amq_protocol_types.specs.declared.parsing.within.Limits.{Limits}
 use Rattle.amqp_json.specs.Conversions.{IsJsonOf}
+use Rattle.amqp_show.specs.Plain.{IsPlainOf}
 use Rattle.amqp_show.specs.Screens.{in_line}
 use Rattle.amqp_show.specs.declared.fault.Fault.{Fault}
 use Rattle.amqp_show.specs.declared.fault.Fault.TheVariants.{OutOfMemory, Input, NotHexadecimal, Short, Closed, Output, Terminal}
@@ -18,10 +19,18 @@ pub record AddsText (old new : Screen) (more : List ℕ) : Type 0 where
   pub text : shown new ≡ shown old ++ more
   pub colours : new.has_colours ≡ old.has_colours
 
--- the JSON text of the value at the start of s within the limits, on a line, in which what doesn't
+-- a line of these texts
+abbrev pub AddsLine : List ℕ → List ℕ → List ℕ → Screen → Screen → Type 0
+AddsLine begin t end old new = AddsText old new (in_line begin ++ (in_line t ++ (in_line end ++ 10 ∷ [])))
+
+-- the JSON text of the value at the start of s within the limits, between two texts on a line, in which what doesn't
 -- print is escaped
-abbrev pub AddsJsonLine : Limits → List ℕ → Screen → Screen → Type 0
-AddsJsonLine l s old new = (t : List ℕ) × (rest : List ℕ) × IsJsonOf l s t rest × AddsText old new (in_line t ++ 10 ∷ [])
+abbrev pub AddsJsonLine : Limits → List ℕ → List ℕ → List ℕ → Screen → Screen → Type 0
+AddsJsonLine l begin s end old new = (t : List ℕ) × (rest : List ℕ) × IsJsonOf l s t rest × AddsLine begin t end old new
+
+-- so of plain JSON
+abbrev pub AddsPlainLine : Limits → List ℕ → List ℕ → List ℕ → Screen → Screen → Type 0
+AddsPlainLine l begin s end old new = (t : List ℕ) × IsPlainOf l s t × AddsLine begin t end old new
 
 -- the number of a status: 0 if each value was read without warnings, 2 if the program couldn't do its work
 abbrev pub code_of : Status → ℕ

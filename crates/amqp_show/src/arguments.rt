@@ -24,10 +24,11 @@ const FLAGS: &[(&str, &str)] = &[
     ("hex", "Read hexadecimal text instead of bytes"),
     ("table", "Read, or encode, a table without its type tag"),
     ("stream", "Read values one after another, as they come"),
-    ("lines", "Read hexadecimal, with a value on each line"),
+    ("lines", "Read hexadecimal, or JSON to encode, on each line"),
     ("tree", "Show a tree of values and types (the default)"),
     ("bytes", "Show each part with its offset and its bytes"),
     ("json", "Show JSON, on a line for each value"),
+    ("plain", "Show JSON with plain numbers and dates, for jq"),
     ("encode", "Read JSON, and write its encoding in hexadecimal"),
     ("raw", "With --encode: write the bytes themselves"),
     ("canonical", "Mark what isn't canonical, in a tree or parts"),
@@ -114,6 +115,8 @@ pub enum Form {
     Bytes,
     /// As JSON, in a line.
     Json,
+    /// As JSON without the names of types, in a line.
+    Plain,
     /// By what RabbitMQ makes of it.
     Check(Version),
 }
@@ -125,11 +128,18 @@ impl Form {
         }
         if matches.get_flag("json") {
             Form::Json
+        } else if matches.get_flag("plain") {
+            Form::Plain
         } else if matches.get_flag("bytes") {
             Form::Bytes
         } else {
             Form::Tree
         }
+    }
+
+    /// Whether it is JSON of one of the two kinds.
+    pub fn is_json(self) -> bool {
+        matches!(self, Form::Json | Form::Plain)
     }
 }
 
@@ -144,8 +154,10 @@ pub struct Settings {
     pub hex: bool,
     /// The input is values one after another.
     pub is_stream: bool,
-    /// The input is lines of hexadecimal, each a value.
+    /// The input has a value on each line: in hexadecimal, or with --encode as JSON.
     pub has_lines: bool,
+    /// There are several files.
+    pub has_files: bool,
     /// How a value is shown.
     pub form: Form,
     /// How many bytes of the input are before the value.
@@ -169,6 +181,9 @@ impl Settings {
             hex: matches.get_flag("hex"),
             is_stream: matches.get_flag("stream"),
             has_lines: matches.get_flag("lines"),
+            has_files: matches
+                .get_strs("FILE")
+                .is_some_and(|files| files.len() > 1),
             form: Form::from_matches(matches),
             start: matches.get_one::<u64>("skip").unwrap_or(0),
             line: 0,
@@ -253,9 +268,9 @@ impl Relations {
     fn of_flag(name: &str) -> Relations {
         let (groups, conflicts, needs): (&[&str], &[&str], &[&str]) = match name {
             "hex" | "stream" => (&[], &["encode"], &[]),
-            "lines" => (&[], &["encode", "stream"], &[]),
+            "lines" => (&[], &["stream"], &[]),
             "tree" | "bytes" => (&["form"], &[], &[]),
-            "json" | "encode" => (&["form"], &["canonical"], &[]),
+            "json" | "plain" | "encode" => (&["form"], &["canonical"], &[]),
             "raw" => (&[], &[], &["encode"]),
             _ => (&[], &[], &[]),
         };

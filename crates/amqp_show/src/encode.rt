@@ -6,6 +6,7 @@ ghost use Rattle.amqp_show.specs.Screens.{in_line};
 ghost use Rattle.amqp_show.specs.Output.{shown};
 
 use crate::arguments::Settings;
+use crate::dates::{dates_as_seconds, seconds_of};
 use crate::fault::{Fault, Result, Status};
 use crate::input::Input;
 use crate::messages::{complain, quoted};
@@ -34,7 +35,7 @@ const TYPES: &[(&str, &str)] = &[
     ("LongInt", "an integer from -2147483648 to 2147483647"),
     ("LongUInt", "an integer from 0 to 4294967295"),
     ("LongLongInt", INTEGER),
-    ("Timestamp", "an integer from 0 to 18446744073709551615"),
+    ("Timestamp", TIMESTAMP),
     (
         "Float",
         "a number up to 3.4e38, or its bits as 8 hexadecimal digits in quotes",
@@ -47,10 +48,20 @@ const TYPES: &[(&str, &str)] = &[
 
 const INTEGER: &str = "an integer from -9223372036854775808 to 9223372036854775807";
 
+const TIMESTAMP: &str =
+    "an integer from 0 to 18446744073709551615, or a date as \"2026-12-01T12:00:00Z\"";
+
 const DOUBLE: &str = "a number up to 1.7e308, or its bits as 16 hexadecimal digits in quotes";
 
+// Where a text is: in a file, and with --lines on one of its lines.
+#[derive(Clone, Copy)]
+struct Source<'a> {
+    file: &'a str,
+    line: Option<u64>,
+}
+
 /// Writes the encoding of the value that a file's JSON denotes, or of the table without its type
-/// tag, raw or in hexadecimal. Reports a key that comes again.
+/// tag, raw or in hexadecimal. Reports a key that comes again. With `--lines` each line has JSON.
 pub fn encode_file(
     rt: &HostRuntime,
     file: &str,
@@ -58,26 +69,71 @@ pub fn encode_file(
     settings: Settings,
 ) -> Result<Status> {
     let mut input = Input::open(rt, file, false)?;
-    let most = json_len(settings.limits.frame);
-    let text = input.up_to(most.saturating_add(1))?;
-    if text.len() > most {
-        return reject(rt, file, too_long_text(rt.alloc(), settings.limits.frame));
+    if settings.has_lines {
+        return encode_lines(rt, file, &mut input, is_raw, settings);
+    }
+    let text = input.up_to(json_len(settings.limits.frame).saturating_add(1))?;
+    encode_text(rt, Source { file, line: None }, text, is_raw, settings)
+}
+
+// Does so with each line that isn't blank, also after one whose JSON is rejected.
+fn encode_lines(
+    rt: &HostRuntime,
+    file: &str,
+    input: &mut Input,
+    is_raw: bool,
+    settings: Settings,
+) -> Result<Status> {
+    let most = json_len(settings.limits.frame).saturating_add(1);
+    let mut status = Status::Read;
+    for line in 1..u64::MAX {
+        if input.up_to(1)?.is_empty() {
+            break;
+        }
+        let text = input.next_line(most)?;
+        if !text.trim_ascii().is_empty() {
+            let source = Source {
+                file,
+                line: Some(line),
+            };
+            status = status.and(encode_text(rt, source, text, is_raw, settings)?);
+        }
+        input.pass_line()?;
+    }
+    Ok(status)
+}
+
+fn encode_text(
+    rt: &HostRuntime,
+    source: Source<'_>,
+    text: &[u8],
+    is_raw: bool,
+    settings: Settings,
+) -> Result<Status> {
+    let (alloc, most) = (rt.alloc(), settings.limits.frame);
+    if text.len() > json_len(most) {
+        return reject(rt, source, too_long_text(alloc, most));
     }
     match str::from_utf8(text) {
-        Ok(json) => encode_json(rt, file, json, is_raw, settings),
-        Err(error) => reject(
-            rt,
-            file,
-            not_utf8_text(rt.alloc(), text, error.valid_up_to()),
-        ),
+        Ok(json) => encode_json(rt, source, json, is_raw, settings),
+        Err(error) => reject(rt, source, not_utf8_text(alloc, text, error.valid_up_to())),
     }
 }
 
-// Reports why a file's JSON is rejected.
-fn reject(rt: &HostRuntime, file: &str, why: Result<String, AllocError>) -> Result<Status> {
+// Reports why JSON is rejected.
+fn reject(rt: &HostRuntime, source: Source<'_>, why: Result<String, AllocError>) -> Result<Status> {
     let why = why?;
-    complain(rt, file, why.as_str())?;
+    report(rt, source, why.as_str())?;
     Ok(Status::Rejected)
+}
+
+// Prints a message about a text.
+fn report(rt: &HostRuntime, source: Source<'_>, why: &str) -> Result<()> {
+    let Some(line) = source.line else {
+        return complain(rt, source.file, why);
+    };
+    let why = format!(in rt.alloc(); "line {line}: {why}")?;
+    complain(rt, source.file, why.as_str())
 }
 
 // How many bytes the JSON may have of an encoding that has at most that many.
@@ -99,23 +155,25 @@ fn not_utf8_text(alloc: Global, text: &[u8], at: usize) -> Result<String, AllocE
 
 fn encode_json(
     rt: &HostRuntime,
-    file: &str,
+    source: Source<'_>,
     json: &str,
     is_raw: bool,
     settings: Settings,
 ) -> Result<Status> {
     let depth = settings.limits.depth;
-    match encoding_of_json_within(rt.alloc(), json, depth) {
-        Ok(bytes) => write_encoding(rt, file, json, bytes.as_slice(), is_raw, settings),
+    // (what is at a byte of this text is there in the given one)
+    let dated = dates_as_seconds(rt.alloc(), json)?;
+    match encoding_of_json_within(rt.alloc(), dated.as_str(), depth) {
+        Ok(bytes) => write_encoding(rt, source, json, bytes.as_slice(), is_raw, settings),
         Err(JsonError::OutOfMemory) => Err(Fault::OutOfMemory),
-        Err(error) => reject(rt, file, error_text(rt.alloc(), json, error, depth)),
+        Err(error) => reject(rt, source, error_text(rt.alloc(), json, error, depth)),
     }
 }
 
 // Writes the encoding of some JSON, and reports a key that comes again; or reports why it isn't written.
 fn write_encoding(
     rt: &HostRuntime,
-    file: &str,
+    source: Source<'_>,
     json: &str,
     bytes: &[u8],
     is_raw: bool,
@@ -125,7 +183,7 @@ fn write_encoding(
     if len > most as usize {
         return reject(
             rt,
-            file,
+            source,
             format!(in rt.alloc();
                 "the value has {len} bytes, more than --max-bytes {most} allows"
             ),
@@ -134,14 +192,14 @@ fn write_encoding(
     let Some(wanted) = wanted_of(bytes, settings.is_table) else {
         return reject(
             rt,
-            file,
+            source,
             format!(in rt.alloc(); "--table writes a FieldTable, and the JSON is another value"),
         );
     };
     let repeated = repeated_key(rt.alloc(), json)?;
     print_encoding(rt, wanted, is_raw)?;
     if let Some(why) = repeated {
-        complain(rt, file, why.as_str())?;
+        report(rt, source, why.as_str())?;
         return Ok(Status::Warned);
     }
     Ok(Status::Read)
@@ -334,7 +392,7 @@ fn has_point_or_exponent(text: &str) -> bool {
     number.contains(['.', 'e', 'E'])
 }
 
-// What is wrong with the digits at this byte.
+// What is wrong with the digits, or the date, at this byte.
 fn detail(alloc: Global, json: &str, at: usize, mismatch: Mismatch) -> Result<String, AllocError> {
     let there = json.get(at..).unwrap_or("");
     match mismatch {
@@ -346,7 +404,21 @@ fn detail(alloc: Global, json: &str, at: usize, mismatch: Mismatch) -> Result<St
                 None => format!(in alloc; "; the number of digits is odd"),
             }
         }
+        Mismatch::NotANumber if let Some(why) = date_fault(json, at) => format!(in alloc;
+            "; {why}"
+        ),
         _ => Ok(String::new(alloc)),
+    }
+}
+
+// What is wrong with the date at this byte, if one may be there.
+fn date_fault(json: &str, at: usize) -> Option<&'static str> {
+    let (name, _) = type_before(json, at)?;
+    let date = json.get(at..)?.strip_prefix('"')?.split('"').next()?;
+    if name == "Timestamp" {
+        seconds_of(date).err()
+    } else {
+        None
     }
 }
 

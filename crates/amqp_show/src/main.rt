@@ -7,8 +7,9 @@
 //! arguments   arguments                                    Settings
 //! a file      input, with --hex by hexadecimal             the bytes of a value
 //! the bytes   show or lines, by parts and problems: tree,  Screen, Status
-//!             decode (to JSON), check (RabbitMQ)
-//! JSON        encode                                       the bytes, or digits
+//!             decode (to JSON, or by plain), check
+//!             (RabbitMQ)
+//! JSON        encode, with dates                           the bytes, or digits
 //! Screen      screen; messages on standard error           what is printed
 //! ```
 //!
@@ -22,6 +23,7 @@ ghost use Rattle.amqp_show.specs.Output.{code_of, status_after};
 
 mod arguments;
 mod check;
+mod dates;
 mod decode;
 mod encode;
 mod fault;
@@ -30,6 +32,7 @@ mod input;
 mod lines;
 mod messages;
 mod parts;
+mod plain;
 mod problems;
 mod screen;
 mod shape;

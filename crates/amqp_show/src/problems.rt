@@ -41,7 +41,7 @@ pub fn problem_text(
     }?;
     let path = match settings.form {
         Form::Tree | Form::Bytes => Ok(String::new(alloc)),
-        Form::Json | Form::Check(_) => path_text(alloc, parts, place),
+        Form::Json | Form::Plain | Form::Check(_) => path_text(alloc, parts, place),
     }?;
     let place = place_text(alloc, at, settings)?;
     format!(in alloc; "{place}: {why}{path}")

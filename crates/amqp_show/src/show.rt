@@ -43,7 +43,7 @@ pub fn show_file(rt: &HostRuntime, file: &str, settings: Settings) -> Result<Sta
 /// What is shown of a file first: its name, if it has one.
 pub fn begin(rt: &HostRuntime, file: &str, settings: Settings) -> Result<Screen> {
     let mut screen = Screen::new(rt.alloc(), settings.colours);
-    if file != "-" && settings.form != Form::Json {
+    if file != "-" && !settings.form.is_json() {
         screen.push(file)?;
         screen.push_line(":")?;
     }
@@ -175,7 +175,7 @@ pub fn show_value(
     match settings.form {
         Form::Tree | Form::Bytes => show_text(rt, screen, bytes, settings),
         Form::Check(version) => Ok(push_check(rt.alloc(), screen, bytes, version, settings)?),
-        Form::Json => show_json(rt, screen, file, bytes, settings),
+        Form::Json | Form::Plain => show_json(rt, screen, file, bytes, settings),
     }
 }
 

@@ -264,8 +264,8 @@ fn value_text(alloc: Global, value: ValueRef<'_>) -> Result<String, AllocError> 
     }
 }
 
-// A number with as many digits after its point.
-fn decimal_text(alloc: Global, number: u32, scale: usize) -> Result<String, AllocError> {
+/// A number with as many digits after its point.
+pub fn decimal_text(alloc: Global, number: u32, scale: usize) -> Result<String, AllocError> {
     let digits = format!(in alloc; "{number:0>width$}", width = scale.saturating_add(1))?;
     let point = digits.len().saturating_sub(scale);
     match (digits.get(..point), digits.get(point..)) {
@@ -274,16 +274,22 @@ fn decimal_text(alloc: Global, number: u32, scale: usize) -> Result<String, Allo
     }
 }
 
-// Seconds since 1970, and the date in UTC if the calendar reaches so far.
+// Seconds since 1970, and the date if there is one.
 fn timestamp_text(alloc: Global, seconds: u64) -> Result<String, AllocError> {
+    match date_text(alloc, seconds)? {
+        Some(date) => format!(in alloc; "{seconds} ({date})"),
+        None => format!(in alloc; "{seconds}"),
+    }
+}
+
+/// The date in UTC that is as many seconds after 1970 began, if the calendar reaches so far.
+pub fn date_text(alloc: Global, seconds: u64) -> Result<Option<String>, AllocError> {
     let instant = i64::try_from(seconds)
         .ok()
         .and_then(|seconds| Timestamp::from_second(seconds).ok());
-    match instant {
-        Some(instant) => {
-            let date = Offset::UTC.to_datetime(instant);
-            format!(in alloc; "{seconds} ({date}Z)")
-        }
-        None => format!(in alloc; "{seconds}"),
-    }
+    let Some(instant) = instant else {
+        return Ok(None);
+    };
+    let date = Offset::UTC.to_datetime(instant);
+    Ok(Some(format!(in alloc; "{date}Z")?))
 }
