@@ -326,13 +326,3 @@ encode_lines_too_long
 
 encode_no_lines
   $ printf '' | amqp_show --encode --lines
-
-lines_without_encode
-  $ amqp_show --lines
-  2> error: the following required arguments were not provided:
-  2>   --encode
-  2>
-  2> Usage: amqp_show --encode --lines [FILE]...
-  2>
-  2> For more information, try '--help'.
-  [2]

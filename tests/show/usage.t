@@ -13,14 +13,13 @@ help
         --hex            Read hexadecimal text instead of bytes
         --table          Read, or encode, a table without its type tag
         --stream         Read values one after another, as they come
-        --lines          Read hexadecimal, with a value on each line
+        --lines          Read hexadecimal, or JSON to encode, on each line
         --tree           Show a tree of values and types (the default)
         --bytes          Show each part with its offset and its bytes
         --json           Show JSON, on a line for each value
         --plain          Show JSON with plain numbers and dates, for jq
         --encode         Read JSON, and write its encoding in hexadecimal
         --raw            With --encode: write the bytes themselves
-        --lines          With --encode: read, and write, on each line
         --canonical      Mark what isn't canonical, in a tree or parts
         --strict         Have warnings, also that more bytes follow, be a failure
         --check <PEER>   Show why a peer closes the connection, or else warnings [possible values: rabbitmq, rabbitmq-3.10, rabbitmq-4.0, rabbitmq-4.3]

@@ -84,21 +84,26 @@ fn encode_lines(
     is_raw: bool,
     settings: Settings,
 ) -> Result<Status> {
-    let most = json_len(settings.limits.frame).saturating_add(1);
-    let mut status = Status::Read;
-    for line in 1..u64::MAX {
-        if input.up_to(1)?.is_empty() {
+    let most = json_len(settings.limits.frame);
+    let (mut status, mut line, mut is_rest) = (Status::Read, 1u64, false);
+    for _ in 0..u64::MAX {
+        let len = input.line_len(most)?;
+        if len == 0 {
             break;
         }
-        let text = input.next_line(most)?;
-        if !text.trim_ascii().is_empty() {
+        let text = input.up_to(len)?;
+        let is_ended = text.ends_with(b"\n");
+        let text = text.strip_suffix(b"\n").unwrap_or(text);
+        if !is_rest && !text.trim_ascii().is_empty() {
             let source = Source {
                 file,
                 line: Some(line),
             };
             status = status.and(encode_text(rt, source, text, is_raw, settings)?);
         }
-        input.pass_line()?;
+        input.pass(len);
+        is_rest = !is_ended;
+        line = line.saturating_add(u64::from(is_ended));
     }
     Ok(status)
 }

@@ -180,46 +180,6 @@ impl Input {
         Ok(())
     }
 
-    /// The next line without its end, or its first bytes if it has more than `most`.
-    pub fn next_line(&mut self, most: usize) -> Result<&[u8]> {
-        let len = self.line_len(most)?;
-        Ok(self.there().get(..len).unwrap_or(&[]))
-    }
-
-    /// Is done with the next line, and its end.
-    pub fn pass_line(&mut self) -> Result<()> {
-        for _ in 0..u64::MAX {
-            let len = self.line_len(BLOCK)?;
-            let has_end = self.there().get(len) == Some(&b'\n');
-            self.pass(len.saturating_add(usize::from(has_end)));
-            if has_end || len < BLOCK {
-                break;
-            }
-        }
-        Ok(())
-    }
-
-    // How many bytes the next line has without its end, or `most` if it has more.
-    fn line_len(&mut self, most: usize) -> Result<usize> {
-        let mut len = 0;
-        for _ in 0..u64::MAX {
-            let ahead = self.there().get(len..).unwrap_or(&[]);
-            if let Some(count) = ahead.iter().position(|byte| *byte == b'\n') {
-                len = len.saturating_add(count);
-                break;
-            }
-            len = self.there().len();
-            if len >= most {
-                break;
-            }
-            self.fill(len.saturating_add(1))?;
-            if self.there().len() <= len {
-                break;
-            }
-        }
-        Ok(len.min(most))
-    }
-
     // Reads on until there are that many bytes, or the input ends.
     fn fill(&mut self, count: usize) -> Result<()> {
         for _ in 0..u64::MAX {
