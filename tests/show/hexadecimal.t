@@ -177,3 +177,7 @@ lines_of_which_the_first_is_cut
   $ printf '46000000040161\n460000000401627401\n' | amqp_show --hex
   2> amqp_show: "-": line 1 ends inside a value, while other lines are whole values: --lines reads each by itself
   [2]
+
+wrapped_value_whose_last_line_is_a_value
+  $ printf '460000001a01615300000010717171717171717171717171717171710162\n56\n' | amqp_show --hex --json
+  {"a":"qqqqqqqqqqqqqqqq","b":null}

@@ -137,3 +137,7 @@ stream_of_tables_on_lines
   {"a":null}
   2> amqp_show: "-": line 2 ends inside a value, while other lines are whole values: --lines reads each by itself
   [2]
+
+stream_of_a_wrapped_value_whose_last_line_is_a_value
+  $ printf '460000001a01615300000010717171717171717171717171717171710162\n56\n' | amqp_show --hex --stream --json
+  {"a":"qqqqqqqqqqqqqqqq","b":null}

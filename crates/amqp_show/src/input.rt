@@ -150,16 +150,18 @@ impl Input {
     }
 
     /// Of the line of hexadecimal that the next byte is in, if it has come to its end: its number, how many of the
-    /// next bytes are in it, and the bytes of the line after it.
+    /// next bytes are in it, and the bytes of the line after it if that has come to its end too.
     pub fn line(&self) -> Option<(u64, usize, &[u8])> {
         let at = self.before.saturating_add(self.start);
         let mut lines = self.lines.iter().skip_while(|(end, _)| *end <= at);
         let (end, line) = lines.next()?;
         let there = self.there();
         let first = end.saturating_sub(at);
-        let second = lines
-            .next()
-            .map_or(there.len(), |(end, _)| end.saturating_sub(at));
+        let second = match lines.next() {
+            Some((end, _)) => end.saturating_sub(at),
+            None if self.end.is_some() => there.len(),
+            None => first,
+        };
         Some((*line, first, there.get(first..second).unwrap_or(&[])))
     }
 

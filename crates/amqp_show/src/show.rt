@@ -92,12 +92,12 @@ fn show_first(
 }
 
 // Whether the line of hexadecimal at which a value of so many bytes begins isn't a part of it, but a value by itself,
-// or the line after it is one.
+// or the line after it is one. (A value of several lines ends with the last, after which no bytes follow, and after
+// bytes that were passed over a line may have others.)
 fn check_line(input: &Input, len: usize, settings: Settings) -> Result<()> {
     match input.line() {
-        // (the first line may have other bytes too)
-        _ if settings.start > 0 => Ok(()),
-        Some((line, end, after)) if end == len && !after.is_empty() => {
+        _ if settings.start > 0 || input.there().len() <= len => Ok(()),
+        Some((line, end, _)) if end == len => {
             Err(Fault::NotHexadecimal(NotHexadecimal::Lines(line)))
         }
         Some((line, end, after)) if end < len && is_whole(after, settings) => {
@@ -126,7 +126,7 @@ fn show_stream(
     mut settings: Settings,
 ) -> Result<Status> {
     // whether each line of hexadecimal was a value, and how many bytes the last had
-    let (mut are_values, mut last) = (settings.start == 0, 0);
+    let (mut are_values, mut last) = (settings.start == 0, usize::from(settings.start > 0));
     let mut all = Status::Read;
     let tag: &[u8] = if settings.is_table { b"F" } else { b"" };
     for _ in 0..u64::MAX {
@@ -141,7 +141,12 @@ fn show_stream(
             break;
         }
         if let Some((line, end, after)) = input.line() {
-            let is_cut = are_values && last > 0 && last != end || is_whole(after, settings);
+            // (lines of another kind have the same length, and a value of two ends with the second)
+            let is_cut = if last > 0 {
+                are_values && last != end
+            } else {
+                len != end.saturating_add(after.len()) && is_whole(after, settings)
+            };
             if end < len && is_cut {
                 return Err(Fault::NotHexadecimal(NotHexadecimal::LineCut(line)));
             }
