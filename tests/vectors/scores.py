@@ -1,8 +1,13 @@
-"""`assert_scores`: a codec's outcomes over vectors/ are those in docs/INTEROP.md and vectors/implementations.json."""
+"""`assert_scores`: a codec's outcomes over vectors/ are those in docs/INTEROP.md and vectors/implementations.json.
+
+As a program, with PYTHONPATH=vectors, it writes those of a codec: python3 -m tests.vectors.scores NAME TOOLCHAIN MODULE
+"""
 
 import json
+import os
 import re
 import subprocess
+import sys
 from collections.abc import Mapping
 from typing import NamedTuple
 
@@ -148,3 +153,9 @@ def assert_scores(name: str, toolchain: str, found: Run, is_writing: bool) -> No
     stored = wrong_implementations(name, toolchain, outcomes, is_writing)
     for wrong in (wrong_row(name, row(name, found), is_writing), stored, none_of(disagreeing)):
         assert not wrong, wrong
+
+
+if __name__ == "__main__":
+    # (of a codec that no test runs: its name and version, its toolchain and the day, and the module of its adapter)
+    codec, by, module = sys.argv[1:]
+    assert_scores(codec, by, run(module, [sys.executable], os.environ), True)

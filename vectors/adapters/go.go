@@ -1,8 +1,9 @@
 // Prints the table on standard input, as program.py reads it, by amqp091-go: as the properties of a server. It is built with
-// CGO_ENABLED=0: with cgo it needs more memory, and other cases crash.
+// CGO_ENABLED=0: with cgo less of the runner's 2 GiB is left to it.
 package main
 
 import (
+	"bufio"
 	"encoding/binary"
 	"fmt"
 	amqp "github.com/rabbitmq/amqp091-go"
@@ -18,31 +19,39 @@ type server struct{ io.Reader }
 func (server) Write(data []byte) (int, error) { return len(data), nil }
 func (server) Close() error                   { return nil }
 
-func text(value interface{}) string {
-	var parts []string
+var out = bufio.NewWriter(os.Stdout)
+
+func put(value interface{}) {
 	switch it := value.(type) {
 	case float32:
-		return text(float64(it))
+		put(float64(it))
 	case float64:
-		return fmt.Sprintf(`{"d":"%016x"}`, math.Float64bits(it))
+		fmt.Fprintf(out, `{"d":"%016x"}`, math.Float64bits(it))
 	case amqp.Decimal:
-		return fmt.Sprintf(`{"D":"%de-%d"}`, it.Value, it.Scale)
+		fmt.Fprintf(out, `{"D":"%de-%d"}`, it.Value, it.Scale)
 	case time.Time:
-		return fmt.Sprint(it.Unix())
+		fmt.Fprint(out, it.Unix())
 	case string, []byte:
-		return fmt.Sprintf(`{"S":"%x"}`, it)
+		fmt.Fprintf(out, `{"S":"%x"}`, it)
 	case []interface{}:
+		before := "["
 		for _, each := range it {
-			parts = append(parts, text(each))
+			fmt.Fprint(out, before)
+			put(each)
+			before = ","
 		}
-		return "[" + strings.Join(parts, ",") + "]"
+		fmt.Fprint(out, strings.Replace(before, ",", "", 1), "]")
 	case amqp.Table:
+		before := `{"F":[`
 		for key, each := range it {
-			parts = append(parts, fmt.Sprintf(`["%x",%s]`, key, text(each)))
+			fmt.Fprintf(out, `%s["%x",`, before, key)
+			put(each)
+			before = "],"
 		}
-		return `{"F":[` + strings.Join(parts, ",") + "]}"
+		fmt.Fprint(out, strings.Replace(before, ",", "", 1), "]}")
+	default:
+		fmt.Fprint(out, strings.Replace(fmt.Sprint(value), "<nil>", "null", 1))
 	}
-	return strings.Replace(fmt.Sprint(value), "<nil>", "null", 1)
 }
 
 func frame(method string) string {
@@ -59,5 +68,6 @@ func main() {
 	if err != nil {
 		os.Exit(1)
 	}
-	fmt.Println(text(connection.Properties))
+	put(connection.Properties)
+	out.Flush()
 }

@@ -3,14 +3,14 @@
 Numbers, null, Booleans and arrays are JSON's own. Else an object's only key says what is under it.
 """
 
-import json
 import os
 import struct
 import subprocess
-import sys
 from collections.abc import Callable
 from decimal import Decimal
 from typing import Any
+
+from comparing import from_json
 
 KINDS: dict[str, Callable[[Any], Any]] = {
     "f": lambda it: struct.unpack(">f", bytes.fromhex(it))[0],
@@ -19,7 +19,6 @@ KINDS: dict[str, Callable[[Any], Any]] = {
     "S": bytes.fromhex,
     "F": lambda it: {bytes.fromhex(key): value for key, value in it},
 }
-sys.setrecursionlimit(100_000)  # (that of the reader of JSON)
 
 
 def typed(found: dict[str, Any]) -> Any:
@@ -34,6 +33,6 @@ def decoder(variable: str) -> Callable[[bytes], Any]:
         done = subprocess.run([os.environ[variable]], input=data, capture_output=True)
         if done.returncode:
             raise (ValueError if done.returncode == 1 else MemoryError)(f"status {done.returncode}")
-        return json.loads(done.stdout, object_hook=typed)
+        return from_json(done.stdout.decode(), typed, lambda it: it)
 
     return decode
