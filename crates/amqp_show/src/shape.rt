@@ -1,4 +1,4 @@
-//! `shape_of`: what an input is, by its bytes: a value, a table without its type tag or its length too, or something else.
+//! `shape_of`: what an input is by its bytes: a value, a table without its type tag or length, or something else.
 
 use crate::arguments::Settings;
 use crate::hexadecimal::is_hexadecimal;
