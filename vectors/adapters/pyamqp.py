@@ -1,9 +1,14 @@
-"""`decode` for run.py, by py-amqp's own reader of tables."""
+"""`decode` and `write` for run.py and writing.py, by py-amqp's own codec of tables."""
 
 from typing import Any
 
-from amqp.serialization import loads
+from adapters.natural import natural
+from amqp.serialization import dumps, loads
 
 
 def decode(data: bytes) -> Any:
     return loads("F", data, 0)[0][0]
+
+
+def write(value: Any) -> Any:
+    return dumps("F", [natural(value)])
