@@ -16,7 +16,7 @@ import writing
 from comparing import flat, in_a_table, meant
 from run import LONGEST, PROFILES
 
-from tests.vectors.cases import CASES, Case
+from tests.vectors.cases import CASES, EVERY, Case
 
 pytestmark = pytest.mark.usefixtures("deep")
 HERE = Path(__file__).parent / "mutants"
@@ -27,8 +27,8 @@ COUNT = 'count = int.from_bytes(self.field(4, end), "big")'
 LENGTHS = {"S": "a string", "x": "a byte array", "A": "an array", "F": "a table", "": "a table without its tag"}
 UNKNOWN = 'raise Wrong("unknown tag", at)\n\n    def array'
 FORMS = "bBhHiIqQ"
-# Where the profiles differ, missing bytes and offsets are those of what is read here.
-DIFFERING = {"tag-x", "tag-s", "tag-u-upper", "key-bytes"}
+# Where a profile may differ from the case's result, missing bytes and offsets may too.
+DIFFERING = {"tag-x", "tag-s", "tag-u-upper", "key-bytes", "repeated-key"}
 
 
 class Mutant(NamedTuple):
@@ -82,7 +82,9 @@ def of_lengths() -> Iterator[Mutant]:
         "is within its container": "count if self.at + count > len(self.data) else min(count, end - self.at)",
     }
     for tag, name in LENGTHS.items():
-        for rule, change in changes.items():
+        for rule, change in (
+            (rule, it) for rule, it in changes.items() if "container" not in rule or tag in ("S", "A", "F")
+        ):
             new = f"{COUNT}\n        count = {change} if tag == {tag!r} else count"
             yield Mutant(f"the length of {name} {rule}", COUNT, new)
 
@@ -94,7 +96,8 @@ def of_file(name: str) -> Iterator[Mutant]:
             yield Mutant(rule, CHANGE.sub(r"\1", change), CHANGE.sub(lambda it: it[2], change))
 
 
-READERS, WRITERS = [*of_tags(), *of_lengths(), *of_file("readers")], [*of_file("writers")]
+READERS, UNSCORED = [*of_tags(), *of_lengths(), *of_file("readers")], [*of_file("unscored")]
+WRITERS = [*of_file("writers")]
 
 
 def codec_of(profile: str, it: Mutant | None = None) -> Any:
@@ -185,7 +188,8 @@ def reading() -> list[Check]:
 
 
 def test_each_mutant_breaks_another_rule() -> None:
-    assert len({it.rule for it in READERS}) == len(READERS)
+    for mutants in (READERS, UNSCORED, WRITERS):
+        assert len({it.rule for it in mutants}) == len(mutants)
 
 
 def test_codec_fails_no_case(reading: list[Check]) -> None:
@@ -195,6 +199,16 @@ def test_codec_fails_no_case(reading: list[Check]) -> None:
 @pytest.mark.parametrize("it", READERS, ids=[it.rule for it in READERS])
 def test_reader_fails_a_case(it: Mutant, reading: list[Check]) -> None:
     assert first_failed(it, reading), f"no case fails a reader for which this doesn't hold: {it.rule}"
+
+
+@pytest.mark.parametrize("it", UNSCORED, ids=[it.rule for it in UNSCORED])
+def test_unscored_reader_reads_a_case_otherwise(it: Mutant, reading: list[Check]) -> None:
+    """What no profile decides is left to codecs, but the cases show it."""
+    undecided = [case for case in EVERY if expected(case, "rabbitmq") == "undecided"]
+    mutant, codec = codec_of("rabbitmq", it), codec_of("rabbitmq")
+    given = (in_a_table(case.encoding, case.is_table) for case in undecided)
+    assert any(answer(mutant.decode, data) != answer(codec.decode, data) for data in given)
+    assert first_failed(it, reading) == ""
 
 
 @pytest.fixture(scope="module")
