@@ -21,7 +21,8 @@ def of_package(value: Any) -> Any:
         return [of_package(it) for it in value]
     if not isinstance(value, dict):
         return value
-    name, content = next(iter(value.items()), ("", ""))  # type: Any, Any
+    pair: tuple[Any, Any] = next(iter(value.items()), ("", None))
+    name, content = pair
     if not isinstance(name, str) or name[:1] != "$" or name[1:2] == "$":
         return {key.removeprefix("$") if isinstance(key, str) else key: of_package(it) for key, it in value.items()}
     match name:

@@ -63,7 +63,7 @@ def of_tags() -> Iterator[Mutant]:
         yield Mutant(f"{tag} is a type tag", entry, f'"no tag {tag}": ">{form}"', likely)
     for tag in "VtDAF":
         yield Mutant(f"{tag} is a type tag", f'case "{tag}":', f'case "no tag {tag}":', tag.encode())
-    for tag, other in ("Sx", "xS"):
+    for tag, other in (("S", "x"), ("x", "S")):
         yield Mutant(f"{tag} is a type tag", 'case "S" | "x":', f'case "{other}":', tag.encode())
     for number in {*range(256)} - {*b"tbBsUuIilLfdDSxAFTV"}:
         new = UNKNOWN.replace("raise", f"if tag != chr({number}):\n            raise")

@@ -22,7 +22,8 @@ def natural(value: Any) -> Any:
         return [natural(it) for it in value]
     if not isinstance(value, dict):
         return value
-    name, content = next(iter(value.items()), ("", None))
+    pair: tuple[Any, Any] = next(iter(value.items()), ("", None))
+    name, content = pair
     if not isinstance(name, str) or name[:1] != "$" or name[1:2] == "$":
         return {key.removeprefix("$") if isinstance(key, str) else key: natural(it) for key, it in value.items()}
     if name in ("$Float", "$Double"):

@@ -51,7 +51,7 @@ class Reader:
         if (tag, PROFILE) in (("x", "amqp"), ("U", "rabbitmq")):
             raise Wrong("unknown tag", at)
         if (tag, PROFILE) == ("s", "amqp"):
-            return self.field(*self.field(1, end), end)
+            return self.field(ord(self.field(1, end)), end)
         if tag in NUMBERS:
             form = ">Q" if (tag, PROFILE) == ("l", "amqp") else NUMBERS[tag]
             (number,) = struct.unpack(form, self.field(struct.calcsize(form), end))
@@ -141,7 +141,7 @@ def written(value: Any) -> bytes:
             return counted(b"A", b"".join(map(written, value)))
         case {"$DecimalValue": str(text)}:
             return b"D" + struct.pack(">BI", *map(int, reversed(text.split("e-"))))
-    name, content = next(iter(value.items()), ("", None))
+    name, content = next(iter(value.items()), ("", ""))
     tag = NAMES.get(name, "F")
     if tag == "F":
         return b"F" + write(value)
