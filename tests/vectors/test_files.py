@@ -23,7 +23,7 @@ from tests.vectors.profiles import PROFILES, decision, flags_of, same
 pytestmark = pytest.mark.usefixtures("deep")
 # No limit on depth.
 ANY_DEPTH = 10_000
-MOST_LINES = {".py": 40, ".rs": 40, ".go": 73}
+MOST_LINES = {".py": 40, ".rs": 40, ".go": 73, ".php": 40, ".rb": 40, ".java": 40}
 # What is equal to no value of a case.
 NO_VALUE = {"$": 0}
 
