@@ -64,9 +64,11 @@ def test_failures_are_printed(tmp_path: Path) -> None:
     failed = {it.split("\t")[0] for it in lines if "\t" in it} - details
     wanted = {it.id for it in EVERY if "repeats" not in it.case and is_contested(it.case)}
     assert wanted and wanted <= failed
+    late = {it.id for it in EVERY if "date-range" in it.case["flags"] and it.case["expected"]["amqp"] == "reject"}
+    assert late and not late & failed
 
 
 def is_contested(case: Any) -> bool:
-    """Whether both profiles decide a case, and otherwise. (To reject a late date isn't counted.)"""
+    """Whether both profiles decide a case, and otherwise. (To reject a late date isn't counted, as `late` shows.)"""
     decisions = [*case["expected"].values()]
     return decisions[0] != decisions[1] and "undecided" not in decisions and "date-range" not in case["flags"]
