@@ -115,7 +115,7 @@ def test_bugs_of_codecs() -> None:
     sections = re.split(r"(?m)^## ", (VECTORS / "CODECS.md").read_text())[1:]
     codecs, wrong = set(), []
     for it in sections:
-        name, *versions = re.findall(r"[^ \n]+", it.split("\n")[0].replace(" and ", " "))
+        name, *versions = re.split(r" (?:and )?(?=\d)", it.split("\n")[0])
         codecs |= {f"{name} {version}" for version in versions}
         for id in re.findall(r"`([a-z0-9]+(?:-[a-z0-9]+)+)`", it):
             listed = any(f"{name} {version}" in stored["outcomes"].get(id, {}) for version in versions)

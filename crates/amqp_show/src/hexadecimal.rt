@@ -26,6 +26,9 @@ pub enum NotHexadecimal {
     /// It is a dump of Wireshark, whose offsets would be taken for bytes.
     #[error("a dump of Wireshark: copy the bytes of the table as a hex stream, which --hex reads")]
     Wireshark,
+    /// It is a dump of od or hexdump in which a line `*` stands for lines that are equal.
+    #[error("a dump in which * stands for lines that are left out: dump it again with -v")]
+    Squeezed,
     /// It is a dump of od, whose offsets would be taken for bytes.
     #[error("a dump of od: `cut -sd ' ' -f 2- FILE | amqp_show --hex` reads it")]
     Od,
@@ -129,7 +132,7 @@ pub fn dump_of(text: &[u8]) -> Option<NotHexadecimal> {
     } else if text.starts_with(b"0000   ") {
         Some(NotHexadecimal::Wireshark)
     } else if text.starts_with(b"00000000  ") {
-        Some(NotHexadecimal::Hexdump)
+        Some(unless_squeezed(text, NotHexadecimal::Hexdump))
     } else if has_line(text, b"0000  ") {
         Some(NotHexadecimal::Tshark)
     } else {
@@ -161,8 +164,20 @@ fn with_offsets(text: &[u8]) -> Option<NotHexadecimal> {
     Some(if has_words {
         NotHexadecimal::Words
     } else {
-        NotHexadecimal::Od
+        unless_squeezed(text, NotHexadecimal::Od)
     })
+}
+
+// What a dump is if no line of it is `*`.
+fn unless_squeezed(text: &[u8], dump: NotHexadecimal) -> NotHexadecimal {
+    if text
+        .split(|c| *c == b'\n')
+        .any(|line| line == b"*".as_slice())
+    {
+        NotHexadecimal::Squeezed
+    } else {
+        dump
+    }
 }
 
 // The number that digits denote, or a larger one if they are none.

@@ -1,6 +1,6 @@
 //! `show_lines`: shows the value of each line of a file in hexadecimal, for `--lines`.
 
-use crate::arguments::Settings;
+use crate::arguments::{Form, Settings};
 use crate::fault::{Fault, Result, Status};
 use crate::hexadecimal::{dump_of, push_bytes};
 use crate::input::{BLOCK, Input};
@@ -85,8 +85,14 @@ fn show_line(
     let bytes = all.as_slice();
     let len = value_len(SliceInput::new(bytes)).max(1);
     let value = bytes.get(..len).unwrap_or(bytes);
-    let status = show_value(rt, screen, file, value, settings)?;
-    if status.is_read() && len < bytes.len() {
+    let (is_judged, has_more) = (matches!(settings.form, Form::Check(_)), len < bytes.len());
+    let status = if is_judged && has_more {
+        // (the broker would read the bytes that follow too)
+        Status::Read
+    } else {
+        show_value(rt, screen, file, value, settings)?
+    };
+    if status.is_read() && has_more {
         complain_of_line(rt, screen, file, "more bytes follow the value", settings)?;
         return Ok(Status::Rejected);
     }

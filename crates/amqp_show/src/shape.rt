@@ -3,6 +3,8 @@
 use crate::arguments::Settings;
 use crate::hexadecimal::is_hexadecimal;
 use crate::parts::type_of;
+use amq_protocol_types::parsing::SliceInput;
+use amq_protocol_types::parsing::header::value_len;
 use amqp_in_place::read_table_in_place;
 use std::alloc::{AllocError, Global};
 
@@ -59,6 +61,19 @@ pub fn is_plain(begin: &[u8], settings: Settings) -> bool {
     }
 }
 
+/// Whether an input that begins so seems to be text: more follows the value that the first letter would begin.
+pub fn begins_text(begin: &[u8], settings: Settings) -> bool {
+    let len = value_len(SliceInput::new(begin));
+    !settings.hex && len < begin.len() && is_printable(begin)
+}
+
+// Whether no byte is a control character. The length of a string, an array or a table nearly always has one.
+fn is_printable(bytes: &[u8]) -> bool {
+    bytes
+        .iter()
+        .all(|c| *c >= b' ' || matches!(c, b'\t' | b'\n' | b'\r'))
+}
+
 /// What all bytes of an input seem to be that isn't plain, or as many as the limits allow.
 pub fn shape_of(alloc: Global, bytes: &[u8], settings: Settings) -> Result<Seems, AllocError> {
     let is_text = !settings.hex && !settings.has_lines;
@@ -81,6 +96,9 @@ pub fn shape_of(alloc: Global, bytes: &[u8], settings: Settings) -> Result<Seems
             Seems::Other("the input seems to be hexadecimal; --hex reads it")
         }
         _ if is_body(alloc, bytes, settings)? => Seems::Body,
+        _ if is_text && is_printable(bytes) => {
+            Seems::Other("the input seems to be text, not bytes; --hex reads hexadecimal")
+        }
         _ => Seems::AsSet,
     })
 }

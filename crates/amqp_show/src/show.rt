@@ -15,7 +15,7 @@ use crate::messages::{bytes_text, complain, push_outcome, push_remark};
 use crate::parts::{Note, Part, parts_of};
 use crate::problems::{is_beyond_limits, is_truncated, key_text, problem_text, status_of};
 use crate::screen::{Colour, Screen};
-use crate::shape::{Seems, before, begins_table, is_plain, shape_of};
+use crate::shape::{Seems, before, begins_table, begins_text, is_plain, shape_of};
 use crate::tree::{show_parts, show_tree};
 use amq_protocol_types::parsing::{Err, Needed};
 use amqp_in_place::{
@@ -24,6 +24,9 @@ use amqp_in_place::{
 use std::alloc::{AllocError, Global};
 
 const MORE_VALUES: &str = "; --stream shows values one after another";
+
+// How many bytes are looked at to tell text from bytes.
+const AHEAD: usize = 64;
 
 const ARE_TABLES: &str = "the input seems to be tables without their type tags; --table reads them";
 
@@ -60,7 +63,13 @@ fn show_first(
     mut settings: Settings,
 ) -> Result<Status> {
     let begin = if settings.is_table { 4 } else { 1 };
-    if !is_plain(input.up_to(begin)?, settings) {
+    if let Form::Check(_) = settings.form
+        && input.up_to(1)?.is_empty()
+    {
+        complain(rt, file, "the input is empty")?;
+        return Ok(Status::Mistake);
+    }
+    if !is_plain(input.up_to(begin)?, settings) || begins_text(input.up_to(AHEAD)?, settings) {
         let bytes = input.up_to(settings.limits.frame as usize)?;
         let seems = shape_of(rt.alloc(), bytes, settings)?;
         if let Some(what) = seems.text() {
