@@ -181,3 +181,23 @@ lines_of_which_the_first_is_cut
 wrapped_value_whose_last_line_is_a_value
   $ printf '460000001a01615300000010717171717171717171717171717171710162\n56\n' | amqp_show --hex --json
   {"a":"qqqqqqqqqqqqqqqq","b":null}
+
+text_of_a_log
+  $ echo 'INFO consumer headers=0000000701617401016256' | amqp_show --check rabbitmq
+  2> amqp_show: "-": the input seems to be text, not bytes; --hex reads hexadecimal
+  [2]
+
+text_of_other_letters
+  $ echo 'body=0102' | amqp_show
+  2> amqp_show: "-": the input seems to be text, not bytes; --hex reads hexadecimal
+  [2]
+
+dump_of_od_without_equal_lines
+  $ printf '000000 00 00 00 00 00 00 00 00 00 00 00 00 00 00 00 00\n000010 01 01 01 01 01 01 01 01 01 01 01 01 01 01 01 01\n*\n000040\n' | amqp_show --hex
+  2> amqp_show: "-": a dump in which * stands for lines that are left out: dump it again with -v
+  [2]
+
+dump_of_hexdump_without_equal_lines
+  $ printf '00000000  00 00 00 00 00 00 00 00  00 00 00 00 00 00 00 00  |................|\n*\n00000020\n' | amqp_show --hex
+  2> amqp_show: "-": a dump in which * stands for lines that are left out: dump it again with -v
+  [2]

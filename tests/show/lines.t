@@ -109,3 +109,10 @@ lines_in_half_a_byte
   true
   2> amqp_show: "-": line 2, column 4: a byte of two hexadecimal digits is expected
   [2]
+
+lines_check_more_bytes
+  $ printf '0000000301615600\n0000000301615600\n00000003016156\n' | amqp_show --lines --table --check rabbitmq
+  = line 3: RabbitMQ 4.0 accepts it
+  2> amqp_show: "-": line 1: more bytes follow the value
+  2> amqp_show: "-": line 2: more bytes follow the value
+  [1]

@@ -39,7 +39,7 @@ help
     How many values a file has, one after another:
       amqp_show --stream --json values.bin | wc -l
     The tables, one on each line, for which RabbitMQ closes the connection:
-      amqp_show --lines --table --check rabbitmq tables.txt | grep closes
+      amqp_show --lines --table --check rabbitmq tables.txt | grep '^=.*closes'
     JSON to bytes for a test:
       echo '{"a":true,"b":{"$LongInt":5}}' | amqp_show --encode
 
@@ -48,7 +48,8 @@ help
     {"$LongInt":5}, also ShortShortInt, ShortShortUInt, ShortInt, ShortUInt, LongUInt, Timestamp
     {"$Float":2.5}; NaN and others by their bits, {"$Double":"7ff8000000000000"}
     {"$ByteArray":"00ff"}, its digits, also LongString; {"$DecimalValue":"314e-2"}, 3.14
-  A table's pairs keep their order. A key that begins with $ is written with one more.
+  --json keeps the order of a table's pairs. --encode sorts them, and of equal keys writes the
+  last. A key that begins with $ is written with one more.
 
   --check rabbitmq is rabbitmq-4.0, the newest version that this program's tests run. 4.3 was
   tested by hand, and does the same; 3.11 to 3.13, 4.1 and 4.2 weren't tested.

@@ -3,10 +3,11 @@
 use crate::arguments::Settings;
 use crate::hexadecimal::is_hexadecimal;
 use crate::parts::type_of;
-use amq_protocol_types::parsing::SliceInput;
-use amq_protocol_types::parsing::header::value_len;
 use amqp_in_place::read_table_in_place;
 use std::alloc::{AllocError, Global};
+
+// The most bytes of a value that has no length, with its type tag.
+const LONGEST_NUMBER: usize = 9;
 
 /// What bytes seem to be.
 #[derive(Clone, Copy)]
@@ -61,10 +62,10 @@ pub fn is_plain(begin: &[u8], settings: Settings) -> bool {
     }
 }
 
-/// Whether an input that begins so seems to be text: more follows the value that the first letter would begin.
+/// Whether an input that begins so seems to be text, although its first letter is a type tag: more follows the value
+/// than a number has.
 pub fn begins_text(begin: &[u8], settings: Settings) -> bool {
-    let len = value_len(SliceInput::new(begin));
-    !settings.hex && len < begin.len() && is_printable(begin)
+    !settings.hex && begin.len() > LONGEST_NUMBER && is_printable(begin)
 }
 
 // Whether no byte is a control character. The length of a string, an array or a table nearly always has one.

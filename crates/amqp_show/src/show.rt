@@ -25,9 +25,6 @@ use std::alloc::{AllocError, Global};
 
 const MORE_VALUES: &str = "; --stream shows values one after another";
 
-// How many bytes are looked at to tell text from bytes.
-const AHEAD: usize = 64;
-
 const ARE_TABLES: &str = "the input seems to be tables without their type tags; --table reads them";
 
 /// Shows the value at the beginning of a file, or each of a stream.
@@ -69,7 +66,7 @@ fn show_first(
         complain(rt, file, "the input is empty")?;
         return Ok(Status::Mistake);
     }
-    if !is_plain(input.up_to(begin)?, settings) || begins_text(input.up_to(AHEAD)?, settings) {
+    if !is_plain(input.up_to(begin)?, settings) || begins_text(input.there(), settings) {
         let bytes = input.up_to(settings.limits.frame as usize)?;
         let seems = shape_of(rt.alloc(), bytes, settings)?;
         if let Some(what) = seems.text() {
