@@ -1,6 +1,8 @@
 """The cases of writing (vectors/writing.json): their form, and what the model (tests/model) and the runner make of each."""
 
 import json
+import re
+import subprocess
 from typing import Any
 
 import jsonschema
@@ -8,6 +10,7 @@ import pytest
 import writing
 from comparing import bytes_of, in_a_table, text_of
 from run import PROFILES
+from wheels import PYTHON
 
 from tests.model.encoding import write
 from tests.model.json_format import Rejected, value_of_json
@@ -63,3 +66,16 @@ def test_large() -> None:
     large = [it for it in FILE["cases"] if "large" in it["flags"]]
     assert [it["error"] for it in large] == ["value too long"] * 3
     assert all(sum(len(part) * times for part, times in it["text"]) >= 2**32 - 1 for it in large)
+
+
+@pytest.mark.parametrize("adapter", ("pika", "pamqp", "pyamqp"))
+def test_scores_of_the_page(adapter: str) -> None:
+    """WRITING.md has how many cases the clients of Debian 12 write right."""
+    words = [PYTHON, VECTORS / "writing.py", f"adapters.{adapter}"]
+    done = subprocess.run(words, capture_output=True, text=True, check=False)
+    score = re.search(r"rabbitmq: (\d+ of \d+) right", done.stderr)
+    assert score and f"| {score[1]} |" in (VECTORS / "WRITING.md").read_text()
+
+
+def test_page_has_the_number_of_cases() -> None:
+    assert f"has {len(FILE['cases'])} values to write" in (VECTORS / "WRITING.md").read_text()
