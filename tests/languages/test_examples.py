@@ -58,7 +58,11 @@ CASES = {
     "33 levels": (headers(deaths(count(9)), b"\x01a" + nested("A", 32, b"")), NONE),
 }
 # (RabbitMQ counted these deaths)
-COUNTED = {f"x-death-after-{it}": it for it in (1, 2, 3, 4)} | {"x-death-quorum-queue": 1, "x-death-int-1": 1, "x-death-int-2": 1}
+COUNTED = {f"x-death-after-{it}": it for it in (1, 2, 3, 4)} | {
+    "x-death-quorum-queue": 1,
+    "x-death-int-1": 1,
+    "x-death-int-2": 1,
+}
 CASES |= {name: (data[1:], COUNTED.get(name, NONE)) for name, data in captured().items()}
 GIVEN = [data for data, _ in CASES.values()]
 WANTED = {name: f"{wanted}" for name, (_, wanted) in CASES.items()}
