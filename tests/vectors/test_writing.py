@@ -3,6 +3,7 @@
 import json
 import re
 import subprocess
+from pathlib import Path
 from typing import Any
 
 import jsonschema
@@ -71,7 +72,7 @@ def test_large() -> None:
 @pytest.mark.parametrize("adapter", ("pika", "pamqp", "pyamqp"))
 def test_scores_of_the_page(adapter: str) -> None:
     """WRITING.md has how many cases the clients of Debian 12 write right."""
-    words = [PYTHON, VECTORS / "writing.py", f"adapters.{adapter}"]
+    words: list[str | Path] = [PYTHON, VECTORS / "writing.py", f"adapters.{adapter}"]
     done = subprocess.run(words, capture_output=True, text=True, check=False)
     score = re.search(r"rabbitmq: (\d+ of \d+) right", done.stderr)
     assert score and f"| {score[1]} |" in (VECTORS / "WRITING.md").read_text()
