@@ -25,6 +25,8 @@ KINDS = {
     "payload": re.compile(""),
 }
 NOTE = re.compile(r" \((the key comes .*|the .* isn't canonical, .*)\)$")
+# A line of --json of several files: the JSON of one.
+NAMED = re.compile(r'\{"file":"input-\d+","value":(.*)\}', re.DOTALL)
 # The options of amqp_show, for which the page has words.
 OPTIONS = (
     (re.compile(r"--depth (\d+) allows$"), r"the limit of \1 levels"),
@@ -95,7 +97,7 @@ def wanted(program: Path, given: Sequence[bytes], is_table: bool = False) -> Ite
         for it in (["--tree"], ["--bytes", "--canonical"], ["--check", NEWEST])
     )
     read = [data for data, lines in zip(given, trees) if lines and lines[-1].startswith(("= a value", "= a table"))]
-    texts = iter(output(program, [*words, "--json"], read))
+    texts = (NAMED.sub(r"\1", it) for it in output(program, [*words, "--json"], read))
     for data, tree, of_bytes, check in zip(given, trees, parts, checks, strict=True):
         said = {it[0]: it for it in tree if it[0] in "*!="}
         notes = [found[1] for it in of_bytes if (found := NOTE.search(it))]
