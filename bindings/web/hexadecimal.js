@@ -4,6 +4,8 @@
 const BETWEEN = /(?:[ \n\t\f\r,:]|#[^\n]*)*/y, BYTES = /(?:0[xX]|\\x)?(?:[\da-fA-F]{2})+/y;
 const BEGUN = /(?:0[xX]|\\x)[\da-fA-F]?|\\|[\da-fA-F]?/y;
 // Offsets of a dump would be taken for bytes.
+const HEXDUMP = "a dump of hexdump -C: `cut -c 11-58 FILE | amqp_show --hex` reads it";
+const SQUEEZED = "a dump in which * stands for lines that are left out: dump it again with -v";
 const DUMPS = [
     [/^00000000: [01]{8}[^]/, "a dump of xxd -b, in binary: `xxd FILE` makes one that `xxd -r` reads, "
         + "and `xxd -p FILE` one that --hex reads"],
@@ -11,7 +13,7 @@ const DUMPS = [
     [/^(?:[^\n]*\n)?\t0x0000: {2}/, "a dump of tcpdump: `grep '^.0x' FILE | cut -c 11-49 | amqp_show --hex` "
         + "reads its bytes, of which a packet's headers are the first"],
     [/^0000 {3}/, "a dump of Wireshark: copy the bytes of the table as a hex stream, which --hex reads"],
-    [/^00000000 {2}/, "a dump of hexdump -C: `cut -c 11-58 FILE | amqp_show --hex` reads it"],
+    [/^00000000 {2}/, HEXDUMP],
     [/^(?:[^\n]*\n){0,2}0000 {2}/, "a dump of tshark: `cut -c 7-53 FILE | amqp_show --hex` reads its bytes, of which "
         + "a packet's headers are the first"],
 ];
@@ -34,7 +36,7 @@ export function readHexadecimal(text) {
     const dump = DUMPS.find(([begins]) => begins.test(text)), bytes = new Uint8Array(text.length >> 1);
     const fault = dump?.[1] ?? withOffsets(text);
     if (fault) {
-        return { fault };
+        return { fault: (fault === HEXDUMP || fault === OD) && /^\*$/m.test(text) ? SQUEEZED : fault };
     }
     let at = 0, count = 0;
     const take = (pattern) => {

@@ -29,7 +29,7 @@ HEXADECIMAL = [
     for it in cases(TOP / "tests/show").values()
     if "--hex" in it.words and "--max-bytes" not in it.words and all(word.startswith("--") for word in it.words)
 ]
-FAULT = re.compile(r'amqp_show: ".*?": (line \d+, column \d+: .*|the text ends inside a byte.*|a dump of .*)')
+FAULT = re.compile(r'amqp_show: ".*?": (line \d+, column \d+: .*|the text ends inside a byte.*|a dump .*)')
 # What is between digits, and before those of a byte.
 NO_DIGITS = re.compile(r"#[^\n]*|0[xX]|\\x|[ \t\r\n\f,:]")
 TWISTS = str.maketrans("", "", "▸▾")
