@@ -30,7 +30,8 @@ pub fn dates_as_seconds(alloc: Global, json: &str) -> Result<String, AllocError>
     Ok(text)
 }
 
-// What a text has between two bytes, and how many bytes a date in quotes takes at the second, if it is there without escapes.
+// What a text has between two bytes, and how many bytes a date in quotes takes at the second, if it
+// is there without escapes.
 fn date_in<'a>(json: &'a str, from: usize, at: usize, date: &str) -> Option<(&'a str, usize)> {
     let quoted = json.get(at..)?.strip_prefix('"')?;
     let after = quoted.strip_prefix(date)?;

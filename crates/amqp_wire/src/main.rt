@@ -2,8 +2,9 @@
 //! its bytes are read as: a value, how many more bytes are needed, or an error. Arguments are
 //! ignored.
 //!
-//! Its tests are in `src/tests`; `stdout` has what it prints for `stdin`. `tests/wire` runs it on devices that fail, and compares it
-//! with the reference implementation. `tests/memory` runs it with each allocation failing.
+//! Its tests are in `src/tests`; `stdout` has what it prints for `stdin`. `tests/wire` runs it on
+//! devices that fail, and compares it with the reference implementation. `tests/memory` runs it with
+//! each allocation failing.
 #![tactic(auto)]
 
 mod fault;

@@ -1,5 +1,5 @@
-//! `ROWS`: what each `Program` writes for its input, and how many bytes stay in the reader. `stdin` and `stdout` have lines of each
-//! kind.
+//! `ROWS`: what each `Program` writes for its input, and how many bytes stay in the reader. The
+//! crate's `stdin` and `stdout` have lines of each kind.
 
 use super::*;
 use std::test::Fail;
