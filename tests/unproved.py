@@ -18,7 +18,7 @@ from tests.checks import content
 
 TOP = Path(__file__).resolve().parent.parent
 # `make check` runs these cases: they print the program's own name, or read a folder and a file that tests/run show makes.
-OTHER_CASES = {"help", "file_folder_stream", "file_name_escape"}
+OTHER_CASES = {"help", "file_folder_stream", "file_name_escape", "plain_files"}
 
 # Of each test or case its name, and what is wrong if it failed.
 Tried = Iterator[tuple[str, str]]

@@ -40,10 +40,11 @@ def rows_of_wire(model: Any) -> Rows:
 
 
 def rows_of_encode(model: Any) -> Rows:
-    """The cases of amqp_show that write what JSON means, in hexadecimal."""
+    """The cases of amqp_show that write what JSON means, in hexadecimal. (It also reads dates, and with --lines several texts.)"""
     for name, case in cases(TOP / "tests/show").items():
         is_hexadecimal = "--encode" in case.words and "--raw" not in case.words and case.output is Output.PIPE
-        if is_hexadecimal and not case.wants.status:
+        is_alone = "--lines" in case.words or b'$Timestamp":"' in case.given
+        if is_hexadecimal and not is_alone and not case.wants.status:
             data = b"F" * ("--table" in case.words) + bytes.fromhex(case.wants.out.decode())
             yield f"{name} of tests/show", encoding.write(model.value_of_json(case.given)) == data
 
