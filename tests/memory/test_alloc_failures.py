@@ -224,8 +224,10 @@ def of_show(call: Call, error: int) -> tuple[int, bytes] | None:
     if error == errno.EINTR:
         return None
     why = f"{os.strerror(error)} (os error {error})" if error else "failed to write whole buffer"
+    if call == WRITE and error == errno.EPIPE:
+        return 0, b""
     if call == WRITE:
-        return 2, b"" if error == errno.EPIPE else f"amqp_show: the output can't be written: {why}\n".encode()
+        return 2, f"amqp_show: the output can't be written: {why}\n".encode()
     if error == errno.ENOMEM:
         return NO_MEMORY["amqp_show"]
     return 2, f'amqp_show: "-": can\'t be read: {why}\n'.encode()
