@@ -90,7 +90,7 @@ def alone(function: Any, codec: Codec, case: Any) -> list[str]:
     """A function of a case in a process of its own, which has limits."""
     reading, writing = os.pipe()
     if (child := os.fork()) == 0:
-        signal.alarm(60)
+        signal.alarm(600 if function is cuts else 60)
         setrlimit(RLIMIT_CPU, (2, 2))
         setrlimit(RLIMIT_AS, (2**31, 2**31))
         os.write(writing, "\t".join(function(codec, case)).encode())

@@ -174,7 +174,6 @@ def test_model_of_rabbitmq(version: str) -> None:
 
 
 def test_length_of_programs() -> None:
-    """The adapters are short; Go takes more lines."""
-    assert not [
-        it.name for it in (VECTORS / "adapters").glob("*.*") if len(it.read_text().splitlines()) > MOST_LINES[it.suffix]
-    ]
+    """The adapters are short; Go takes more lines, and so does what several of them use."""
+    adapters = [it for it in (VECTORS / "adapters").glob("*.*") if it.name != "program.py"]
+    assert not [it.name for it in adapters if len(it.read_text().splitlines()) > MOST_LINES[it.suffix]]

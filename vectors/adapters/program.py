@@ -4,8 +4,10 @@ Numbers, null, Booleans and arrays are JSON's own. Else an object's only key say
 """
 
 import os
+import shutil
 import struct
 import subprocess
+import sys
 from collections.abc import Callable
 from decimal import Decimal
 from typing import Any
@@ -28,11 +30,15 @@ def typed(found: dict[str, Any]) -> Any:
 
 def decoder(variable: str) -> Callable[[bytes], Any]:
     """What reads a table by the program that a variable of the environment names."""
+    program = shutil.which(os.environ.get(variable, "")) or ""
+    if not program:
+        sys.exit(f"{variable}, a variable of the environment, has to name an executable program")
 
     def decode(data: bytes) -> Any:
-        done = subprocess.run([os.environ[variable]], input=data, capture_output=True)
+        done = subprocess.run([program], input=data, capture_output=True)
         if done.returncode:
-            raise (ValueError if done.returncode == 1 else MemoryError)(f"status {done.returncode}")
+            why = done.stderr.decode(errors="replace").strip().rpartition("\n")[2]
+            raise (ValueError if done.returncode == 1 else MemoryError)(why or f"status {done.returncode}")
         return from_json(done.stdout.decode(), typed, lambda it: it)
 
     return decode
